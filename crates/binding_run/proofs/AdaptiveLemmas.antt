@@ -1,9 +1,8 @@
 -- Turns of adaptive mode.
 use Rattle.std.proofs.Common.{◌≡◌, ◌⊎◌, inl, inr, ℕ, ◌+◌, ◌<◌, ◌≤◌, arith, Bool, true, false, cond, count_by, List, [], ◌∷◌, ◌++◌, length, refl, sym, subst, ap, ◌∙◌, Some, slice_get}
-use Rattle.binding_run.proofs.CountLemmas.{batches_ask}
 use Rattle.binding_run.proofs.PickLemmas.{pick_count, pick_levels}
 use Rattle.binding_run.proofs.SkeletonLemmas.{at_all, idle_falls, idle_low, kept_new, kept_old, new_picked, none_kept}
-use Rattle.binding_run.specs.Skeletons.{AreKept, EndsPick, IsBehindPick, IsFrontBehindPick, RanBehindPick, idle_with, is_kept}
+use Rattle.binding_run.specs.Skeletons.{AreFewKept, EndsPick, IsBehindPick, IsFrontBehindPick, RanBehindPick, idle_with, is_kept}
 use Rattle.dream_asks.proofs.FirstLemmas.{first_sent}
 use Rattle.dream_asks.specs.First.{first_instances}
 use Rattle.dream_laws.proofs.DreamLemmas.{dream_asks}
@@ -13,6 +12,7 @@ use Rattle.focused_run.specs.Focusing.{HasRoom, RanDreaming, carrying, idle_of}
 use Rattle.level_run.specs.Advancing.{Falls, HasTurned, IsFrontOfTurn, RanTurn}
 use Rattle.level_run.specs.declared.turns.Turned.{Turned}
 use Rattle.level_run.specs.declared.turns.Turned.TheVariants as turned
+use Rattle.mode_turns.proofs.BatchesLemmas.{batches_ask}
 use Rattle.mode_turns.specs.Modes.{TurnOf}
 use Rattle.session_core.proofs.SessionLemmas.{count_joined, count_one}
 use Rattle.session_core.specs.State.{State}
@@ -114,11 +114,11 @@ ran_pick : (head : Head) (task : Task) (kept next : Kept) (old new : State) (t :
     → EndsPick head task last next new cut t
     → (t ≡ turned.Done → Falls (length old.asked) (idle_with kept.skeletons kept.tried) (length new.asked)
     (idle_with last.skeletons last.tried))
-    → AreKept last.skeletons (length new.asked) → count_by is_level new.entries ≤ length new.asked
+    → AreFewKept last.skeletons (length new.asked) → count_by is_level new.entries ≤ length new.asked
     → RanTurn task head kept next (idle_with kept.skeletons kept.tried) (idle_with next.skeletons next.tried)
-    (λ asked. AreKept next.skeletons asked) old new t
+    (λ asked. AreFewKept next.skeletons asked) old new t
 ran_pick head task kept next old new turned.Done now last cut pushed turn ended falls are levels =
-    let left = subst (λ k. AreKept k.skeletons (length new.asked)) ended.1 are in
+    let left = subst (λ k. AreFewKept k.skeletons (length new.asked)) ended.1 are in
     record {
       turned = (
         now,
@@ -131,7 +131,7 @@ ran_pick head task kept next old new turned.Done now last cut pushed turn ended 
       fits = record { holds = left; room = idle_low next.skeletons next.tried (length new.asked) left; levels = levels };
     }
 ran_pick head task kept next old new turned.Spent now last cut pushed turn ended falls are levels =
-    let left = subst (λ xs. AreKept xs (length new.asked)) ended.1 are in
+    let left = subst (λ xs. AreFewKept xs (length new.asked)) ended.1 are in
     record {
       turned = (now, last, pushed, subst (λ b. TurnOf head.mode (limits_of head) task kept old.entries now last b) ended.0 turn, ended.2);
       falls = λ done. absurd (let bad : turned.Spent ≡ turned.Done = done in cc);
@@ -176,12 +176,12 @@ module _ (head : Head) (task : Task) (kept next : Kept) (line : Entry) (old new 
 
 -- an old skeleton was picked
 pub ran_old : (head : Head) (task : Task) (is : head.mode ≡ Adaptive) (tried : List Instance) (xs : List Skeleton) (next : Kept)
-    (old new : State) (t : Turned) → HasNoDreamAfter (limits_of head) task old.entries tried → AreKept xs (length old.asked)
+    (old new : State) (t : Turned) → HasNoDreamAfter (limits_of head) task old.entries tried → AreFewKept xs (length old.asked)
     → RanBehindPick head task (carrying xs tried) next entry.Nothing old new t
     → length old.asked ≡ asks_of old.entries → length new.asked ≡ asks_of new.entries
     → count_by is_level old.entries ≤ length old.asked
     → RanTurn task head (carrying xs tried) next (idle_with xs tried) (idle_with next.skeletons next.tried)
-    (λ asked. AreKept next.skeletons asked) old new t
+    (λ asked. AreFewKept next.skeletons asked) old new t
 ran_old head task is tried xs next old new t none h ran counted counted_now levels =
     let pick = ran.behind.pick in
     let asks = asks_are head task (carrying xs tried) next entry.Nothing old new t ran refl refl counted counted_now levels in
@@ -192,7 +192,7 @@ ran_old head task is tried xs next old new t none h ran counted counted_now leve
     (λ done. subst (λ k. Falls (length old.asked) (idle_with xs tried) (length new.asked) (idle_with k.skeletons k.tried))
     (sym pick.next_is)
     (by pick.sent asks pick.place pick.skeleton pick.picked))
-    (subst (λ k. AreKept k.skeletons (length new.asked)) (sym pick.next_is)
+    (subst (λ k. AreFewKept k.skeletons (length new.asked)) (sym pick.next_is)
     (kept_old xs pick.place pick.skeleton pick.sent (length old.asked) (length new.asked) h low asks))
     (levels_are head task (carrying xs tried) next entry.Nothing old new t ran refl refl counted counted_now levels)
   where
@@ -227,7 +227,7 @@ picked_once xs p q s r first second =
 -- the new one was picked
 module _ (head : Head) (task : Task) (is : head.mode ≡ Adaptive) (fit : IsFit task) (tried : List Instance) (xs : List Skeleton)
     (line : Entry) (entries : List dreams.Entry) (old : State) (legal : IsLegal head.version task old.entries)
-    (d : Dreamt (limits_of head) task old.entries tried line entries) (h : AreKept xs (length old.asked))
+    (d : Dreamt (limits_of head) task old.entries tried line entries) (h : AreFewKept xs (length old.asked))
     (room : HasRoom head old) (counted : length old.asked ≡ asks_of old.entries) where
   abbrev kept_skeleton : Skeleton
   kept_skeleton = record { entries = entries; real = length (names_of task old.entries); picks = 0; retired = false }
@@ -276,7 +276,7 @@ module _ (head : Head) (task : Task) (is : head.mode ≡ Adaptive) (fit : IsFit 
       } ∷ []) tried) next line old new t
       → length new.asked ≡ asks_of new.entries
       → RanTurn task head (carrying xs tried) next (idle_with xs tried) (idle_with next.skeletons next.tried)
-      (λ asked. AreKept next.skeletons asked) old new t
+      (λ asked. AreFewKept next.skeletons asked) old new t
   ran_new next new t ran counted_now =
       let with_it = xs ++ kept_skeleton ∷ [] in
       let pick = ran.behind.pick in
@@ -301,22 +301,22 @@ module _ (head : Head) (task : Task) (is : head.mode ≡ Adaptive) (fit : IsFit 
       ran_pick head task (carrying xs tried) next old new t ran.now ran.last ran.cut ran.pushed
       (new_turn head task is tried xs old.entries line entries d ran.now ran.last ran.cut ran.behind) ran.ended
       (λ done. inl (omega (arith, asks, some)))
-      (subst (λ k. AreKept k.skeletons (length new.asked)) (sym pick.next_is)
-      (subst (λ (x : Skeleton). AreKept (with_pick with_it pick.place x pick.sent) (length new.asked)) (sym one.1)
-      (subst (λ place. AreKept (with_pick with_it place kept_skeleton pick.sent) (length new.asked)) (sym one.0)
+      (subst (λ k. AreFewKept k.skeletons (length new.asked)) (sym pick.next_is)
+      (subst (λ (x : Skeleton). AreFewKept (with_pick with_it pick.place x pick.sent) (length new.asked)) (sym one.1)
+      (subst (λ place. AreFewKept (with_pick with_it place kept_skeleton pick.sent) (length new.asked)) (sym one.0)
       (kept_new xs kept_skeleton pick.sent (length old.asked) (length new.asked) h refl asks some))))
       (levels_are head task (carrying with_it tried) next line old new t ran mark other counted counted_now room.levels)
 
 -- nothing was picked
 pub ran_empty : (head : Head) (task : Task) (xs : List Skeleton) (tried next : List Instance) (old new : State) (t : Turned)
-    → list_all (λ (s : Skeleton). s.retired) xs ≡ true → AreKept xs (length old.asked) → RanDreaming task head xs tried next old new t
+    → list_all (λ (s : Skeleton). s.retired) xs ≡ true → AreFewKept xs (length old.asked) → RanDreaming task head xs tried next old new t
     → length old.asked ≡ asks_of old.entries → length new.asked ≡ asks_of new.entries
     → RanTurn task head (carrying xs tried) (carrying xs next) (idle_with xs tried) (idle_with xs next)
-    (λ asked. AreKept xs asked) old new t
+    (λ asked. AreFewKept xs asked) old new t
 ran_empty head task xs tried next old new t retired h ran counted counted_now =
     let none = none_kept xs retired in
     let grows = grown t ran.turned in
-    let kept : AreKept xs (length new.asked) = record {
+    let kept : AreFewKept xs (length new.asked) = record {
       few = omega (arith, h.few, grows);
       picked = λ k d lt is. let q = h.picked k d lt is in (q.0, omega (arith, q.1, grows));
     } in

@@ -1,17 +1,18 @@
 -- A dream's batches, one after another, and what would go on as such.
-use Rattle.std.proofs.Common.{◌≡◌, inl, inr, Contains, ℕ, ◌+◌, ◌-◌, ◌<◌, ◌≤◌, arith, Bool, true, false, All, map, List, [], ◌∷◌, ◌++◌, length, drop, take, Some, refl, sym, subst, ap, ◌∙◌, append_assoc}
-use Rattle.std.proofs.lemmas.Bool.{le-ltb, lt-ltb}
+use Rattle.std.proofs.Common.{◌≡◌, Contains, ℕ, ◌+◌, ◌-◌, ◌<◌, ◌≤◌, arith, Bool, true, false, All, map, List, [], ◌++◌, length, drop, take, Option, Some, refl, sym, subst, ap, ◌∙◌, append_assoc}
 use Rattle.std.proofs.lemmas.List.{append-nil, length-map, map-append}
+use Rattle.std.proofs.lemmas.List.Prefix.{front_rest}
 use Rattle.binding_run.specs.Batching.{Asks, HasProgress, IsFrontOfBatches, RanBatches, RanSome, nexts}
-use Rattle.binding_run.proofs.StretchLemmas.{none_or_some}
 use Rattle.dream_asks.proofs.NextLemmas.{sent_free}
 use Rattle.dream_asks.proofs.ProgressLemmas.{numbered_instances, numbered_length}
-use Rattle.dream_asks.specs.Next.{AreDuesOf, AreNext, asked_instances}
+use Rattle.dream_asks.specs.Next.{AreDuesOf, AreNext}
 use Rattle.dream_asks.specs.Noting.{NotesAnswers}
 use Rattle.dream_asks.specs.Progress.{IsProgress, Progress, numbered}
 use Rattle.dream_asks.specs.declared.asks.DreamAsk.{DreamAsk}
 use Rattle.instance_queue.specs.Level.{instances_of}
 use Rattle.instance_queue.specs.declared.due.Due.{Due}
+use Rattle.io_world.specs.Talks.{Event}
+use Rattle.level_run.proofs.TurnsLevelLemmas.{batch_cut}
 use Rattle.level_run.proofs.TurnsOutcomeLemmas.{all_known, notes_are}
 use Rattle.level_run.specs.Turns.{IsSure, cut_by}
 use Rattle.lemmas.specs.Lists.{AreDistinct}
@@ -113,22 +114,6 @@ front_wider head task real entries sent first start done before is goes_on es f 
   );
 }
 
--- calls were wanting where the batch says so
-cut_is : {A : Type 0} (head : Head) (task : Task) (before after : List Entry) (asks later many : ℕ) (list : List A) (b : Batch)
-    → asks ≡ asks_of before → asks ≤ head.calls → length list ≡ many
-    → EndsBatch task after asks later head.calls many b → cut_by b ≡ is_cut (limits_of head) before list
-cut_is head task before after asks later many list Done counted within long e =
-    sym (le-ltb (head.calls - asks_of before) (length list) (omega (arith, long, e.0, e.1, counted)))
-cut_is head task before after asks later many list CallsSpent counted within long e =
-    sym (lt-ltb (head.calls - asks_of before) (length list) (omega (arith, long, e.1, counted, within)))
-
-pub some_from : (n : ℕ) → (n ≡ 0 → ⊥) → 0 < n
-some_from n not = elim (none_or_some n) [ inl none ↦ absurd (not none) | inr some ↦ some ]
-
-drop_front : {A : Type 0} (xs ys : List A) → drop (length xs) (xs ++ ys) ≡ ys
-drop_front [] ys = refl
-drop_front (x ∷ xs) ys = drop_front xs ys
-
 -- ---- what is asked next
 
 -- by what is known and noted these are asked next
@@ -192,19 +177,20 @@ module _ (task : Task) (s : State) (works : s.failed ≡ false) (learnt : IsLear
           (subst (λ list. IsFrontPart s.entries (IsBatch (limits_of head) task s.entries list) es) (sym (nexts_instances sent is)) f)
 
       module _ (new : State) (later : Progress) (tried joined : List Instance) (b : Batch) (ran : RanBatch task head dues s new b) where
-        pub ran_next : length s.asked ≤ head.calls
+        pub ran_next : length s.asked ≤ head.calls → later.real ≡ p.real
             → (b ≡ Done → IsProgress task new.entries later (sent ++ nexts task s.entries p.real entries sent))
-            → (b ≡ Done → joined ≡ tried ++ asked_instances asks)
+            → (b ≡ Done → joined ≡ tried ++ instances_of dues)
             → RanSome head task p.real entries s new later tried joined sent b
-        ran_next within noted joins = record {
+        ran_next within stays noted joins = record {
           some = some_next;
+          stays = stays;
           now = ran.more;
           pushed = ran.pushed;
           batch = subst (λ list. IsBatch (limits_of head) task s.entries list ran.more) (sym (nexts_instances sent is)) ran.batch;
-          cut = cut_is head task s.entries new.entries (length s.asked) (length new.asked) (length dues)
+          cut = batch_cut head task s.entries new.entries (length s.asked) (length new.asked) (length dues)
               (nexts task s.entries p.real entries sent) b h.counted within (nexts_long sent is ∙ sym dues_long) ran.ends;
           noted = noted;
-          joins = λ e. joins e ∙ ap (λ is. tried ++ is) (sym of.instances ∙ sym (nexts_instances sent is));
+          joins = λ e. joins e ∙ ap (λ is. tried ++ is) (sym (nexts_instances sent is));
         }
 
         -- memory is wanting behind a whole batch
@@ -212,7 +198,7 @@ module _ (task : Task) (s : State) (works : s.failed ≡ false) (learnt : IsLear
             → IsFrontOfBatches head task p.real entries sent s.entries new.entries
         front_done work within done =
             let next = nexts task s.entries p.real entries sent in
-            let cut = cut_is head task s.entries new.entries (length s.asked) (length new.asked) (length dues) next b h.counted within
+            let cut = batch_cut head task s.entries new.entries (length s.asked) (length new.asked) (length dues) next b h.counted within
             (nexts_long sent is ∙ sym dues_long) ran.ends in
             subst (IsFrontOfBatches head task p.real entries sent s.entries) (sym ran.pushed)
             (front_further head task p.real entries work sent s.entries some_next ran.more (s.entries ++ ran.more)
@@ -227,7 +213,7 @@ module _ (task : Task) (s : State) (works : s.failed ≡ false) (learnt : IsLear
             → IsProgress task new.entries later (sent ++ nexts task s.entries p.real entries sent)
         noted_next names first from done legal counted names_are first_is from_is notes_them =
             let behind : drop from new.entries ≡ ran.more =
-            (λ i. drop (from_is i) (ran.pushed i)) ∙ drop_front s.entries ran.more in
+            ap (λ n. drop n new.entries) from_is ∙ front_rest new.entries s.entries ran.more ran.pushed in
             let all : s.entries ++ drop from new.entries ≡ new.entries = ap (λ es. s.entries ++ es) behind ∙ sym ran.pushed in
             let ends = subst (EndsBatch task new.entries (length s.asked) (length new.asked) head.calls (length dues)) done ran.ends in
             let number : first ≡ asks_of s.entries + 1 = first_is ∙ ap (λ n. n + 1) h.counted in
@@ -244,10 +230,11 @@ module _ (task : Task) (s : State) (works : s.failed ≡ false) (learnt : IsLear
             (ap (λ n. numbered n asks) number ∙ next_of sent is) there)
 
       -- so many requests were made
-      pub asks_next : (new : State) (b : Batch) → RanBatch task head dues s new b → length s.asked ≤ head.calls
-          → (b ≡ CallsSpent → IsSure head task new.entries (outcome.Limit Calls)) → Asks head task s new (Some b)
-      asks_next new Done ran within sure = (omega (arith, ran.ends.0, some, dues_long), ran.ends.1)
-      asks_next new CallsSpent ran within sure =
+      pub asks_next : (new : State) (was now : Option (List Event)) (b : Batch) → RanBatch task head dues s new b
+          → length s.asked ≤ head.calls → (b ≡ CallsSpent → IsSure head task new.entries (outcome.Limit Calls))
+          → Asks head task s new was now (Some b)
+      asks_next new was now Done ran within sure = (omega (arith, ran.ends.0, some, dues_long), ran.ends.1)
+      asks_next new was now CallsSpent ran within sure =
           (omega (arith, ran.ends.0, within), λ left. omega (arith, ran.ends.0, left), sure refl)
 
 -- ---- so far

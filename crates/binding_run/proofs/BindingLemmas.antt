@@ -1,7 +1,7 @@
 -- Turns of binding mode, and what would go on as one.
 use Rattle.std.proofs.Common.{◌≡◌, ℕ, ◌+◌, ◌<◌, ◌≤◌, arith, Bool, false, count_by, inl, inr, List, [], ◌∷◌, ◌++◌, length, refl, sym, subst, ap, ◌∙◌}
 use Rattle.std.specs.Prelude.{⊤}
-use Rattle.binding_run.proofs.CountLemmas.{batches_ask, batches_count, batches_levels}
+use Rattle.binding_run.proofs.CountLemmas.{batches_count, batches_levels}
 use Rattle.binding_run.specs.Batching.{AreBatchesBehind, IsFrontBehindLine, MayRunBehind, RanBehindLine}
 use Rattle.dream_laws.proofs.DreamLemmas.{dream_asks}
 use Rattle.focused_run.proofs.DreamtLemmas.{idle_one}
@@ -11,6 +11,7 @@ use Rattle.level_run.specs.Advancing.{Fits, IsFrontOfTurn}
 use Rattle.level_run.specs.Turns.{cut_by, opens_requests}
 use Rattle.level_run.specs.declared.turns.Turned.{Turned}
 use Rattle.level_run.specs.declared.turns.Turned.TheVariants as turned
+use Rattle.mode_turns.proofs.BatchesLemmas.{batches_ask}
 use Rattle.mode_turns.specs.Modes.{TurnOf}
 use Rattle.round_run.specs.declared.ending.Batch.{Batch}
 use Rattle.round_run.specs.declared.ending.Batch.TheVariants.{CallsSpent, Done}

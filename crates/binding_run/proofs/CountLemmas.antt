@@ -1,14 +1,15 @@
 -- How many requests a dream's batches have.
-use Rattle.std.proofs.Common.{◌≡◌, ℕ, ◌+◌, ◌<◌, ◌≤◌, arith, Bool, false, count_by, min, List, ◌++◌, length, take, refl, sym, ap, ◌∙◌, append_assoc}
+use Rattle.std.proofs.Common.{◌≡◌, ℕ, ◌+◌, ◌<◌, arith, Bool, false, count_by, min, List, ◌++◌, length, take, refl, sym, ap, ◌∙◌, append_assoc}
 use Rattle.std.proofs.lemmas.Bool.{ltb-false, ltb-true}
 use Rattle.std.proofs.lemmas.List.{append-nil, length-append, length-map, length-take, take_all}
 use Rattle.level_run.proofs.ReportsCountLemmas.{rounds_none}
+use Rattle.mode_turns.proofs.BatchesLemmas.{batches_grow}
 use Rattle.mode_turns.proofs.CountsLemmas.{rounds_count}
 use Rattle.session_core.proofs.SessionLemmas.{count_joined}
 use Rattle.task_model.specs.Dreams as dreams
 use Rattle.task_model.specs.declared.task.Task.{Task}
 use Rattle.transcript_model.proofs.LegalNumberLemmas.{asks_more}
-use Rattle.transcript_model.specs.Dreaming.{Sent, next_sent, sent_instances}
+use Rattle.transcript_model.specs.Dreaming.{Sent, sent_instances}
 use Rattle.transcript_model.specs.Legal.{asks_of, is_level}
 use Rattle.transcript_model.specs.Rounds.{IsBatch, Limits, calls_left}
 use Rattle.transcript_model.specs.Turns.{AreBatches, finished, further, last}
@@ -52,32 +53,6 @@ module _ (limits : Limits) (task : Task) (real : ℕ) (entries : List dreams.Ent
         length-append sent next,
       )
 
-  pub batches_grow : (sent : List Sent) (before now : List Entry) (after : List Sent) (cut : Bool)
-      → AreBatches limits task real entries sent before now after cut → length sent ≤ length after
-  batches_grow sent before now after cut (finished none) = omega arith
-  batches_grow sent before now after cut (last next is wanting batch) =
-      omega (arith, length-append sent (take (calls_left limits before) next))
-  batches_grow sent before now after cut (further {now = first} {rest = rest} next is some all batch more) =
-      omega (arith, batches_grow (sent ++ next) (before ++ first) rest after cut more, length-append sent next)
-
-  -- where an entry is ready and a call is left, something is asked
-  pub batches_ask : (sent : List Sent) (before now : List Entry) (after : List Sent) (cut : Bool)
-      → AreBatches limits task real entries sent before now after cut → asks_of before < limits.calls
-      → 0 < length (next_sent task before real sent (asks_of before + 1) (sent_instances sent) entries)
-      → length sent < length after
-  batches_ask sent before now after cut (finished none) left some = absurd (omega (arith, some, ap length none))
-  batches_ask sent before now after cut (last next is wanting batch) left some =
-      omega (
-        arith,
-        left,
-        some,
-        ap length is,
-        length-append sent (take (calls_left limits before) next),
-        length-take (calls_left limits before) next,
-      )
-  batches_ask sent before now after cut (further {now = first} {rest = rest} next is more_than all batch more) left some =
-      omega (arith, batches_grow (sent ++ next) (before ++ first) rest after cut more, length-append sent next, more_than)
-
   -- where none is ready nothing is asked
   pub batches_none : (sent : List Sent) (before now : List Entry) (after : List Sent) (cut : Bool)
       → AreBatches limits task real entries sent before now after cut → after ≡ sent
@@ -95,7 +70,7 @@ module _ (limits : Limits) (task : Task) (real : ℕ) (entries : List dreams.Ent
   batches_none sent before now after cut (further {now = first} {rest = rest} next is more_than all batch more) same left =
       absurd (omega (
         arith,
-        batches_grow (sent ++ next) (before ++ first) rest after cut more,
+        batches_grow limits task real entries (sent ++ next) (before ++ first) rest after cut more,
         length-append sent next,
         more_than,
         ap length same,

@@ -6,4 +6,3 @@ pub mod CountLemmas
 pub mod PickLemmas
 pub mod SkeletonLemmas
 pub mod StoppingLemmas
-pub mod StretchLemmas

@@ -8,6 +8,7 @@ use Rattle.level_run.specs.Turns.{cut_by}
 use Rattle.level_run.specs.declared.turns.Turned.{Turned}
 use Rattle.level_run.specs.declared.turns.Turned.TheVariants as turned
 use Rattle.mode_turns.proofs.BatchesLemmas.{Ending, batches_end}
+use Rattle.mode_turns.proofs.CountsLemmas.{retiring_none}
 use Rattle.round_run.proofs.RollingFrontLemmas.{front_first}
 use Rattle.round_run.specs.declared.ending.Batch.{Batch}
 use Rattle.round_run.specs.declared.ending.Batch.TheVariants.{CallsSpent, Done}
@@ -25,10 +26,6 @@ use Rattle.transcript_model.specs.declared.entry.Entry.TheVariants as entry
 use Rattle.transcript_model.specs.declared.head.Head.{Head}
 
 -- ---- counts
-
-retiring_asks : (number : ℕ) (sent : List Sent) → asks_of (retiring number sent) ≡ 0
-retiring_asks number [] = refl
-retiring_asks number (s ∷ sent) = refl
 
 retiring_levels : (number : ℕ) (sent : List Sent) → count_by is_level (retiring number sent) ≡ 0
 retiring_levels number [] = refl
@@ -58,7 +55,7 @@ module _ (limits : Limits) (task : Task) (kept : Kept) (before now : List Entry)
         asks_more marked turn.batches,
         asks_marked before line refl,
         asks_more before (line ∷ []),
-        retiring_asks (turn.place + 1) turn.sent,
+        retiring_none (turn.place + 1) turn.sent,
       )
 
   -- and no level stands in it
@@ -167,7 +164,7 @@ module _ (head : Head) (task : Task) (kept : Kept) (before : List Entry) (place 
           asks_more old.entries ran.now,
           asks_more before (ran.now ++ retiring (place + 1) ran.after),
           asks_more ran.now (retiring (place + 1) ran.after),
-          retiring_asks (place + 1) ran.after,
+          retiring_none (place + 1) ran.after,
           count,
         )
 

@@ -1,13 +1,13 @@
 -- Where a stretch of a run breaks off.
 use Rattle.std.proofs.Common.{ℕ, Bool, List, length, Option, Result, Ok, Err, refl, subst}
 use Rattle.std.specs.Result.{IfOk, OnOk}
-use Rattle.binding_run.proofs.StretchLemmas.{breaks_on, turn_breaks_on}
 use Rattle.io_world.specs.Talks.{Event, Talk}
-use Rattle.level_run.proofs.AdvancingLemmas.{turn_breaks_as}
+use Rattle.level_run.proofs.AdvancingLemmas.{turn_breaks_as, turn_breaks_on}
 use Rattle.level_run.specs.Advancing.{Advances, TurnBreaks}
 use Rattle.round_run.proofs.BreakingLemmas.{tells_memory}
 use Rattle.round_run.proofs.BreakingRunLemmas.{run_breaks_as, still_breaks}
 use Rattle.round_run.proofs.StoppedLemmas.{stopped_as, stopped_memory, stopped_then}
+use Rattle.round_run.proofs.StretchLemmas.{breaks_on}
 use Rattle.round_run.proofs.TalkingLemmas.{dialogue_told, told_of}
 use Rattle.round_run.specs.Batches.{AreStarted}
 use Rattle.round_run.specs.Breaking.{RunBreaks}

@@ -1,10 +1,11 @@
 -- What a turn of adaptive mode has done.
 use Rattle.std.specs.Prelude.{List}
-use Rattle.binding_run.specs.Skeletons.{AreKept, idle_with, keeping, skeletons_in}
-use Rattle.binding_run.specs.declared.skeletons.Skeleton as stored
+use Rattle.binding_run.specs.Skeletons.{AreFewKept, idle_with, kept_of}
 use Rattle.level_run.specs.Advancing.{RanTurn}
 use Rattle.level_run.specs.declared.turns.Turned.{Turned}
 use Rattle.session_core.specs.State.{State}
+use Rattle.skeletons.specs.Skeletons.{skeletons_in}
+use Rattle.skeletons.specs.declared.skeletons.Skeleton as stored
 use Rattle.task_model.specs.declared.stream.Instance.{Instance}
 use Rattle.task_model.specs.declared.task.Task.{Task}
 use Rattle.transcript_model.specs.declared.head.Head.{Head}
@@ -13,5 +14,5 @@ use Rattle.transcript_model.specs.declared.head.Head.{Head}
 abbrev pub RanAdaptive : Task → Head → List stored.Skeleton → List Instance → List stored.Skeleton → List Instance
     → State → State → Turned → Type 0
 RanAdaptive task head skeletons tried later next =
-    RanTurn task head (keeping skeletons tried) (keeping later next) (idle_with (skeletons_in skeletons) tried)
-    (idle_with (skeletons_in later) next) (λ asked. AreKept (skeletons_in later) asked)
+    RanTurn task head (kept_of skeletons tried) (kept_of later next) (idle_with (skeletons_in skeletons) tried)
+    (idle_with (skeletons_in later) next) (λ asked. AreFewKept (skeletons_in later) asked)

@@ -35,6 +35,12 @@ IsFrontOfBatches head task real entries sent before =
     IsFrontPart before (λ now. (after : List Sent) × (cut : Bool)
     × AreBatches (limits_of head) task real entries sent before now after cut)
 
+-- The next batch of a dream may be run: the transcript has its requests so far, and no more were made than calls are
+-- given.
+pub record MayGoOn (head : Head) (task : Task) (p : Progress) (s : State) : Type 0 where
+  pub progress : HasProgress task s.entries p
+  pub within : length s.asked ≤ head.calls
+
 -- ---- one batch
 
 -- A batch was run, and ended so. Where it is whole the asks joined the dream's requests and those that were tried.
@@ -44,6 +50,7 @@ pub record RanSome (head : Head) (task : Task) (real : ℕ) (entries : List drea
   pub now : List Entry
   pub pushed : new.entries ≡ old.entries ++ now
   pub batch : IsBatch (limits_of head) task old.entries (sent_instances (nexts task old.entries real entries sent)) now
+  pub stays : later.real ≡ real
   pub cut : cut_by b ≡ is_cut (limits_of head) old.entries (nexts task old.entries real entries sent)
   pub noted : b ≡ Done → IsProgress task new.entries later (sent ++ nexts task old.entries real entries sent)
   pub joins : b ≡ Done → joined ≡ tried ++ sent_instances (nexts task old.entries real entries sent)
@@ -56,12 +63,12 @@ RanNext head task real entries old new later tried joined sent None =
 RanNext head task real entries old new later tried joined sent (Some b) =
     RanSome head task real entries old new later tried joined sent b
 
--- How many requests were made: some, where a call was left, and all, where none was wanting. Where calls were wanting
--- the limit of calls is sure.
-abbrev pub Asks : Head → Task → (old new : State) → Option Batch → Type 0
-Asks head task old new None = new ≡ old
-Asks head task old new (Some Done) = (length old.asked < length new.asked) × (length new.asked ≤ head.calls)
-Asks head task old new (Some CallsSpent) =
+-- How many requests were made, or that no call was: some, where a call was left, and all, where none was wanting. Where
+-- calls were wanting the limit of calls is sure.
+abbrev pub Asks : Head → Task → (old new : State) → (was now : Option (List Event)) → Option Batch → Type 0
+Asks head task old new was now None = (new ≡ old) × (now ≡ was)
+Asks head task old new was now (Some Done) = (length old.asked < length new.asked) × (length new.asked ≤ head.calls)
+Asks head task old new was now (Some CallsSpent) =
     (length old.asked ≤ length new.asked) × (length old.asked < head.calls → length old.asked < length new.asked)
     × IsSure head task new.entries (outcome.Limit Calls)
 

@@ -1,13 +1,13 @@
 -- The skeletons of adaptive mode, and what its turns have done.
-use Rattle.std.specs.Prelude.{◌≡◌, ℕ, ◌+◌, ◌*◌, ◌<◌, ◌≤◌, All, List, [], ◌∷◌, ◌++◌, map, length, count_by, Bool, true, false, not, Option, IfSome, IfNone}
-use Rattle.std.specs.List.{list_all}
-use Rattle.binding_run.specs.declared.skeletons.Skeleton as stored
+use Rattle.std.specs.Prelude.{◌≡◌, ℕ, ◌+◌, ◌*◌, ◌<◌, ◌≤◌, All, List, [], ◌∷◌, ◌++◌, length, count_by, Bool, true, false, not}
 use Rattle.focused_run.specs.Focusing.{idle_of}
-use Rattle.level_run.specs.Turns.{IsSure}
+use Rattle.level_run.specs.Turns.{IsRunnableIn, IsSure}
 use Rattle.level_run.specs.declared.turns.Turned.{Turned}
 use Rattle.level_run.specs.declared.turns.Turned.TheVariants as turned
 use Rattle.round_run.specs.Rolling.{IsFrontPart}
 use Rattle.session_core.specs.State.{State}
+use Rattle.skeletons.specs.Skeletons.{skeletons_in}
+use Rattle.skeletons.specs.declared.skeletons.Skeleton as stored
 use Rattle.task_model.specs.declared.stream.Instance.{Instance}
 use Rattle.task_model.specs.declared.task.Task.{Task}
 use Rattle.transcript_model.specs.Legal.{is_level, is_mark}
@@ -15,21 +15,15 @@ use Rattle.transcript_model.specs.Rounds.{limits_of}
 use Rattle.transcript_model.specs.Turns.{IsPickTurn, IsPicked, Kept, Skeleton}
 use Rattle.transcript_model.specs.declared.entry.Entry.{Entry}
 use Rattle.transcript_model.specs.declared.head.Head.{Head}
+use Rattle.transcript_model.specs.declared.head.Mode.TheVariants.{Adaptive}
 use Rattle.transcript_model.specs.declared.outcome.LimitKind.TheVariants.{Calls}
 use Rattle.transcript_model.specs.declared.outcome.Outcome.TheVariants as outcome
 
 -- ---- skeletons
 
--- a dream that is kept, as the definition of turns has it
-abbrev pub skeleton_of : stored.Skeleton → Skeleton
-skeleton_of s = record { entries = s.entries.items; real = s.real; picks = s.picks; retired = s.retired }
-
-abbrev pub skeletons_in : List stored.Skeleton → List Skeleton
-skeletons_in = map skeleton_of
-
 -- what is carried: the tried instances and the skeletons
-abbrev pub keeping : List stored.Skeleton → List Instance → Kept
-keeping skeletons tried = record { tried = tried; skeletons = skeletons_in skeletons }
+abbrev pub kept_of : List stored.Skeleton → List Instance → Kept
+kept_of skeletons tried = record { tried = tried; skeletons = skeletons_in skeletons }
 
 -- it isn't given up
 abbrev pub is_kept : Skeleton → Bool
@@ -37,22 +31,23 @@ is_kept s = not s.retired
 
 -- Where so much was asked there are no more skeletons. One that isn't given up was picked, and no more often than
 -- something was asked.
-pub record AreKept (skeletons : List Skeleton) (asked : ℕ) : Type 0 where
+pub record AreFewKept (skeletons : List Skeleton) (asked : ℕ) : Type 0 where
   pub few : length skeletons ≤ asked
   pub picked : All (λ (s : Skeleton). s.retired ≡ false → (1 ≤ s.picks) × (s.picks ≤ asked)) skeletons
+
+-- Adaptive mode can be run, and these are kept.
+pub record KeepsOn (head : Head) (task : Task) (skeletons : List Skeleton) (s : State) : Type 0 where
+  pub runnable : IsRunnableIn Adaptive task head
+  pub kept : AreFewKept skeletons (length s.asked)
 
 -- How many turns may ask nothing: each gives up a skeleton, or forgets what was tried.
 abbrev pub idle_with : List Skeleton → List Instance → ℕ
 idle_with skeletons tried = 2 * count_by is_kept skeletons + idle_of tried
 
--- the place of the skeleton that is next, or that all are given up
-pub record IsBest (skeletons : List Skeleton) (best : Option ℕ) : Type 0 where
-  pub some : IfSome best (λ place. (s : Skeleton) × IsPicked skeletons place s)
-  pub none : IfNone best (list_all (λ (s : Skeleton). s.retired) skeletons ≡ true)
-
 -- ---- a pick
 
--- The skeleton at this place may be picked: a call is left, and its place and its picks are no more than what was asked.
+-- The skeleton at this place may be picked: a call is left, and its place and its picks are no more than what was
+-- asked.
 pub record MayPick (head : Head) (skeletons : List Skeleton) (place : ℕ) (s : State) : Type 0 where
   pub skeleton : Skeleton
   pub picked : IsPicked skeletons place skeleton

@@ -1,7 +1,7 @@
 //! Adaptive mode.
-ghost use Rattle.std.specs.Prelude.{◌≡◌, ℕ, false, IfOk, IfErr, OnOk, length};
+ghost use Rattle.std.specs.Prelude.{◌≡◌, ℕ, false, IfOk, IfErr, OnOk};
 ghost use Rattle.binding_run.specs.Adaptive.{RanAdaptive};
-ghost use Rattle.binding_run.specs.Skeletons.{AreKept, idle_with, keeping, skeletons_in};
+ghost use Rattle.binding_run.specs.Skeletons.{AreFewKept, KeepsOn, idle_with, kept_of};
 ghost use Rattle.focused_run.specs.Focusing.{Begins, HasRoom, IsDreamLine};
 ghost use Rattle.io_world.specs.Faults.{last_count, HasCause};
 ghost use Rattle.io_world.specs.Talks.{Same};
@@ -13,13 +13,13 @@ ghost use Rattle.round_run.specs.Held.{is_child_running};
 ghost use Rattle.round_run.specs.Resting.{AreCaused, GoesInOrder, Rests};
 ghost use Rattle.round_run.specs.Rolling.{Stopped};
 ghost use Rattle.round_run.specs.declared.fault.RunFault.TheVariants.{Generator, Write};
+ghost use Rattle.skeletons.specs.Skeletons.{skeletons_in};
 ghost use Rattle.task_model.specs.Fit.{IsFit};
 ghost use Rattle.transcript_model.specs.Dreaming.{HasNoDreamAfter};
 ghost use Rattle.transcript_model.specs.Rounds.{limits_of};
 ghost use Rattle.transcript_model.specs.declared.head.Mode.TheVariants as mode;
 
 use crate::picks::pick_behind;
-use crate::skeletons::{Skeleton, keep, pick_of};
 use dreaming::{Dreamt, dream};
 use focused_run::without_dream;
 use instance_queue::Due;
@@ -27,6 +27,7 @@ use io_world::{Host, Sink};
 use level_run::{Lines, Ran, RunFault, Turned, Turns, known_plan, run_mode};
 use optimistic_set::{OptEntry, Tried};
 use session_core::Session;
+use skeletons::{Skeleton, keep, pick_of};
 use std::alloc::Global;
 use task_model::Task;
 use transcript_model::{Entry, Head};
@@ -45,11 +46,10 @@ fn with_new<H: Host, O: Sink>(
     line: Entry,
     entries: Vec<OptEntry>,
 ) -> Result<Turned, RunFault>
-    requires runnable { IsRunnableIn mode.Adaptive task.now head.now }
+    requires keeps { KeepsOn head.now task.now (skeletons_in skeletons.old.items) session.old }
     requires rests { Rests task.now head.now session.old lines.old (H.running host.old)
         (H.spoken host.old) }
     requires room { HasRoom head.now session.old }
-    requires kept { AreKept (skeletons_in skeletons.old.items) (length session.old.asked) }
     requires dream { IsDreamLine (limits_of head.now) task.now session.old.entries tried.old line
         entries.items }
     ensures rests { OnOk result (Rests task.now head.now session.new lines.new (H.running host.new)
@@ -60,7 +60,7 @@ fn with_new<H: Host, O: Sink>(
         (O.taken out.old) (O.taken out.new) (Advances task.now head.now session.old.entries
         session.new.entries (H.log host.old) (H.log host.new))) }
     ensures stopped { IfErr result (λ fault. Stopped head.now.version task.now (workers_in head.now)
-        (IsFrontOfTurn task.now head.now (keeping skeletons.old.items tried.old)
+        (IsFrontOfTurn task.now head.now (kept_of skeletons.old.items tried.old)
         session.old.entries) session.old.entries fault (O.taken out.old) (O.taken out.new)
         (H.spoken host.new) (TurnBreaks task.now head.now session.old.entries fault
         (H.log host.old) (H.log host.new))) }
@@ -89,11 +89,10 @@ fn without_new<H: Host, O: Sink>(
     skeletons: &mut Vec<Skeleton>,
     dues: &[Due],
 ) -> Result<Turned, RunFault>
-    requires runnable { IsRunnableIn mode.Adaptive task.now head.now }
+    requires keeps { KeepsOn head.now task.now (skeletons_in skeletons.old.items) session.old }
     requires rests { Rests task.now head.now session.old lines.old (H.running host.old)
         (H.spoken host.old) }
     requires begins { Begins task.now head.now session.old dues.now }
-    requires kept { AreKept (skeletons_in skeletons.old.items) (length session.old.asked) }
     requires none { HasNoDreamAfter (limits_of head.now) task.now session.old.entries tried.old }
     ensures rests { OnOk result (Rests task.now head.now session.new lines.new (H.running host.new)
         (H.spoken host.new)) }
@@ -103,7 +102,7 @@ fn without_new<H: Host, O: Sink>(
         (O.taken out.old) (O.taken out.new) (Advances task.now head.now session.old.entries
         session.new.entries (H.log host.old) (H.log host.new))) }
     ensures stopped { IfErr result (λ fault. Stopped head.now.version task.now (workers_in head.now)
-        (IsFrontOfTurn task.now head.now (keeping skeletons.old.items tried.old)
+        (IsFrontOfTurn task.now head.now (kept_of skeletons.old.items tried.old)
         session.old.entries) session.old.entries fault (O.taken out.old) (O.taken out.new)
         (H.spoken host.new) (TurnBreaks task.now head.now session.old.entries fault
         (H.log host.old) (H.log host.new))) }
@@ -140,11 +139,11 @@ struct Dreams {
 impl Turns for Dreams {
     ghost mode = { mode.Adaptive };
 
-    ghost kept = { λ m. keeping m.skeletons.items m.tried };
+    ghost kept = { λ m. kept_of m.skeletons.items m.tried };
 
     ghost idle = { λ m. idle_with (skeletons_in m.skeletons.items) m.tried };
 
-    ghost holds = { λ m asked. AreKept (skeletons_in m.skeletons.items) asked };
+    ghost holds = { λ m asked. AreFewKept (skeletons_in m.skeletons.items) asked };
 
     fn turn<H: Host, O: Sink>(
         &mut self,

@@ -1,9 +1,9 @@
 //! The batches of a dream, one after another.
 ghost use Rattle.std.specs.Prelude.{◌≡◌, ◌<◌, ◌≤◌, ◌++◌, [], List, drop, length, IfOk, IfErr, OnOk};
-ghost use Rattle.binding_run.specs.Batching.{Asks, HasProgress, IsFrontOfBatches, RanBatches, RanNext, RunsOn};
-ghost use Rattle.dream_asks.specs.Next.{asked_instances};
+ghost use Rattle.binding_run.specs.Batching.{Asks, IsFrontOfBatches, MayGoOn, RanBatches, RanNext, RunsOn};
 ghost use Rattle.dream_asks.specs.Noting.{NotesAnswers};
 ghost use Rattle.dream_asks.specs.Progress.{IsProgress};
+ghost use Rattle.instance_queue.specs.Level.{instances_of};
 ghost use Rattle.io_world.specs.Talks.{Same};
 ghost use Rattle.round_run.specs.Batches.{IsRunnable};
 ghost use Rattle.round_run.specs.Breaking.{RunBreaks};
@@ -15,6 +15,8 @@ ghost use Rattle.round_run.specs.Rolling.{Stopped};
 ghost use Rattle.transcript_model.specs.Dreaming.{Sent as AnySent};
 
 use dream_asks::{DreamAsk, Gone, dues_of};
+use focused_run::join;
+use instance_queue::Due;
 use io_world::{Host, Sink};
 use level_run::{Batch, Lines, RunFault, batch};
 use optimistic_set::{OptEntry, Tried};
@@ -23,18 +25,9 @@ use std::alloc::{AllocError, Global};
 use task_model::Task;
 use transcript_model::Head;
 
-/// Puts the asks' instances behind those that were tried. Fails only where memory is wanting.
-fn join(tried: &mut Tried, asks: &[DreamAsk]) -> Result<(), AllocError>
-    ensures { OnOk result (tried.new ≡ tried.old ++ asked_instances asks.now) }
-{
-    for ask in asks {
-        tried.add(&ask.instance)?;
-    }
-    Ok(())
-}
-
 /// Notes what came for the asks, which were made with numbers from `first` on, behind so many
-/// entries; they were tried then. Fails only where memory is wanting.
+/// entries; their instances, which have these turns, were tried then. Fails only where memory is
+/// wanting.
 fn note(
     session: &Session,
     gone: &mut Gone,
@@ -42,15 +35,16 @@ fn note(
     from: usize,
     first: u32,
     asks: &[DreamAsk],
+    dues: &[Due],
 ) -> Result<(), AllocError>
     requires { from ≤ length session.now.entries }
     ensures noted { OnOk result (NotesAnswers session.now.known.names
         (drop from session.now.entries) first asks.now gone.old gone.new) }
-    ensures joined { OnOk result (tried.new ≡ tried.old ++ asked_instances asks.now) }
+    ensures joined { OnOk result (tried.new ≡ tried.old ++ instances_of dues.now) }
     ensures real { gone.new.real ≡ gone.old.real }
 {
     gone.note(session.facts(), &session.entries()[from..], first, asks)?;
-    join(tried, asks)
+    join(tried, dues)
 }
 
 /// Runs the next batch of the dream, as far as calls are left, or answers None where nothing is
@@ -70,16 +64,15 @@ fn next_batch<H: Host, O: Sink>(
     requires runnable { IsRunnable task.now head.now }
     requires rests { Rests task.now head.now session.old lines.old (H.running host.old)
         (H.spoken host.old) }
-    requires progress { HasProgress task.now session.old.entries gone.old }
-    requires within { length session.old.asked ≤ head.now.calls }
+    requires may { MayGoOn head.now task.now gone.old session.old }
     ensures rests { OnOk result (Rests task.now head.now session.new lines.new (H.running host.new)
         (H.spoken host.new)) }
     ensures ran { IfOk result (λ b. (sent : List AnySent)
         → IsProgress task.now session.old.entries gone.old sent
         → RanNext head.now task.now gone.old.real entries.now session.old session.new gone.new
         tried.old tried.new sent b) }
-    ensures quiet { IfOk result (λ b. b ≡ None → H.log host.new ≡ H.log host.old) }
-    ensures asks { IfOk result (Asks head.now task.now session.old session.new) }
+    ensures asks { IfOk result (Asks head.now task.now session.old session.new (H.log host.old)
+        (H.log host.new)) }
     ensures adds { OnOk result (GoesInOrder session.old.entries session.new.entries
         (O.taken out.old) (O.taken out.new) (Runs task.now head.now session.old.entries
         session.new.entries (H.log host.old) (H.log host.new))) }
@@ -89,7 +82,6 @@ fn next_batch<H: Host, O: Sink>(
         (IsFrontOfBatches head.now task.now gone.old.real entries.now sent session.old.entries)
         session.old.entries fault (O.taken out.old) (O.taken out.new) (H.spoken host.new)
         (RunBreaks task.now head.now session.old.entries fault (H.log host.old) (H.log host.new))) }
-    ensures real { gone.new.real ≡ gone.old.real }
     ensures state { Same (H.running host.new) (is_child_running lines.new) }
     ensures causes { AreCaused H.last (H.faults host.old) (H.faults host.new) (O.faults out.old)
         (O.faults out.new) result }
@@ -104,7 +96,15 @@ fn next_batch<H: Host, O: Sink>(
     match batch(task, head, session, lines, host, out, dues.as_slice())? {
         Batch::CallsSpent => Ok(Some(Batch::CallsSpent)),
         Batch::Done => {
-            note(session, gone, tried, from, first, asks.as_slice())?;
+            note(
+                session,
+                gone,
+                tried,
+                from,
+                first,
+                asks.as_slice(),
+                dues.as_slice(),
+            )?;
             Ok(Some(Batch::Done))
         }
     }

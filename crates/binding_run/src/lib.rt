@@ -8,7 +8,6 @@ mod behind;
 mod binding_mode;
 mod dreamt;
 mod picks;
-mod skeletons;
 
 pub use adaptive_mode::adaptive;
 pub use binding_mode::binding;

@@ -1,6 +1,6 @@
 //! Picks of skeletons.
-ghost use Rattle.std.specs.Prelude.{◌≡◌, ◌+◌, ◌<◌, length, slice_get, slice_set, Some, IfOk, IfErr, OnOk};
-ghost use Rattle.binding_run.specs.Skeletons.{IsFrontBehindPick, IsFrontOfPick, IsPickLine, MayPick, RanBehindPick, RanPick, keeping, skeletons_in};
+ghost use Rattle.std.specs.Prelude.{IfOk, IfErr, OnOk};
+ghost use Rattle.binding_run.specs.Skeletons.{IsFrontBehindPick, IsFrontOfPick, IsPickLine, MayPick, RanBehindPick, RanPick, kept_of};
 ghost use Rattle.io_world.specs.Talks.{Same};
 ghost use Rattle.level_run.specs.Advancing.{Advances, TurnBreaks};
 ghost use Rattle.level_run.specs.Turns.{IsRunnableIn};
@@ -8,33 +8,19 @@ ghost use Rattle.round_run.specs.Dialogue.{workers_in};
 ghost use Rattle.round_run.specs.Held.{is_child_running};
 ghost use Rattle.round_run.specs.Resting.{AreCaused, GoesInOrder, Rests};
 ghost use Rattle.round_run.specs.Rolling.{Stopped};
-ghost use Rattle.transcript_model.specs.Turns.{Skeleton as Kept};
+ghost use Rattle.skeletons.specs.Skeletons.{skeletons_in};
 ghost use Rattle.transcript_model.specs.declared.head.Mode.TheVariants.{Adaptive};
 
 use crate::behind::run_behind;
-use crate::skeletons::Skeleton;
 use focused_run::turned;
 use io_world::{Host, Sink};
 use level_run::{Lines, RunFault, Turned, mark};
 use optimistic_set::Tried;
 use session_core::Session;
+use skeletons::{Skeleton, count};
 use std::alloc::Global;
 use task_model::Task;
 use transcript_model::{Entry, Head};
-
-/// Counts a pick of the skeleton at this place, which is given up then or not.
-fn count(skeletons: &mut Vec<Skeleton>, place: usize, retired: bool)
-    requires place { place < length skeletons.old.items }
-    requires room { (s : Kept) → slice_get (skeletons_in skeletons.old.items) place ≡ Some s
-        → s.picks < 4294967295 }
-    ensures { (s : Kept) → slice_get (skeletons_in skeletons.old.items) place ≡ Some s
-        → skeletons_in skeletons.new.items ≡ slice_set (skeletons_in skeletons.old.items) place
-        (record { entries = s.entries; real = s.real; picks = s.picks + 1; retired = retired }) }
-{
-    let skeleton = &mut skeletons[place];
-    skeleton.picks += 1;
-    skeleton.retired = retired;
-}
 
 /// Takes up the skeleton at this place, and runs its batches from the beginning, as far as calls
 /// are left. It is counted; and where nothing of it was left to ask it is given up.
@@ -56,13 +42,13 @@ pub(crate) fn pick<H: Host, O: Sink>(
     requires may { MayPick head.now (skeletons_in skeletons.old.items) place session.old }
     ensures rests { OnOk result (Rests task.now head.now session.new lines.new (H.running host.new)
         (H.spoken host.new)) }
-    ensures ran { IfOk result (RanPick head.now task.now (keeping skeletons.old.items tried.old)
-        (keeping skeletons.new.items tried.new) session.old session.new) }
+    ensures ran { IfOk result (RanPick head.now task.now (kept_of skeletons.old.items tried.old)
+        (kept_of skeletons.new.items tried.new) session.old session.new) }
     ensures adds { OnOk result (GoesInOrder session.old.entries session.new.entries
         (O.taken out.old) (O.taken out.new) (Advances task.now head.now session.old.entries
         session.new.entries (H.log host.old) (H.log host.new))) }
     ensures stopped { IfErr result (λ fault. Stopped head.now.version task.now (workers_in head.now)
-        (IsFrontOfPick head.now task.now (keeping skeletons.old.items tried.old)
+        (IsFrontOfPick head.now task.now (kept_of skeletons.old.items tried.old)
         session.old.entries) session.old.entries fault (O.taken out.old) (O.taken out.new)
         (H.spoken host.new) (TurnBreaks task.now head.now session.old.entries fault
         (H.log host.old) (H.log host.new))) }
@@ -112,13 +98,13 @@ pub(crate) fn pick_behind<H: Host, O: Sink>(
     ensures rests { OnOk result (Rests task.now head.now session.new lines.new (H.running host.new)
         (H.spoken host.new)) }
     ensures ran { IfOk result (RanBehindPick head.now task.now
-        (keeping skeletons.old.items tried.old) (keeping skeletons.new.items tried.new) line
+        (kept_of skeletons.old.items tried.old) (kept_of skeletons.new.items tried.new) line
         session.old session.new) }
     ensures adds { OnOk result (GoesInOrder session.old.entries session.new.entries
         (O.taken out.old) (O.taken out.new) (Advances task.now head.now session.old.entries
         session.new.entries (H.log host.old) (H.log host.new))) }
     ensures stopped { IfErr result (λ fault. Stopped head.now.version task.now (workers_in head.now)
-        (IsFrontBehindPick head.now task.now (keeping skeletons.old.items tried.old)
+        (IsFrontBehindPick head.now task.now (kept_of skeletons.old.items tried.old)
         session.old.entries line) session.old.entries fault (O.taken out.old) (O.taken out.new)
         (H.spoken host.new) (TurnBreaks task.now head.now session.old.entries fault
         (H.log host.old) (H.log host.new))) }

@@ -1,3 +1,4 @@
 pub mod FitStreamLemmas
 pub mod OutputsLemmas
+pub mod TuplesLemmas
 pub mod CertifiedLemmas

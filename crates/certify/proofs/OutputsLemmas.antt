@@ -1,14 +1,17 @@
 -- Names and facts, put behind others one after another.
-use Rattle.std.proofs.Common.{◌≡◌, ℕ, zero, suc, ◌+◌, ◌<◌, ◌≤◌, arith, true, false, cond, List, [], ◌∷◌, ◌++◌, map, drop, length, get_or, refl, sym, ap, ◌∙◌, Some, slice_get, All}
+use Rattle.std.proofs.Common.{◌≡◌, ℕ, zero, suc, ◌+◌, ◌<◌, ◌≤◌, arith, true, false, cond, List, [], ◌∷◌, ◌++◌, map, drop, length, get_or, refl, sym, ap, subst, ◌∙◌, Some, slice_get, All}
 use Rattle.std.proofs.lemmas.List.{map-append, length-append, drop_more}
 use Rattle.std.specs.List.{list_any}
+use Rattle.fact_store.proofs.GrowthLemmas.{front_then}
 use Rattle.fact_store.proofs.StoreLemmas.{in_more}
+use Rattle.fact_store.specs.Growth.{IsBetween, IsFrontOf}
 use Rattle.task_model.specs.Initial.{type_facts}
 use Rattle.task_model.specs.Known.{IsIn, same_numbers, with_fact, with_facts, with_name, with_names}
 use Rattle.task_model.specs.Streams.{output_types}
 use Rattle.task_model.specs.declared.domain.Domain.{Domain}
 use Rattle.task_model.specs.declared.fact.Fact.{Fact}
 use Rattle.certify.specs.Outputs.{AreNamed}
+use Rattle.transcript_model.proofs.NamesLemmas.{with_name-front, with_names-front}
 use Rattle.transcript_model.specs.Names.{generated}
 use Rattle.lemmas.proofs.Members.{get_append}
 use Rattle.task_model.proofs.KnownLemmas.{facts_then}
@@ -64,6 +67,20 @@ pub names_more : (names : List (List ℕ)) (values : List (List ℕ)) (i : ℕ) 
     ≡ with_names names (map generated (drop i values))
 names_more names values i value lt is =
     ap (λ vs. with_names names (map generated vs)) (sym (drop_more values i value lt ∙ ap (λ v. v ∷ drop (i + 1) values) (sym is)))
+
+-- the names so far, where all from before are there and with those that are left all are
+pub names_between : (first now left after : List (List ℕ)) → IsFrontOf first now
+    → with_names now left ≡ after → IsBetween first now after
+names_between first now left after grown is = (grown, subst (IsFrontOf now) is (with_names-front now left))
+
+-- and one name more
+pub one_named : (first now new after values : List (List ℕ)) (i : ℕ) (value : List ℕ) → i < length values
+    → value ≡ get_or values i value → new ≡ with_name now (generated value) → IsFrontOf first now
+    → with_names now (map generated (drop i values)) ≡ after → IsBetween first new after
+one_named first now new after values i value lt at one grown is =
+    names_between first new (map generated (drop (i + 1) values)) after
+    (front_then first now new grown (subst (IsFrontOf now) (sym one) (with_name-front now (generated value))))
+    (ap (λ ns. with_names ns (map generated (drop (i + 1) values))) one ∙ names_more now values i value lt at ∙ is)
 
 -- ---- objects with their values' names
 

@@ -1,8 +1,9 @@
 //! The objects that values stand for.
-ghost use Rattle.std.specs.Prelude.{◌≡◌, ◌+◌, ◌<◌, map, length, IfOk, OnOk};
+ghost use Rattle.std.specs.Prelude.{◌≡◌, ◌+◌, ◌<◌, map, length, IfOk, OnOk, OnErr};
 ghost use Rattle.certify.specs.Outputs.{AreNamed};
 ghost use Rattle.transcript_model.specs.Names.{generated};
 ghost use Rattle.task_model.specs.Known.{with_names};
+ghost use Rattle.fact_store.specs.Growth.{IsBetween};
 ghost use Rattle.fact_store.specs.declared.facts.TheConstants.{MOST_NAMES};
 
 use fact_store::Facts;
@@ -19,7 +20,8 @@ pub fn generated_name(alloc: Global, value: &Name) -> Result<Name, AllocError>
     Ok(Name::new(bytes))
 }
 
-/// Gives the values' objects their numbers, and answers these.
+/// Gives the values' objects their numbers, and answers these. Fails only where memory is wanting;
+/// then the first of them may have their numbers.
 pub(crate) fn name_outputs(
     facts: &mut Facts,
     alloc: Global,
@@ -28,6 +30,8 @@ pub(crate) fn name_outputs(
     requires { length facts.old.known.names + length values.now < MOST_NAMES }
     ensures names { OnOk result (facts.new.known.names
         ≡ with_names facts.old.known.names (map generated values.now)) }
+    ensures part { OnErr result (IsBetween facts.old.known.names facts.new.known.names
+        (with_names facts.old.known.names (map generated values.now))) }
     ensures objects { IfOk result (λ objects. AreNamed facts.new.known.names objects values.now) }
     ensures facts { facts.new.known.facts ≡ facts.old.known.facts }
     ensures values { facts.new.known.values ≡ facts.old.known.values }

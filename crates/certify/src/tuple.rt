@@ -1,12 +1,13 @@
 //! What one tuple of a yield certifies.
-ghost use Rattle.std.specs.Prelude.{◌≡◌, ◌≤◌, ◌<◌, ◌+◌, map, length, true, All, IfOk, OnOk};
+ghost use Rattle.std.specs.Prelude.{◌≡◌, ◌≤◌, ◌<◌, ◌+◌, map, length, true, All, IfOk, OnOk, OnErr};
 ghost use Rattle.std.specs.List.{list_all};
-ghost use Rattle.certify.specs.Tuples.{Teaches};
+ghost use Rattle.certify.specs.Tuples.{Teaches, with_tuple};
 ghost use Rattle.formula_eval.specs.Readable.{is_readable_term};
 ghost use Rattle.task_model.specs.Fit.{IsFitDomain, is_fit_stream};
 ghost use Rattle.task_model.specs.Known.{IsIn, with_facts};
 ghost use Rattle.task_model.specs.Streams.{output_types, fact_of};
 ghost use Rattle.task_model.specs.Truth.{slots_of, objects_at as objects_of_terms};
+ghost use Rattle.fact_store.specs.Growth.{IsBetween, LiesBetween};
 ghost use Rattle.fact_store.specs.declared.facts.TheConstants.{MOST_NAMES};
 
 use crate::outputs::name_outputs;
@@ -15,7 +16,8 @@ use formula_eval::{Env, objects_at};
 use std::alloc::{AllocError, Global};
 use task_model::{Domain, Fact, Kind, Name, Obj, Pattern, Row, Stream};
 
-/// That each of these objects has its type, with all supertypes.
+/// That each of these objects has its type, with all supertypes. Fails only where memory is
+/// wanting; then the first of these facts may be known.
 fn learn_types(
     facts: &mut Facts,
     alloc: Global,
@@ -27,8 +29,11 @@ fn learn_types(
     requires named { All (IsIn facts.old.known.names) objects.now }
     ensures facts { OnOk result (facts.new.known.facts
         ≡ with_facts facts.old.known.facts (output_types domain.now sorts.now objects.now)) }
-    ensures names { OnOk result (facts.new.known.names ≡ facts.old.known.names) }
-    ensures values { OnOk result (facts.new.known.values ≡ facts.old.known.values) }
+    ensures part { OnErr result (IsBetween facts.old.known.facts facts.new.known.facts
+        (with_facts facts.old.known.facts
+        (output_types domain.now sorts.now objects.now))) }
+    ensures names { facts.new.known.names ≡ facts.old.known.names }
+    ensures values { facts.new.known.values ≡ facts.old.known.values }
 {
     for (place, sort) in sorts.iter().enumerate() {
         add_supertypes(facts, alloc, domain, *sort, objects[place])?;
@@ -36,7 +41,8 @@ fn learn_types(
     Ok(())
 }
 
-/// That the patterns' atoms are facts where the slots have these objects.
+/// That the patterns' atoms are facts where the slots have these objects. Fails only where memory
+/// is wanting; then the first of them may be known.
 fn learn_atoms(
     facts: &mut Facts,
     alloc: Global,
@@ -50,8 +56,10 @@ fn learn_atoms(
         (objects_of_terms (slots_of args.now) p.args)) patterns.now }
     ensures facts { OnOk result (facts.new.known.facts
         ≡ with_facts facts.old.known.facts (map (fact_of (slots_of args.now)) patterns.now)) }
-    ensures names { OnOk result (facts.new.known.names ≡ facts.old.known.names) }
-    ensures values { OnOk result (facts.new.known.values ≡ facts.old.known.values) }
+    ensures part { OnErr result (IsBetween facts.old.known.facts facts.new.known.facts
+        (with_facts facts.old.known.facts (map (fact_of (slots_of args.now)) patterns.now))) }
+    ensures names { facts.new.known.names ≡ facts.old.known.names }
+    ensures values { facts.new.known.values ≡ facts.old.known.values }
 {
     let env = Env::new(args);
     for pattern in patterns {
@@ -70,7 +78,7 @@ fn learn_atoms(
 /// 2020). It answers the objects. The stream is one of a fit task, and there are as many inputs and
 /// values as it says.
 ///
-/// Fails only where memory is wanting; then some of it may be known.
+/// Fails only where memory is wanting; then a part of it may be known, and nothing else.
 pub fn learn_tuple(
     facts: &mut Facts,
     alloc: Global,
@@ -86,8 +94,10 @@ pub fn learn_tuple(
     requires named { All (IsIn facts.old.known.names) inputs.now }
     requires constants { length domain.now.constants ≤ length facts.old.known.names }
     requires room { length facts.old.known.names + length values.now < MOST_NAMES }
-    ensures { IfOk result (Teaches domain.now stream.now inputs.now values.now
+    ensures all { IfOk result (Teaches domain.now stream.now inputs.now values.now
         facts.old.known facts.new.known) }
+    ensures part { OnErr result (LiesBetween facts.old.known facts.new.known
+        (with_tuple domain.now stream.now inputs.now values.now facts.old.known)) }
 {
     let outputs = name_outputs(facts, alloc, values)?;
     learn_types(

@@ -1,5 +1,5 @@
 //! What the answer of a cost stream certifies.
-ghost use Rattle.std.specs.Prelude.{◌≡◌, ◌≤◌, [], length, true, All, OnOk};
+ghost use Rattle.std.specs.Prelude.{◌≡◌, ◌≤◌, [], length, true, All, OnOk, OnErr};
 ghost use Rattle.std.specs.List.{cons_option};
 ghost use Rattle.task_model.specs.Fit.{IsFitDomain, is_fit_stream};
 ghost use Rattle.task_model.specs.Known.{IsIn, with_values};
@@ -60,6 +60,7 @@ pub fn learn_value(
         ≡ with_values facts.old.known.values (worth_by stream.now inputs.now value)) }
     ensures names { facts.new.known.names ≡ facts.old.known.names }
     ensures facts { facts.new.known.facts ≡ facts.old.known.facts }
+    ensures err { OnErr result (facts.new ≡ facts.old) }
 {
     let Some(worth) = &stream.worth else {
         return Ok(());

@@ -38,7 +38,8 @@ module _ (task : Task) (entries : List Entry) (n width : ℕ) where
       ≡ option_and_then (tuple_of (names_of task entries) width) (find (is_answer_to n) es)
   first_gives [] one = refl
   first_gives (e ∷ es) one =
-      by (is_answer_to n e) refl (first_gives es (λ j k x y at later is again lt. one (suc j) (suc k) x y at later is again (omega (arith, lt))))
+      by (is_answer_to n e) refl
+      (first_gives es (λ j k x y at later is again lt. one (suc j) (suc k) x y at later is again (omega (arith, lt))))
     where
       f : Entry → Option (List ℕ)
       f = tuple_in task entries n width
@@ -58,7 +59,8 @@ module _ (task : Task) (entries : List Entry) (n width : ℕ) where
           (λ k d at. false_by (is_answer_to n d) (λ again. one 0 (suc k) e d refl at is again (omega arith))) i)) 0)
           ∙ only (tuple_of (names_of task entries) width e)
       by false is rest =
-          ap (λ o. slice_get (cons_option o (filter_map (tuple_in task entries n width) es)) 0) (other_gives task entries n width e is) ∙ rest
+          ap (λ o. slice_get (cons_option o (filter_map (tuple_in task entries n width) es)) 0)
+          (other_gives task entries n width e is) ∙ rest
 
 -- what the answers behind a transcript give for a request that was made there
 pub objects_came : (version : ℕ) (task : Task) (before behind : List Entry) (n width : ℕ)

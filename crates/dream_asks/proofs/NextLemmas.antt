@@ -10,7 +10,7 @@ use Rattle.dream_asks.specs.Next.{asks_by, ready_by}
 use Rattle.dream_asks.specs.Progress.{IsProgress, Progress, numbered}
 use Rattle.dream_asks.specs.declared.asks.DreamAsk.{DreamAsk}
 use Rattle.lemmas.proofs.Ascending.{contains_cases, contains_none}
-use Rattle.lemmas.proofs.Bools.{not_both, not_true}
+use Rattle.lemmas.proofs.Bools.{not_both, not_true, right_false}
 use Rattle.lemmas.proofs.Distinct.{distinct_cons}
 use Rattle.lemmas.proofs.Members.{distinct_nil}
 use Rattle.lemmas.specs.Lists.{AreDistinct}
@@ -172,11 +172,7 @@ module _ (task : Task) (before : List Entry) (real : ℕ) (sent : List Sent) whe
   }
     where
       later : (j : Instance) → IsFree (i ∷ taken) j → IsFree taken j
-      later j f = record { due = f.due; new = behind (same_instance j i) (list_any (same_instance j) taken) f.new }
-        where
-          behind : (a b : Bool) → (a || b) ≡ false → b ≡ false
-          behind true b e = absurd (cc)
-          behind false b e = e
+      later j f = record { due = f.due; new = right_false (same_instance j i) (list_any (same_instance j) taken) f.new }
 
       by : (j : Instance) → (i ≡ j) ⊎ Contains list j → IsFree taken j
       by j (inl same) = subst (IsFree taken) same free

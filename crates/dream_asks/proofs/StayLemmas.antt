@@ -6,8 +6,8 @@ use Rattle.std.proofs.lemmas.List.Elements.{Contains-append_left, filter_map-app
 use Rattle.std.proofs.lemmas.List.Folds.{list_any-append}
 use Rattle.std.specs.Cmp.{first_so}
 use Rattle.std.specs.List.{cons_option, filter_map, list_any}
-use Rattle.std.specs.Option.{option_map, option_and_then}
-use Rattle.lemmas.proofs.Ascending.{contains_here, contains_later, in_flat_map}
+use Rattle.certify.proofs.TuplesLemmas.{places_found}
+use Rattle.lemmas.proofs.Ascending.{in_flat_map}
 use Rattle.lemmas.proofs.Bools.{false_by, left_false, not_both, not_true, or_true}
 use Rattle.lemmas.proofs.Members.{get_behind, get_take, member_at}
 use Rattle.lemmas.specs.Lists.{AreDistinct}
@@ -15,7 +15,7 @@ use Rattle.task_model.specs.Fit.{IsFit}
 use Rattle.task_model.specs.declared.task.Task.{Task}
 use Rattle.transcript_model.proofs.LegalNumberLemmas.{asks_more, number_below, request_number, waiting_of}
 use Rattle.transcript_model.proofs.LegalPrefixLemmas.{first_request, legal_take, names_of-distinct, names_of-front}
-use Rattle.transcript_model.proofs.NamesLemmas.{place_found, places_kept, with_names-has}
+use Rattle.transcript_model.proofs.NamesLemmas.{places_kept, with_names-has}
 use Rattle.transcript_model.specs.Dreaming.{Sent, first_tuple, tuple_in}
 use Rattle.transcript_model.specs.Legal.{IsLegal, asks_of, is_answer_to, is_ask_of, is_open}
 use Rattle.transcript_model.specs.Names.{generated, places_of}
@@ -151,17 +151,6 @@ module _ (task : Task) (entries : List Entry) (n width : ℕ) where
       (λ i. cons_option (other_gives e (none 0 e refl) i) (none_gives es (λ k d at. none (suc k) d at) i))
 
 -- ---- what stays
-
--- names that are all in a table have places there
-places_found : (names more : List (List ℕ)) → AreDistinct names → ((name : List ℕ) → Contains more name → Contains names name)
-    → (objects : List ℕ) × (places_of names more ≡ Some objects)
-places_found names [] distinct all = ([], refl)
-places_found names (name ∷ more) distinct all =
-    let first = place_found names name distinct (all name (contains_here name more)) in
-    let rest = places_found names more distinct (λ m there. all m (contains_later name more m there)) in (
-      first.0 ∷ rest.0,
-      (λ i. option_and_then (λ object. option_map (λ objects. object ∷ objects) (rest.1 i)) (first.1 i)),
-    )
 
 module _ (task : Task) (before more : List Entry) (distinct : AreDistinct (declared_names task)) (n width : ℕ) where
   mapped_front : (values : List (List ℕ)) (name : List ℕ) → Contains (map generated (take width values)) name

@@ -9,8 +9,8 @@ use Rattle.transcript_model.specs.Dreaming.{Sent, first_tuple, paired, sent_inst
 use Rattle.transcript_model.specs.Legal.{asks_of}
 use Rattle.transcript_model.specs.declared.entry.Entry.{Entry}
 
--- So many objects were real before the dream. These instances were asked of it, and these objects came for placeholders:
--- pairs of a placeholder and its object.
+-- So many objects were real before the dream. These instances were asked of it, and these objects came for
+-- placeholders: pairs of a placeholder and its object.
 pub record Progress : Type 0 where
   pub real : ℕ
   pub taken : List Instance

@@ -51,7 +51,8 @@ pub(crate) fn first_objects(
     number: u64,
     width: usize,
 ) -> Result<Option<Row>, AllocError>
-    ensures { IfOk result (λ row. row ≡ objects_for facts.now.known.names entries.now number width) }
+    ensures { IfOk result (λ row. row
+        ≡ objects_for facts.now.known.names entries.now number width) }
 {
     let Some(Entry::Got { values, .. }) = answer_to(entries, number) else {
         return Ok(None);

@@ -72,7 +72,8 @@ module _ (places : List ℕ) (last : ℕ) (ascend : AreAscending nat_cmp (places
       let many : length (places ++ last ∷ []) ≡ length places + 1 = length_push places last in
       let at_last = get_append (places ++ last ∷ []) (place ∷ []) (length places) last (get_at_length places last) in
       let at_place = get_at_length (places ++ last ∷ []) place in
-      let lt = from_less last place (all (length places) (length (places ++ last ∷ [])) last place (omega (arith, many)) at_last at_place) in
+      let lt =
+      from_less last place (all (length places) (length (places ++ last ∷ [])) last place (omega (arith, many)) at_last at_place) in
       omega (arith, lt)
 
   next_at : (last + 1 ≤ place) ↔ AreAscending nat_cmp ((places ++ last ∷ []) ++ place ∷ [])

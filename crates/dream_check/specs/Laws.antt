@@ -13,6 +13,7 @@ use Rattle.dream_check.specs.Lines.{IsWrongLine}
 -- No line of a dream is wrong.
 abbrev pub DreamsHaveNoWrongLine : Type 0
 DreamsHaveNoWrongLine =
-    (limits : Limits) (task : Task) (before : List Entry) (tried : List Instance) (uses : List DreamUse) (steps : List Call)
-    (entries : List dreams.Entry) (offset : ℕ) → IsDreamAfter limits task before tried uses steps entries
+    (limits : Limits) (task : Task) (before : List Entry) (tried : List Instance) (uses : List DreamUse)
+    (steps : List Call) (entries : List dreams.Entry) (offset : ℕ)
+    → IsDreamAfter limits task before tried uses steps entries
     → ¬ (IsWrongLine limits task before tried uses steps offset)

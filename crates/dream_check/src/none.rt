@@ -13,9 +13,11 @@ use std::alloc::{AllocError, Global};
 use task_model::{Look, Task};
 use transcript_ledger::Ledger;
 
-/// Whether there is a plan, or None where more than so many states are reached. Fails only where
-/// memory is wanting.
-fn is_solvable_within<L: Look>(
+/// Whether there is a plan, or None where more than so many states are reached.
+///
+/// # Errors
+/// Only where memory is wanting.
+pub fn is_solvable_within<L: Look>(
     alloc: Global,
     task: &Task,
     look: &L,

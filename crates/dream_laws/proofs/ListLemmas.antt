@@ -171,7 +171,8 @@ module _ (task : Task) (known : Known) where
           stream = h.stream;
           named = h.named;
           unfinished = h.unfinished;
-          supported = subst (λ es. is_supported task known list es e ≡ true) (append-nil (take k old) ∙ sym (added_front list old pass.more pass.added k few))
+          supported = subst (λ es. is_supported task known list es e ≡ true)
+              (append-nil (take k old) ∙ sym (added_front list old pass.more pass.added k few))
               (support_stays task known old list (take k old) [] e h.supported);
         }
 

@@ -1,10 +1,11 @@
 -- Dreams after a transcript: what a session knows, and what an answer over a list means then.
-use Rattle.std.proofs.Common.{◌≡◌, ℕ, ◌≤◌, inl, arith, false, true, cond, ◌&&◌, List, [], ◌∷◌, ◌++◌, length, map, take, sym, ap, subst, ◌∙◌, Some, slice_get, Result, Ok, Err}
+use Rattle.std.proofs.Common.{◌≡◌, ℕ, ◌≤◌, inl, arith, false, true, cond, ◌&&◌, List, [], ◌∷◌, ◌++◌, length, map, take, sym, ap, subst, ◌∙◌, Some, slice_get, Result}
 use Rattle.std.proofs.lemmas.List.{length-map, take_all}
 use Rattle.std.proofs.lemmas.Option.{same_Some}
 use Rattle.std.proofs.lemmas.List.Elements.{All-nil, All-head, All-tail, All-append}
 use Rattle.std.specs.Cmp.{first_so}
 use Rattle.std.specs.List.{list_any, list_all, flat_map}
+use Rattle.std.proofs.lemmas.Result.{IfOk-weaker}
 use Rattle.std.specs.Prelude.{IfOk}
 use Rattle.certify.proofs.OutputsLemmas.{names_grow}
 use Rattle.dream_laws.proofs.FreshLemmas.{each_is_fresh}
@@ -115,10 +116,6 @@ listed task known notes tried depth d base so is plain = record {
 
 -- ---- answers
 
-pub ok_map : {T E : Type 0} (r : Result T E) (P Q : T → Type 0) → ((x : T) → P x → Q x) → IfOk r P → IfOk r Q
-ok_map (Ok x) P Q f p = f x p
-ok_map (Err e) P Q f p = p
-
 pub thin_comes : (task : Task) (d : Dreamable) (steps : List GroundAction) (most : ℕ) → length steps ≤ most → (x : Dreamt)
     → IsThinDream task d steps x → ComesOfList task d most x
 thin_comes task d steps most few (Dream uses shown entries plan cost) t = (t.0, omega (arith, few, ap length t.1))
@@ -176,20 +173,20 @@ module _ (task : Task) (s : State) (h : IsSession task s) (working : s.failed �
       {E : Type 0} (r : Result Dreamt E) (of_list : IfOk r (ComesOfList task d most)) where
     pub session_dreams : (limits : Limits) → limits.depth ≡ depth → IfOk r (IsDreamed limits task s.entries tried)
     session_dreams limits deep =
-        ok_map r (ComesOfList task d most) (IsDreamed limits task s.entries tried)
+        IfOk-weaker r (ComesOfList task d most) (IsDreamed limits task s.entries tried)
         (dreamed limits task s.entries tried d l (base ∙ there) (supposed_there limits deep d.list so) most) of_list
 
     pub session_knows : IfOk r (IsKnownPlan task s.entries)
     session_knows =
-        ok_map r (ComesOfList task d most) (IsKnownPlan task s.entries) (plan_known task s.entries d l (base ∙ there) most) of_list
+        IfOk-weaker r (ComesOfList task d most) (IsKnownPlan task s.entries) (plan_known task s.entries d l (base ∙ there) most) of_list
 
     pub session_few : IfOk r (HasFewSteps most)
-    session_few = ok_map r (ComesOfList task d most) (HasFewSteps most) (few_steps task d most) of_list
+    session_few = IfOk-weaker r (ComesOfList task d most) (HasFewSteps most) (few_steps task d most) of_list
 
     pub session_sure : (limits : Limits) → limits.depth ≡ depth → limits.states ≡ most
         → IfOk r (IsSureNone limits task s.entries tried)
     session_sure limits deep same =
-        ok_map r (ComesOfList task d most) (IsSureNone limits task s.entries tried)
+        IfOk-weaker r (ComesOfList task d most) (IsSureNone limits task s.entries tried)
         (λ x c. sure limits task s.entries tried d l (base ∙ there) (supposed_there limits deep d.list so) x
         (subst (λ n. ComesOfList task d n x) (sym same) c)) of_list
 

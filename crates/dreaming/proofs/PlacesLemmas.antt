@@ -1,6 +1,6 @@
 -- Entries at places of a list.
 use Rattle.std.proofs.Common.{◌≡◌, ℕ, zero, suc, ◌+◌, ◌-◌, ◌<◌, ◌≤◌, inl, inr, arith, List, [], ◌∷◌, ◌++◌, length, map, take, drop, get_or, refl, sym, ap, subst, ◌∙◌, Option, Some, None, slice_get, All, Contains, append_assoc}
-use Rattle.std.proofs.lemmas.List.{length-append, length-drop, length-map, take_all, take_more, take-map, drop-map}
+use Rattle.std.proofs.lemmas.List.{length-append, length-map, take_more, take-map, drop-map}
 use Rattle.std.proofs.lemmas.List.Elements.{All-head, All-tail, filter_map-append}
 use Rattle.std.proofs.lemmas.Option.{slice_get_within, get_or_from_slice_get, same_Some}
 use Rattle.std.specs.Cmp.{nat_cmp_is}
@@ -79,9 +79,6 @@ entries_more list places i e lt at =
     ap (entries_at list) (take_more places i 0 lt) ∙ entries_pushed list (take i places) (get_or places i 0) e at
 
 -- ---- fronts and rests
-
-pub rest_whole : {A : Type 0} (xs : List A) (n : ℕ) → take (length xs - n) (drop n xs) ≡ drop n xs
-rest_whole xs n = take_all (length xs - n) (drop n xs) (omega (arith, length-drop n xs))
 
 pub below_at : (n : ℕ) (places : List ℕ) → All (λ place. place < n) places → (k p : ℕ) → slice_get places k ≡ Some p → p < n
 below_at n places below k p at =

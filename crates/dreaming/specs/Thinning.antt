@@ -93,8 +93,8 @@ module _ (task : Task) (d : Dreamable) (steps : List GroundAction) where
 
 -- ---- a trial
 
--- The list is one of what is supposed, the plan is short enough to be checked, and entries with a wanted output can't be
--- left out.
+-- The list is one of what is supposed, the plan is short enough to be checked, and entries with a wanted output
+-- can't be left out.
 pub record IsTrial (t : Trial) : Type 0 where
   pub listed : IsListing t.listing
   pub few : length t.plan.now.steps < 2 ^ 26

@@ -1,5 +1,6 @@
 pub mod InitialLemmas
 pub mod EqualityLemmas
+pub mod GrowthLemmas
 pub mod StoreLemmas
 pub mod NamePlaceLemmas
 pub mod ScanLemmas

@@ -1,4 +1,5 @@
 pub mod Atoms
+pub mod Growth
 pub mod Least
 pub mod Store
 pub mod Tables

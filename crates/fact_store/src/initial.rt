@@ -1,10 +1,11 @@
 //! What is known at first: the declared objects with their types, the static atoms and the values
 //! of functions.
-ghost use Rattle.std.specs.Prelude.{◌≡◌, ◌==◌, ◌≤◌, ◌<◌, ◌++◌, ◌∷◌, [], map, filter, length, true, slice_get, option_map, unwrap_or, OnOk};
+ghost use Rattle.std.specs.Prelude.{◌≡◌, ◌==◌, ◌≤◌, ◌<◌, ◌++◌, ◌∷◌, [], map, filter, length, true, slice_get, option_map, unwrap_or, OnOk, OnErr};
 ghost use Rattle.std.specs.List.{flat_map, list_all, list_any};
 ghost use Rattle.task_model.specs.Fit.{is_fit_fact, is_fit_value};
 ghost use Rattle.task_model.specs.Initial.{type_facts, declared_types, is_static};
 ghost use Rattle.task_model.specs.Known.{IsIn, type_fact, with_fact, with_facts, with_values};
+ghost use Rattle.fact_store.specs.Growth.{IsBetween};
 ghost use Rattle.lemmas.specs.Lists.{AreDistinct, numbers_from};
 ghost use Rattle.task_model.specs.Roles.{role_of};
 
@@ -32,13 +33,14 @@ pub(crate) fn add_names(
     Ok(())
 }
 
-/// That the object has the type.
+/// That the object has the type. Fails only where memory is wanting, and leaves all as it was then.
 fn add_type(facts: &mut Facts, alloc: Global, sort: u32, object: Obj) -> Result<(), AllocError>
     requires { IsIn facts.old.known.names object }
     ensures facts { OnOk result (facts.new.known.facts
         ≡ with_fact facts.old.known.facts (type_fact sort object)) }
-    ensures names { OnOk result (facts.new.known.names ≡ facts.old.known.names) }
-    ensures values { OnOk result (facts.new.known.values ≡ facts.old.known.values) }
+    ensures err { OnErr result (facts.new.known.facts ≡ facts.old.known.facts) }
+    ensures names { facts.new.known.names ≡ facts.old.known.names }
+    ensures values { facts.new.known.values ≡ facts.old.known.values }
 {
     let args = Row::new(alloc, &[object])?;
     facts.add(Fact {
@@ -49,13 +51,16 @@ fn add_type(facts: &mut Facts, alloc: Global, sort: u32, object: Obj) -> Result<
     Ok(())
 }
 
-/// That the object has each of these types.
+/// That the object has each of these types. Fails only where memory is wanting; then the first of
+/// them may be known.
 fn add_types(facts: &mut Facts, alloc: Global, sorts: &[u32], object: Obj) -> Result<(), AllocError>
     requires { IsIn facts.old.known.names object }
     ensures facts { OnOk result (facts.new.known.facts
         ≡ with_facts facts.old.known.facts (map (λ s. type_fact s object) sorts.now)) }
-    ensures names { OnOk result (facts.new.known.names ≡ facts.old.known.names) }
-    ensures values { OnOk result (facts.new.known.values ≡ facts.old.known.values) }
+    ensures part { OnErr result (IsBetween facts.old.known.facts facts.new.known.facts
+        (with_facts facts.old.known.facts (map (λ s. type_fact s object) sorts.now))) }
+    ensures names { facts.new.known.names ≡ facts.old.known.names }
+    ensures values { facts.new.known.values ≡ facts.old.known.values }
 {
     for sort in sorts {
         add_type(facts, alloc, *sort, object)?;
@@ -82,7 +87,8 @@ fn has_object(sort: u32, above: &[u32]) -> bool
 }
 
 /// Puts behind the facts that the object has the type, with all supertypes and `object`. The object
-/// has a name. Fails only where memory is wanting; then some of it may be known.
+/// has a name. Fails only where memory is wanting; then the first of these facts may be known, and
+/// nothing else has changed.
 pub fn add_supertypes(
     facts: &mut Facts,
     alloc: Global,
@@ -93,8 +99,10 @@ pub fn add_supertypes(
     requires { IsIn facts.old.known.names object }
     ensures facts { OnOk result (facts.new.known.facts
         ≡ with_facts facts.old.known.facts (type_facts domain.now sort object)) }
-    ensures names { OnOk result (facts.new.known.names ≡ facts.old.known.names) }
-    ensures values { OnOk result (facts.new.known.values ≡ facts.old.known.values) }
+    ensures part { OnErr result (IsBetween facts.old.known.facts facts.new.known.facts
+        (with_facts facts.old.known.facts (type_facts domain.now sort object))) }
+    ensures names { facts.new.known.names ≡ facts.old.known.names }
+    ensures values { facts.new.known.values ≡ facts.old.known.values }
 {
     let above = supertypes(domain, sort);
     add_type(facts, alloc, sort, object)?;

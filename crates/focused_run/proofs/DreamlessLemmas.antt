@@ -69,7 +69,8 @@ module _ (head : Head) (task : Task) (skeletons : List Skeleton) (may : MayFallB
   pushed : new.entries ≡ old.entries ++ entry.Nothing ∷ ran.more
   pushed = ran.pushed ∙ ap (λ es. es ++ ran.more) marked.entries ∙ append_assoc old.entries (entry.Nothing ∷ []) ran.more
 
-  turn : TurnOf head.mode (limits_of head) task (carrying skeletons tried) old.entries (entry.Nothing ∷ ran.more) (carrying skeletons []) (cut_by b)
+  turn : TurnOf head.mode (limits_of head) task (carrying skeletons tried) old.entries (entry.Nothing ∷ ran.more)
+      (carrying skeletons []) (cut_by b)
   turn =
       empty_turn head task skeletons may tried old.entries ran.more (cut_by b) none
       (subst (λ es. IsFallback (limits_of head) task es tried ran.more (cut_by b)) marked.entries fallback)
@@ -125,7 +126,8 @@ module _ (head : Head) (task : Task) (skeletons : List Skeleton) (may : MayFallB
     turned = (
       entry.Nothing ∷ ran.more,
       pushed,
-      subst (λ c. TurnOf head.mode (limits_of head) task (carrying skeletons tried) old.entries (entry.Nothing ∷ ran.more) (carrying skeletons []) c)
+      subst (λ c. TurnOf head.mode (limits_of head) task (carrying skeletons tried) old.entries (entry.Nothing ∷ ran.more)
+          (carrying skeletons []) c)
           (ap cut_by e) turn,
     );
     falls = λ done. falls is_tried refl;
@@ -139,7 +141,8 @@ module _ (head : Head) (task : Task) (skeletons : List Skeleton) (may : MayFallB
         entry.Nothing ∷ ran.more,
         carrying skeletons [],
         pushed,
-        subst (λ c. TurnOf head.mode (limits_of head) task (carrying skeletons tried) old.entries (entry.Nothing ∷ ran.more) (carrying skeletons []) c)
+        subst (λ c. TurnOf head.mode (limits_of head) task (carrying skeletons tried) old.entries
+            (entry.Nothing ∷ ran.more) (carrying skeletons []) c)
             (ap cut_by e) turn,
         spent_sure head task new (length mid.asked) (length dues) b rests.works.listens.working rests.works.learnt
             rests.works.listens.session rests.works.of e (ran.level (untried e is_tried refl)),

@@ -201,7 +201,7 @@ module _ (head : Head) (task : Task) (fit : IsFit task) (is : head.mode ≡ Focu
     cut : cut_by b ≡ is_cut (limits_of head) marked firsts
     cut =
         batch_cut head task marked new.entries (length old.asked) (length new.asked) (length dues) firsts b
-        (counted ∙ sym (asks_marked old.entries (entry.Dream d.uses d.steps) refl)) room.left as_many ran.ends
+        (counted ∙ sym (asks_marked old.entries (entry.Dream d.uses d.steps) refl)) (omega (arith, room.left)) as_many ran.ends
 
     turn : TurnOf head.mode (limits_of head) task (carried tried) old.entries ran.now
         (carried (tried ++ sent_instances (take (calls_left (limits_of head) marked) firsts))) (cut_by b)

@@ -23,8 +23,11 @@ use std::alloc::{AllocError, Global};
 use task_model::Task;
 use transcript_model::{Entry, Head};
 
-/// Puts the instances behind those that were tried. Fails only where memory is wanting.
-fn join(tried: &mut Tried, asks: &[Due]) -> Result<(), AllocError>
+/// Puts the instances behind those that were tried.
+///
+/// # Errors
+/// Only where memory is wanting.
+pub fn join(tried: &mut Tried, asks: &[Due]) -> Result<(), AllocError>
     ensures { OnOk result (tried.new ≡ tried.old ++ instances_of asks.now) }
 {
     for ask in asks {

@@ -7,4 +7,5 @@ mod dreamt;
 mod focused_mode;
 
 pub use dreamless::{turned, without_dream};
+pub use dreamt::join;
 pub use focused_mode::focused;

@@ -36,7 +36,8 @@ StandsAmong known state pred (Facts at object) objects place =
 
 -- the lead's atom, where the slots have these objects, is at this place
 abbrev pub StandsAt : Known → Atoms → Lead → List ℕ → ℕ → Type 0
-StandsAt known state lead slots place = StandsAmong known state lead.pred lead.among (objects_at slots lead.terms.now) place
+StandsAt known state lead slots place =
+    StandsAmong known state lead.pred lead.among (objects_at slots lead.terms.now) place
 
 -- The same lead, but by the facts that have the object of one of its terms.
 pub record IsInFacts (slot : ℕ) (slots : List ℕ) (before lead : Lead) : Type 0 where
@@ -54,7 +55,8 @@ pub record IsLead (domain : Domain) (condition : Condition) (slot : ℕ) (slots 
       → (place : ℕ) × StandsAt known state lead after place
 
 -- At this place stands the lead's atom with the object in the slot, where the slots below have the same objects.
-pub record IsLedTo (known : Known) (state : Atoms) (lead : Lead) (slot : ℕ) (slots : List ℕ) (place object : ℕ) : Type 0 where
+pub record IsLedTo (known : Known) (state : Atoms) (lead : Lead) (slot : ℕ) (slots : List ℕ)
+    (place object : ℕ) : Type 0 where
   pub after : List ℕ
   pub same : IsSameBelow slot slots after
   pub here : slice_index after slot ≡ object

@@ -16,9 +16,10 @@ use Rattle.transcript_model.specs.declared.outcome.Outcome.{Outcome}
 use Rattle.level_run.specs.Advancing.{Advances, Falls, RanTurns, TurnBreaks}
 use Rattle.level_run.specs.Reports.{IsRun}
 use Rattle.level_run.specs.Turns.{HasTurnLine, opens_requests}
-use Rattle.round_run.proofs.BreakingRunLemmas.{levels_broken, marked_breaks, quiet_breaks, run_breaks_as, stops_then_stops}
-use Rattle.round_run.proofs.CallsRunLemmas.{runs_mark, runs_marked, runs_none, runs_then, stops_none}
+use Rattle.round_run.proofs.BreakingRunLemmas.{marked_breaks, quiet_breaks, run_breaks_as, stops_then_stops}
+use Rattle.round_run.proofs.CallsRunLemmas.{runs_mark, runs_marked, runs_none, stops_none}
 use Rattle.round_run.proofs.StoppedLemmas.{goes_then}
+use Rattle.round_run.proofs.StretchLemmas.{breaks_on, runs_on}
 use Rattle.round_run.proofs.TalkingLemmas.{dialogue_told, told_of}
 use Rattle.round_run.specs.Batches.{AreStarted}
 use Rattle.round_run.specs.Breaking.{RunBreaks, Tells}
@@ -51,6 +52,13 @@ line_put : (mode : Mode) (e : Entry) → opens_requests mode e ≡ true → (bef
     → before ++ e ∷ [] ≡ before ++ front → HasTurnLine mode (front ++ more)
 line_put mode e opens before front more is =
     subst (λ es. HasTurnLine mode (es ++ more)) (append_cancel_left before (e ∷ []) front is) (0, e, refl, opens)
+
+-- one stretch needed no call, or has such a line, and so has the next
+line_on : (mode : Mode) (P Q : Type 0) (R : Type 0) (first second : List Entry) → (P → Q → R)
+    → P ⊎ HasTurnLine mode first → Q ⊎ HasTurnLine mode second → R ⊎ HasTurnLine mode (first ++ second)
+line_on mode P Q R first second both (inl p) (inl q) = inl (both p q)
+line_on mode P Q R first second both (inr there) w = inr (line_front mode first second there)
+line_on mode P Q R first second both (inl p) (inr there) = inr (line_behind mode first second there)
 
 -- ---- what went well
 
@@ -110,27 +118,25 @@ marked_advances task head e mark before mid after old new is next =
     by (inl still) = inl still
     by (inr there) = inr (line_behind head.mode (e ∷ []) next.runs.more there)
 
--- one after another, from the beginning
-pub advances_then : (task : Task) (head : Head) (a b : List Entry) (old mid new : Option (List Event))
-    → Advances task head [] a old mid → Advances task head a b mid new → Advances task head [] b old new
-advances_then task head a b old mid new first second =
-    let runs = runs_then task head a b old mid new first.runs second.runs in
-    let all : runs.more ≡ a ++ second.runs.more = sym runs.pushed ∙ second.runs.pushed in
+-- one after another
+pub advances_on : (task : Task) (head : Head) (base a b : List Entry) (old mid new : Option (List Event))
+    → Advances task head base a old mid → Advances task head a b mid new → Advances task head base b old new
+advances_on task head base a b old mid new first second =
+    let runs = runs_on task head base a b old mid new first.runs second.runs in
+    let all : runs.more ≡ first.runs.more ++ second.runs.more =
+    append_cancel_left base runs.more (first.runs.more ++ second.runs.more)
+    (sym runs.pushed ∙ second.runs.pushed ∙ ap (λ es. es ++ second.runs.more) first.runs.pushed
+    ∙ append_assoc base first.runs.more second.runs.more) in
     record {
       runs = runs;
-      needed = subst (λ es. (new ≡ old) ⊎ HasTurnLine head.mode es) (sym all) (by first.needed second.needed);
-      untouched = λ none. let parts = asks_more a second.runs.more in
+      needed = subst (λ es. (new ≡ old) ⊎ HasTurnLine head.mode es) (sym all)
+          (line_on head.mode (mid ≡ old) (new ≡ mid) (new ≡ old) first.runs.more second.runs.more (λ was still. still ∙ was)
+          first.needed second.needed);
+      untouched = λ none.
           let sum = ap asks_of all in
-          second.untouched (omega (arith, none, parts, sum))
-          ∙ first.untouched (omega (arith, none, parts, sum, ap asks_of first.runs.pushed));
+          let parts = asks_more first.runs.more second.runs.more in
+          second.untouched (omega (arith, none, sum, parts)) ∙ first.untouched (omega (arith, none, sum, parts));
     }
-  where
-    by : (mid ≡ old) ⊎ HasTurnLine head.mode first.runs.more → (new ≡ mid) ⊎ HasTurnLine head.mode second.runs.more
-        → (new ≡ old) ⊎ HasTurnLine head.mode (a ++ second.runs.more)
-    by (inl same) (inl still) = inl (still ∙ same)
-    by (inr there) w =
-        inr (line_front head.mode a second.runs.more (subst (HasTurnLine head.mode) (sym first.runs.pushed) there))
-    by (inl same) (inr there) = inr (line_behind head.mode a second.runs.more there)
 
 pub adds_then : (task : Task) (head : Head) (a b : List Entry) (old mid new : Option (List ℕ))
     (was half now : Option (List Event))
@@ -138,7 +144,7 @@ pub adds_then : (task : Task) (head : Head) (a b : List Entry) (old mid new : Op
     → GoesInOrder [] b old new (Advances task head [] b was now)
 adds_then task head a b old mid new was half now first second = record {
   goes = goes_then [] a b old mid new first.goes second.goes;
-  order = advances_then task head a b was half now first.order second.order;
+  order = advances_on task head [] a b was half now first.order second.order;
 }
 
 -- the run ends here
@@ -199,20 +205,17 @@ line_breaks task head Front e mark opens before mid front fault old new marked p
   inr (line_put head.mode e opens before front more (sym marked ∙ pushed)),
 )
 
--- behind whole turns
-pub turns_break : (task : Task) (head : Head) (Front : List Entry → Type 0) (a front : List Entry) (fault : RunFault)
+-- behind what went well
+pub turn_breaks_on : (task : Task) (head : Head) (Front : List Entry → Type 0) (base a front : List Entry) (fault : RunFault)
     (old mid new : Option (List Event))
-    → Advances task head [] a old mid → a ≡ front → (more : List Entry) → TurnBreaks task head a fault mid new Front more
-    → TurnBreaks task head [] fault old new Front (front ++ more)
-turns_break task head Front a front fault old mid new first pushed more (broken, needed) =
-    (levels_broken task head Front a front fault old mid new first.runs pushed more broken, by first.needed needed)
-  where
-    by : (mid ≡ old) ⊎ HasTurnLine head.mode first.runs.more → (new ≡ mid) ⊎ HasTurnLine head.mode more
-        → (new ≡ old) ⊎ HasTurnLine head.mode (front ++ more)
-    by (inl same) (inl still) = inl (still ∙ same)
-    by (inr there) w =
-        inr (line_front head.mode front more (subst (HasTurnLine head.mode) (sym first.runs.pushed ∙ pushed) there))
-    by (inl same) (inr there) = inr (line_behind head.mode front more there)
+    → Advances task head base a old mid → a ≡ base ++ front → (more : List Entry) → TurnBreaks task head a fault mid new Front more
+    → TurnBreaks task head base fault old new Front (front ++ more)
+turn_breaks_on task head Front base a front fault old mid new first pushed more (broken, needed) = (
+  breaks_on task head Front base a front fault old mid new first.runs pushed more broken,
+  line_on head.mode (mid ≡ old) (new ≡ mid) (new ≡ old) front more (λ was still. still ∙ was)
+      (subst (λ es. (mid ≡ old) ⊎ HasTurnLine head.mode es)
+      (append_cancel_left base first.runs.more front (sym first.runs.pushed ∙ pushed)) first.needed) needed,
+)
 
 -- the front of one is the front of another
 pub turn_breaks_as : (task : Task) (head : Head) (Other Front : List Entry → Type 0)

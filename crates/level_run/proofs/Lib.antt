@@ -6,3 +6,4 @@ pub mod TurnsFrontLemmas
 pub mod TurnsLevelLemmas
 pub mod TurnsOutcomeLemmas
 pub mod AskingLemmas
+pub mod TabledLemmas

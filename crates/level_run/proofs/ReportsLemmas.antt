@@ -18,20 +18,22 @@ use Rattle.mode_turns.proofs.CountsLemmas.{turn_keeps, turns_keep}
 use Rattle.mode_turns.proofs.ModesLemmas.{as_family}
 use Rattle.mode_turns.specs.Modes.{TurnOf, nothing_kept}
 use Rattle.transcript_model.specs.Rounds.{limits_of}
-use Rattle.round_run.proofs.StoppedLemmas.{appends_none, appends_then, lines_of_one, off_none}
+use Rattle.report_text.proofs.PrintsLemmas.{appends_none, appends_then}
+use Rattle.round_run.proofs.StoppedLemmas.{lines_of_one, off_none}
 use Rattle.io_world.specs.Talks.{Event, Same, Talk}
 use Rattle.level_run.proofs.AdvancingLemmas.{needed_more, needed_stops}
 use Rattle.level_run.specs.Advancing.{TurnBreaks}
-use Rattle.round_run.proofs.BreakingRunLemmas.{broken_more, broken_of, levels_broken, still_breaks, stops_then_stops}
+use Rattle.round_run.proofs.BreakingRunLemmas.{broken_more, broken_of, still_breaks, stops_then_stops}
 use Rattle.round_run.proofs.CallsRunLemmas.{stops_none}
 use Rattle.round_run.proofs.CallsStopLemmas.{ran_of, ran_stopped}
-use Rattle.round_run.specs.Breaking.{LogBroken, RunBreaks}
 use Rattle.round_run.specs.Calls.{LogRan, LogStops, Runs}
 use Rattle.round_run.proofs.TalkingLemmas.{dialogue_unasked}
 use Rattle.round_run.specs.Dialogue.{BrokenOff, Dialogue, IsSaid, replies_of, requests_of, workers_in}
 use Rattle.level_run.specs.Reports.{IsBroken, IsReported, IsRun, WasToWrite, text_of_end, text_so_far, whole_text, TookTo, begins_last, last_begins, report_of}
 use Rattle.round_run.specs.Rolling.{Goes, Stopped}
-use Rattle.round_run.specs.Stops.{Misses, StopsAt}
+use Rattle.report_text.specs.Prints.{CutOff}
+use Rattle.round_run.specs.Stops.{StopsAt}
+use Rattle.table_runs.specs.Tabled.{IsTabled}
 use Rattle.level_run.specs.Turns.{HasTurnLine, IsFrontOfRun}
 use Rattle.round_run.specs.declared.fault.RunFault.{RunFault}
 use Rattle.round_run.specs.declared.fault.RunFault.TheVariants.{Answer, Generator, Write, Memory}
@@ -79,24 +81,21 @@ module _ (task : Task) (head : Head) (spoken : ℕ → Option Talk) where
 
   -- the head was to be written
   pub broken_head : (fault : RunFault) (log : Option (List Event)) (old new : Option (List ℕ))
-      → Misses fault old new (text_of_head task head) → IsBroken task head spoken log log old new fault
-  broken_head Generator log old new misses = absurd misses
-  broken_head (Answer number why) log old new misses = absurd misses
-  broken_head Memory log old new misses =
-      record { text = []; form = inl (refl, refl, stops_none log); told = misses }
-  broken_head Write log old new misses = record {
-    text = text_of_head task head;
-    form = inr (inl (record {
-      entries = [];
-      front = front_nil;
-      blamed = tt;
-      talks = talks_nil Write;
-      calls = broken_of task head Front [] Write log log (still_breaks task head Front [] Write log refl);
-      needed = inl (stops_none log);
-      is = only_head;
-    }));
-    told = (misses.0, omega arith, misses.1, misses.2);
-  }
+      → fault ≡ Write → CutOff old new (text_of_head task head) → IsBroken task head spoken log log old new fault
+  broken_head fault log old new is cut =
+      subst (IsBroken task head spoken log log old new) (sym is) (record {
+        text = text_of_head task head;
+        form = inr (inl (record {
+          entries = [];
+          front = front_nil;
+          blamed = tt;
+          talks = talks_nil Write;
+          calls = broken_of task head Front [] Write log log (still_breaks task head Front [] Write log refl);
+          needed = inl (stops_none log);
+          is = only_head;
+        }));
+        told = (cut.count, omega arith, cut.less, cut.took);
+      })
 
   -- the head was written, and then no memory was there
   pub broken_behind : (fault : RunFault) (log : Option (List Event)) (old new : Option (List ℕ))
@@ -179,38 +178,12 @@ module _ (task : Task) (head : Head) (spoken : ℕ → Option Talk) where
 
   -- the outcome was to be written
   pub broken_end : (entries : List Entry) (o : Outcome) (fault : RunFault) (was now : Option (List Event)) (old mid new : Option (List ℕ))
-      → IsRun task head entries o → Dialogue task head.version (workers_in head) entries spoken → Runs task head [] entries was now
+      → IsRun task head entries o → Dialogue task head.version (workers_in head) entries spoken → IsTabled task head entries spoken o
+      → Runs task head [] entries was now
       → (now ≡ was) ⊎ HasTurnLine head.mode entries → Appends old mid (text_so_far task head entries)
-      → Misses fault mid new (text_of_end head.version o) → IsBroken task head spoken was now old new fault
-  broken_end entries o Generator was now old mid new run talks runs needed first misses =
-      absurd misses
-  broken_end entries o (Answer number why) was now old mid new run talks runs needed first misses =
-      absurd misses
-  broken_end entries o Memory was now old mid new run talks runs needed first misses =
-      record {
-        text = text_so_far task head entries;
-        form = inr (inl (record {
-          entries = entries;
-          front = front;
-          blamed = tt;
-          talks = off_none head.version task (workers_in head) Front Memory entries spoken run.legal front talks;
-          calls = ended;
-          needed = needed_stops head.mode entries was now needed;
-          is = refl;
-        }));
-        told = subst (Appends old new) (append-nil (text_so_far task head entries))
-            (appends_then old mid new (text_so_far task head entries) [] first misses);
-      }
-    where
-      front : Front entries
-      front = record { stage = run.stage; turns = record { legal = run.legal; turns = run.turns }; lazy = run.lazy }
-
-      ended : LogBroken task head Front entries Memory was now
-      ended = broken_of task head Front entries Memory was now (subst (RunBreaks task head [] Memory was now Front) (append-nil entries)
-          (levels_broken task head Front entries entries Memory was now now runs refl []
-          (still_breaks task head Front entries Memory now (inl (refl, run.closed)))))
-  broken_end entries o Write was now old mid new run talks runs needed first misses =
-      record {
+      → fault ≡ Write → CutOff mid new (text_of_end head.version o) → IsBroken task head spoken was now old new fault
+  broken_end entries o fault was now old mid new run talks tabled runs needed first is cut =
+      subst (IsBroken task head spoken was now old new) (sym is) (record {
         text = whole_text task head entries o;
         form = inr (inr (
           refl,
@@ -219,29 +192,32 @@ module _ (task : Task) (head : Head) (spoken : ℕ → Option Talk) where
             outcome = o;
             run = run;
             talks = talks;
+            tabled = tabled;
             calls = ran_of task head entries was now runs;
             is = refl;
           },
         ));
         told = (
-          length (text_so_far task head entries) + misses.0,
+          length (text_so_far task head entries) + cut.count,
           omega arith,
-          omega (arith, misses.1, length-append (text_so_far task head entries) (text_of_end head.version o)),
-          subst (Appends old new) (sym (take-append-add (text_so_far task head entries) (text_of_end head.version o) misses.0))
-              (appends_then old mid new _ _ first misses.2),
+          omega (arith, cut.less, length-append (text_so_far task head entries) (text_of_end head.version o)),
+          subst (Appends old new) (sym (take-append-add (text_so_far task head entries) (text_of_end head.version o) cut.count))
+              (appends_then old mid new _ _ first cut.took),
         );
-      }
+      })
 
   pub reported : (entries : List Entry) (o : Outcome) (levels asks : ℕ) (was now : Option (List Event)) (old mid new : Option (List ℕ))
-      → IsRun task head entries o → Dialogue task head.version (workers_in head) entries spoken → LogRan task head entries was now
+      → IsRun task head entries o → Dialogue task head.version (workers_in head) entries spoken → IsTabled task head entries spoken o
+      → LogRan task head entries was now
       → levels ≡ count_by is_level entries → asks ≡ asks_of entries → Appends old mid (text_so_far task head entries)
       → Appends mid new (text_of_end head.version o)
       → IsReported task head spoken was now old new (record { outcome = o; levels = levels; asks = asks })
-  reported entries o levels asks was now old mid new run talks calls of_levels of_asks first second =
+  reported entries o levels asks was now old mid new run talks tabled calls of_levels of_asks first second =
       record {
         entries = entries;
         run = run;
         talks = talks;
+        tabled = tabled;
         calls = calls;
         told = appends_then old mid new (text_so_far task head entries) (text_of_end head.version o) first second;
         levels = of_levels;
@@ -259,6 +235,7 @@ reported_behind task head spoken later was now after old new ran same stops r = 
   talks = λ child one some.
       subst (λ talk. IfSome talk (IsSaid task head.version (requests_of task (workers_in head) r.entries) (replies_of r.entries) [] child))
       (sym (same child)) (r.talks child one some);
+  tabled = subst (λ s. IsTabled task head r.entries s ran.outcome) (λ i. λ k. sym (same k) i) r.tabled;
   calls = ran_stopped task head r.entries was now after r.calls stops;
   told = r.told;
   levels = r.levels;
@@ -299,6 +276,7 @@ broken_stopped task head spoken later was now after old new fault same stops b =
           outcome = w.outcome;
           run = w.run;
           talks = w.talks;
+          tabled = w.tabled;
           calls = ran_stopped task head w.entries was now after w.calls stops;
           is = w.is;
         },

@@ -1,5 +1,5 @@
 -- Levels, one after another.
-use Rattle.std.proofs.Common.{◌≡◌, ℕ, ◌+◌, ◌-◌, ◌<◌, arith, Bool, true, false, Option, Some, slice_get, inl, inr, List, [], ◌∷◌, ◌++◌, length, refl, sym, subst, ap, ◌∙◌, All, cond, ◌==◌, eq-eqb, if◌then◌else◌, length-append}
+use Rattle.std.proofs.Common.{◌≡◌, ℕ, ◌+◌, ◌-◌, ◌<◌, ◌≤◌, arith, Bool, true, false, Option, Some, slice_get, inl, inr, List, [], ◌∷◌, ◌++◌, length, refl, sym, subst, ap, ◌∙◌, All, cond, ◌==◌, eq-eqb, if◌then◌else◌, length-append}
 use Rattle.std.proofs.lemmas.Bool.{lt-ltb, le-ltb}
 use Rattle.std.proofs.lemmas.List.{length-map}
 use Rattle.instance_queue.specs.Level.{instances_of}
@@ -133,12 +133,12 @@ rests_marked task head e mark s new held running spoken m session rests =
 
 -- calls were wanting where the batch says so
 pub batch_cut : {A : Type 0} (head : Head) (task : Task) (before after : List Entry) (asks later many : ℕ) (list : List A) (b : Batch)
-    → asks ≡ asks_of before → asks < head.calls → length list ≡ many
+    → asks ≡ asks_of before → asks ≤ head.calls → length list ≡ many
     → EndsBatch task after asks later head.calls many b → cut_by b ≡ is_cut (limits_of head) before list
-batch_cut head task before after asks later many list Done counted left long e =
+batch_cut head task before after asks later many list Done counted within long e =
     sym (le-ltb (head.calls - asks_of before) (length list) (omega (arith, long, e.0, e.1, counted)))
-batch_cut head task before after asks later many list CallsSpent counted left long e =
-    sym (lt-ltb (head.calls - asks_of before) (length list) (omega (arith, long, e.1, counted, left)))
+batch_cut head task before after asks later many list CallsSpent counted within long e =
+    sym (lt-ltb (head.calls - asks_of before) (length list) (omega (arith, long, e.1, counted, within)))
 
 -- a batch behind the line of a level is a level
 pub level_of : (head : Head) (task : Task) (before now after : List Entry) (asks later : ℕ) (dues : List Due) (b : Batch)
@@ -150,7 +150,7 @@ level_of head task before now after asks later dues b counted turn asked ends = 
   rest = asked.rest;
   is = asked.is;
   batch = asked.batch;
-  cut_is = batch_cut head task before after asks later (length dues) (instances_of dues) b counted turn.left
+  cut_is = batch_cut head task before after asks later (length dues) (instances_of dues) b counted (omega (arith, turn.left))
       (length-map dues (λ (d : Due). d.instance)) ends;
 }
 

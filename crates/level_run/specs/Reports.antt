@@ -20,6 +20,7 @@ use Rattle.round_run.specs.Breaking.{LogBroken}
 use Rattle.round_run.specs.Calls.{LogRan, LogStops}
 use Rattle.round_run.specs.Dialogue.{BrokenOff, Dialogue, workers_in}
 use Rattle.round_run.specs.Rolling.{Blames}
+use Rattle.table_runs.specs.Tabled.{IsTabled}
 use Rattle.level_run.specs.Turns.{HasTurnLine, IsFrontOfRun, IsSure}
 use Rattle.round_run.specs.declared.fault.RunFault.{RunFault}
 use Rattle.round_run.specs.declared.fault.RunFault.TheVariants.{Answer, Generator, Write, Memory}
@@ -75,12 +76,13 @@ pub record IsRun (task : Task) (head : Head) (entries : List Entry) (o : Outcome
   pub sure : IsSure head task entries o
 
 -- A whole report was written, of a run, whose dialogue this was, by the calls that came to the log; the levels and the
--- requests are counted.
+-- requests are counted. Where its children answer by a table the run comes to what the table says (`IsTabled`).
 pub record IsReported (task : Task) (head : Head) (spoken : ℕ → Option Talk)
     (was now : Option (List Event)) (old new : Option (List ℕ)) (ran : Ran) : Type 0 where
   pub entries : List Entry
   pub run : IsRun task head entries ran.outcome
   pub talks : Dialogue task head.version (workers_in head) entries spoken
+  pub tabled : IsTabled task head entries spoken ran.outcome
   pub calls : LogRan task head entries was now
   pub told : Appends old new (whole_text task head entries ran.outcome)
   pub levels : ran.levels ≡ count_by is_level entries
@@ -107,6 +109,7 @@ pub record IsWholeReport (task : Task) (head : Head) (spoken : ℕ → Option Ta
   pub outcome : Outcome
   pub run : IsRun task head entries outcome
   pub talks : Dialogue task head.version (workers_in head) entries spoken
+  pub tabled : IsTabled task head entries spoken outcome
   pub calls : LogRan task head entries was now
   pub is : text ≡ whole_text task head entries outcome
 

@@ -79,10 +79,10 @@ fn report<M: Turns, H: Host, O: Sink>(
     ensures host { HasCause Generator H.last (H.faults host.old) (H.faults host.new) result }
     ensures sink { HasCause Write last_count (O.faults out.old) (O.faults out.new) result }
 {
-    print_head(alloc, task, head, out)?;
+    print_head(task, head, out)?;
     let mut session = Session::new(alloc, task, head)?;
     let outcome = run_turns(alloc, task, head, &mut session, mode, lines, host, out)?;
-    print_end(alloc, out, &outcome, head.version)?;
+    print_end(out, &outcome, head.version)?;
     Ok(Ran {
         outcome,
         levels: count_levels(session.entries()),

@@ -1,5 +1,5 @@
 -- What the code of a mode's course shows.
-use Rattle.std.proofs.Common.{◌≡◌, ℕ, ◌+◌, ◌-◌, min, nat_lt, List, [], ◌++◌, length, take, refl, sym, ap, ◌∙◌}
+use Rattle.std.proofs.Common.{◌≡◌, ℕ, ◌+◌, ◌-◌, min, nat_lt, List, ◌++◌, length, take, refl, sym, ap, ◌∙◌}
 use Rattle.std.proofs.lemmas.List.{take-map, take_min}
 use Rattle.instance_queue.specs.Level.{instances_of}
 use Rattle.instance_queue.specs.declared.due.Due.{Due}
@@ -8,6 +8,7 @@ use Rattle.mode_course.specs.Agendas.{Begins, ModeAgenda, shown}
 use Rattle.mode_course.specs.Places.{joining}
 use Rattle.mode_course.specs.declared.course.ModeCourse.TheInside.{Inside}
 use Rattle.mode_course.specs.declared.course.Phase.TheVariants.{Resting}
+use Rattle.skeletons.specs.Skeletons.{skeletons_in}
 use Rattle.task_model.specs.declared.stream.Instance.{Instance}
 use Rattle.transcript_model.specs.Rounds.{Share}
 
@@ -24,7 +25,7 @@ pub dream_begins : (s : Inside) (a : ModeAgenda) (pools : List Share) (dues : Li
     (tried asked : List Instance) → shown s ≡ a → tried ≡ s.tried ++ asked → asked ≡ take (calls - before) (instances_of dues)
     → Starts pools (take (calls - before) (instances_of dues)) (before + 1) (nat_lt (calls - before) (length dues)) batch
     → Begins pools dues before calls (joining a.kept (take (calls - before) (instances_of dues)))
-    (shown (record { batch = batch; phase = Resting; tried = tried }))
+    (shown (record { batch = batch; phase = Resting; tried = tried; skeletons = s.skeletons; run = s.run; alloc = s.alloc }))
 dream_begins s a pools dues before calls batch tried asked is tried_is asked_is starts =
     let list = take (calls - before) (instances_of dues) in
     let all : tried ≡ s.tried ++ list = tried_is ∙ ap (λ (is : List Instance). s.tried ++ is) asked_is in
@@ -32,5 +33,5 @@ dream_begins s a pools dues before calls batch tried asked is tried_is asked_is 
       batch = starts;
       phase_is = refl;
       kept_is =
-          (λ i. record { tried = all i; skeletons = [] }) ∙ ap (λ (b : ModeAgenda). joining b.kept list) is;
+          (λ i. record { tried = all i; skeletons = skeletons_in s.skeletons.items }) ∙ ap (λ (b : ModeAgenda). joining b.kept list) is;
     }

@@ -4,8 +4,8 @@ use Rattle.std.proofs.lemmas.List.{append-nil}
 use Rattle.level_course.proofs.CoursesTurnLemmas.{IsTidy, Walks, done, opened_run, opened_tidy, walk, within}
 use Rattle.level_course.specs.Courses.{Course, IsBehind, Leads, Opens}
 use Rattle.mode_course.proofs.OpensLemmas.{AreRun, opened_cut}
-use Rattle.mode_course.proofs.StepsLemmas.{batch_open}
-use Rattle.mode_course.specs.Places.{IsBatchStep, LeadsOn, Place, begins_level, falls_back, goes_on, resets, tells_dream, tells_none, with_batch}
+use Rattle.mode_course.proofs.StepsLemmas.{batch_open, pick_answered, unsettled}
+use Rattle.mode_course.specs.Places.{IsBatchStep, IsStaying, LeadsOn, Place, Settles, begins_level, falls_back, goes_on, moves, picks, resets, retires, stays, tells_dream, tells_none, with_batch}
 use Rattle.task_model.specs.declared.stream.Instance.{Instance}
 use Rattle.task_model.specs.declared.task.Task.{Task}
 use Rattle.transcript_model.specs.Legal.{asks_of}
@@ -68,16 +68,45 @@ module _ (limits : Limits) (task : Task) where
     behind = behind_back (before ++ e ∷ []) c a.left d a.behind;
   })
 
-  -- the entries of the batch lead on in the turn
-  pub batch_leads : (p : Place) (before es : List Entry) (d : Course) → Leads (only_batches limits) task p.batch before es d
-      → LeadsOn limits task p before es (with_batch p d)
-  batch_leads p before [] d leads = λ i. with_batch p (leads i)
-  batch_leads p before (e ∷ es) d (m, inl b, more) = absurd (let left : asks_of before < 0 = b.may.left in omega (arith, left))
-  batch_leads p before (e ∷ es) d (m, inr step, more) = (
-    with_batch p m,
-    goes_on m (step_back before p.batch e m step) refl,
-    batch_leads (with_batch p m) (before ++ e ∷ []) es d more,
+  -- where the batch has stood still, the place is settled
+  settled_same : (p : Place) (before : List Entry) (d : Course) (after : Place) → IsStaying p → p.batch ≡ d
+      → Settles limits task before (with_batch p d) after → p ≡ after
+  settled_same p before d after settled same (stays s after_is) = (λ i. with_batch p (same i)) ∙ sym after_is
+  settled_same p before d after settled same (moves real entries sent a r) =
+      unsettled limits task p real entries sent
+      (record {
+        phase_is = a.phase_is;
+        answered = ap (λ (c : Course). c.answers) same ∙ a.answered;
+        uncut = ap (λ (c : Course). c.is_cut) same ∙ a.uncut;
+      }) settled
+
+  -- where an entry comes, something is open
+  more_open : (c : Course) (before : List Entry) (x : Entry) (es : List Entry) (d : Course)
+      → Leads (only_batches limits) task c before (x ∷ es) d → 0 < c.answers
+  more_open c before x es d (n, inl b, more) = absurd (let left : asks_of before < 0 = b.may.left in omega (arith, left))
+  more_open c before x es d (n, inr step, more) = batch_open (only_batches limits) task before c x n step
+
+  -- the entries of the batch lead on in the turn, to where the place settles behind them
+  pub batch_leads : (p : Place) (before es : List Entry) (d : Course) (after : Place) → IsStaying p
+      → Leads (only_batches limits) task p.batch before es d → Settles limits task (before ++ es) (with_batch p d) after
+      → LeadsOn limits task p before es after
+  batch_leads p before [] d after settled leads settles =
+      settled_same p (before ++ []) d after settled leads settles
+  batch_leads p before (e ∷ es) d after settled (m, inl b, more) settles =
+      absurd (let left : asks_of before < 0 = b.may.left in omega (arith, left))
+  batch_leads p before (e ∷ []) d after settled (m, inr step, more) settles = (
+    after,
+    goes_on m (step_back before p.batch e m step)
+        (subst (λ (c : Course). Settles limits task (before ++ e ∷ []) (with_batch p c) after) (sym more) settles),
+    refl,
   )
+  batch_leads p before (e ∷ x ∷ es) d after settled (m, inr step, more) settles =
+      let some : 0 < m.answers = more_open m (before ++ e ∷ []) x es d more in (
+        with_batch p m,
+        goes_on m (step_back before p.batch e m step) (stays (inl some) refl),
+        batch_leads (with_batch p m) (before ++ e ∷ []) (x ∷ es) d after (inl some) more
+            (subst (λ xs. Settles limits task xs (with_batch p d) after) (sym (append_assoc before (e ∷ []) (x ∷ es))) settles),
+      )
 
   -- where nothing is open, nothing comes
   stuck : (c d : Course) (before rest : List Entry) → c.answers ≡ 0
@@ -90,39 +119,72 @@ module _ (limits : Limits) (task : Task) where
   -- ---- up to where nothing of the batch is open, or to where the entries stop in it
 
   pub data Parts (p : Place) (before es : List Entry) (q : Place) : Type 0 where
-    over : (now rest : List Entry) (m : Course) → es ≡ now ++ rest → Leads (only_batches limits) task p.batch before now m
-        → m.answers ≡ 0 → LeadsOn limits task (with_batch p m) (before ++ now) rest q → Parts p before es q
+    over : (now rest : List Entry) (m : Course) (after : Place) → es ≡ now ++ rest
+        → Leads (only_batches limits) task p.batch before now m → m.answers ≡ 0
+        → Settles limits task (before ++ now) (with_batch p m) after → LeadsOn limits task after (before ++ now) rest q
+        → Parts p before es q
     still : Leads (only_batches limits) task p.batch before es q.batch → 0 < q.batch.answers → Parts p before es q
 
   -- one entry more in front
   longer : (p q : Place) (before es : List Entry) (e : Entry) (c : Course) → IsBatchStep limits task before p.batch e c
       → Parts (with_batch p c) (before ++ e ∷ []) es q → Parts p before (e ∷ es) q
-  longer p q before es e c step (over now rest m is leads none later) =
-      over (e ∷ now) rest m (ap (λ xs. e ∷ xs) is) (c, inr (step_only before p.batch e c step), leads) none
-      (subst (λ xs. LeadsOn limits task (with_batch p m) xs rest q) (append_assoc before (e ∷ []) now) later)
+  longer p q before es e c step (over now rest m after is leads none settles later) =
+      over (e ∷ now) rest m after (ap (λ xs. e ∷ xs) is) (c, inr (step_only before p.batch e c step), leads) none
+      (subst (λ xs. Settles limits task xs (with_batch p m) after) (append_assoc before (e ∷ []) now) settles)
+      (subst (λ xs. LeadsOn limits task after xs rest q) (append_assoc before (e ∷ []) now) later)
   longer p q before es e c step (still leads some) =
       still (c, inr (step_only before p.batch e c step), leads) some
 
-  pub parts : (p : Place) (before es : List Entry) (q : Place) (n : ℕ) → p.batch.answers ≡ n
+  -- where the batch is over with its first entry
+  over_first : (p q m : Place) (before es : List Entry) (e : Entry) (c : Course) → IsBatchStep limits task before p.batch e c
+      → c.answers ≡ 0 → Settles limits task (before ++ e ∷ []) (with_batch p c) m
+      → LeadsOn limits task m (before ++ e ∷ []) es q → Parts p before (e ∷ es) q
+  over_first p q m before es e c step none settles more =
+      over (e ∷ []) es c m refl (c, inr (step_only before p.batch e c step), refl) none settles more
+
+  -- while something of the batch is open the place stays
+  open_stays : (p m : Place) (before : List Entry) (n : ℕ) → p.batch.answers ≡ suc n → Settles limits task before p m → m ≡ p
+  open_stays p m before n count (stays s is) = is
+  open_stays p m before n count (moves real entries sent a r) = let none = a.answered in absurd (omega (arith, none, count))
+
+  -- behind the first entry of a batch
+  parts_on : (p : Place) (before es : List Entry) (q : Place) (e : Entry) (m : Place) (c : Course) (k : ℕ)
+      → IsBatchStep limits task before p.batch e c → c.answers ≡ k
+      → Settles limits task (before ++ e ∷ []) (with_batch p c) m → LeadsOn limits task m (before ++ e ∷ []) es q
+      → (0 < c.answers → LeadsOn limits task (with_batch p c) (before ++ e ∷ []) es q
+      → Parts (with_batch p c) (before ++ e ∷ []) es q)
+      → Parts p before (e ∷ es) q
+  parts_on p before es q e m c zero step none settles more onward = over_first p q m before es e c step none settles more
+  parts_on p before es q e m c (suc k) step count settles more onward =
+      let same : m ≡ with_batch p c = open_stays (with_batch p c) m (before ++ e ∷ []) k count settles in
+      longer p q before es e c step
+      (onward (omega (arith, count)) (subst (λ (x : Place). LeadsOn limits task x (before ++ e ∷ []) es q) same more))
+
+  pub parts : (p : Place) (before es : List Entry) (q : Place) (n : ℕ) → IsStaying p → p.batch.answers ≡ n
       → LeadsOn limits task p before es q → Parts p before es q
-  parts p before es q zero none leads =
-      over [] es p.batch refl refl none (subst (λ xs. LeadsOn limits task p xs es q) (sym (append-nil before)) leads)
-  parts p before [] q (suc n) count leads =
+  parts p before es q zero settled none leads =
+      over [] es p.batch p refl refl none (stays settled refl)
+      (subst (λ xs. LeadsOn limits task p xs es q) (sym (append-nil before)) leads)
+  parts p before [] q (suc n) settled count leads =
       let same : p.batch ≡ q.batch = ap (λ (x : Place). x.batch) leads in
       let answers = ap (λ (x : Place). x.batch.answers) leads in
       still same (omega (arith, count, answers))
-  parts p before (e ∷ es) q (suc n) count (m, goes_on c step m_is, more) =
-      longer p q before es e c step (parts (with_batch p c) (before ++ e ∷ []) es q c.answers refl
-      (subst (λ (x : Place). LeadsOn limits task x (before ++ e ∷ []) es q) m_is more))
-  parts p before (e ∷ es) q (suc n) count (m, begins_level s, more) =
+  parts p before (e ∷ es) q (suc n) settled count (m, goes_on c step settles, more) =
+      parts_on p before es q e m c c.answers step refl settles more
+      (λ some leads. parts (with_batch p c) (before ++ e ∷ []) es q c.answers (inl some) refl leads)
+  parts p before (e ∷ es) q (suc n) settled count (m, begins_level s, more) =
       let none = s.awaits.answered in absurd (omega (arith, none, count))
-  parts p before (e ∷ es) q (suc n) count (m, tells_dream s, more) =
+  parts p before (e ∷ es) q (suc n) settled count (m, tells_dream s, more) =
       let none = s.may.awaits.answered in absurd (omega (arith, none, count))
-  parts p before (e ∷ es) q (suc n) count (m, tells_none s, more) =
+  parts p before (e ∷ es) q (suc n) settled count (m, tells_none s, more) =
       let none = s.may.awaits.answered in absurd (omega (arith, none, count))
-  parts p before (e ∷ es) q (suc n) count (m, resets s, more) =
+  parts p before (e ∷ es) q (suc n) settled count (m, resets s, more) =
       let none = s.awaits.answered in absurd (omega (arith, none, count))
-  parts p before (e ∷ es) q (suc n) count (m, falls_back s, more) =
+  parts p before (e ∷ es) q (suc n) settled count (m, falls_back s, more) =
+      let none = s.awaits.answered in absurd (omega (arith, none, count))
+  parts p before (e ∷ es) q (suc n) settled count (m, picks s, more) =
+      let none = pick_answered p s.awaits in absurd (omega (arith, none, count))
+  parts p before (e ∷ es) q (suc n) settled count (m, retires s, more) =
       let none = s.awaits.answered in absurd (omega (arith, none, count))
 
   -- ---- a batch that opened

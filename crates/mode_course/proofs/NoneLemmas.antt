@@ -1,10 +1,11 @@
 -- Turns without a dream: the line `none` adds nothing to what is known, and what comes behind it.
-use Rattle.std.proofs.Common.{◌≡◌, ℕ, ◌<◌, ◌≤◌, inr, All, Bool, false, List, [], ◌∷◌, ◌++◌, length, replicate, refl, sym, ap, subst, ◌∙◌, arith}
+use Rattle.std.proofs.Common.{◌≡◌, ◌⊎◌, ℕ, ◌<◌, ◌≤◌, inl, inr, All, Bool, true, false, List, [], ◌∷◌, ◌++◌, length, replicate, refl, sym, ap, subst, ◌∙◌, arith}
+use Rattle.std.proofs.lemmas.Bool.{true≢false}
 use Rattle.std.proofs.lemmas.List.{append-nil}
 use Rattle.std.proofs.lemmas.List.Concat.{flat_map-append}
-use Rattle.std.specs.List.{flat_map}
+use Rattle.std.specs.List.{flat_map, list_all}
 use Rattle.std.specs.Option.{option_and_then, option_map_or, option_or}
-use Rattle.mode_course.specs.Places.{forgetting}
+use Rattle.mode_course.specs.Places.{HasNoneToPick, forgetting}
 use Rattle.mode_turns.specs.Modes.{TurnOf}
 use Rattle.task_model.specs.Initial.{declared_names, initial_known}
 use Rattle.task_model.specs.Known.{Known, with_facts, with_names, with_values}
@@ -16,11 +17,11 @@ use Rattle.transcript_model.specs.Dreaming.{HasNoDreamAfter}
 use Rattle.transcript_model.specs.Names.{instance_of}
 use Rattle.transcript_model.specs.Rounds.{Limits, Share}
 use Rattle.transcript_model.specs.Transcript.{Asked, asked, asked_of, call_in, call_of, certified, known_of, names_of, note_of, notes_of, objects_in, told_value, yield_facts}
-use Rattle.transcript_model.specs.Turns.{IsFallback, Kept, MayBegin, is_cut, level, reset}
+use Rattle.transcript_model.specs.Turns.{IsEmptyTurn, IsFallback, Kept, MayBegin, Skeleton, is_cut, level, reset}
 use Rattle.transcript_model.specs.declared.entry.Entry.{Entry}
 use Rattle.transcript_model.specs.declared.entry.Entry.TheVariants as entry
 use Rattle.transcript_model.specs.declared.head.Mode.{Mode}
-use Rattle.transcript_model.specs.declared.head.Mode.TheVariants.{Focused}
+use Rattle.transcript_model.specs.declared.head.Mode.TheVariants.{Adaptive, Binding, Focused, Incremental}
 
 -- ---- what is known behind the line
 
@@ -94,14 +95,28 @@ pub forgets : (limits : Limits) (task : Task) (before : List Entry) (tried : Lis
 forgets limits task before [] some = absurd (omega (arith, some))
 forgets limits task before (i ∷ is) some = reset i is
 
-module _ (limits : Limits) (task : Task) (before : List Entry) (k : Kept) (mode : limits.mode ≡ Focused)
+module _ (limits : Limits) (task : Task) (before : List Entry) (k : Kept) (mode : ¬ (limits.mode ≡ Incremental))
     (no_dream : HasNoDreamAfter limits task before k.tried) where
-  pub none_turn : (rest : List Entry) (next : Kept) (cut : Bool)
+  none_of : (m : Mode) → ¬ (m ≡ Incremental) → HasNoneToPick m k → (rest : List Entry) (next : Kept) (cut : Bool)
+      → IsEmptyTurn limits task k.tried before (entry.Nothing ∷ rest) next.tried cut → next.skeletons ≡ k.skeletons
+      → TurnOf m limits task k before (entry.Nothing ∷ rest) next cut
+  none_of Incremental dreams_mode no_skeleton rest next cut empty same = absurd (dreams_mode refl)
+  none_of Focused dreams_mode no_skeleton rest next cut empty same = (inr empty, same)
+  none_of Binding dreams_mode no_skeleton rest next cut empty same = (inr empty, same)
+  none_of Adaptive dreams_mode no_skeleton rest next cut empty same =
+      inr (inr (record {
+        all_retired = no_skeleton refl;
+        tried = next.tried;
+        turn = empty;
+        next_is = λ i. record { tried = next.tried; skeletons = same i };
+      }))
+
+  pub none_turn : HasNoneToPick limits.mode k → (rest : List Entry) (next : Kept) (cut : Bool)
       → IsFallback limits task (before ++ entry.Nothing ∷ []) k.tried rest cut → next.tried ≡ []
       → next.skeletons ≡ k.skeletons → TurnOf limits.mode limits task k before (entry.Nothing ∷ rest) next cut
-  none_turn rest next cut fallback forgotten same =
-      subst (λ (m : Mode). TurnOf m limits task k before (entry.Nothing ∷ rest) next cut) (sym mode)
-      (inr (record { none = no_dream; rest = rest; is = refl; fallback = fallback; forgotten = forgotten }), same)
+  none_turn no_skeleton rest next cut fallback forgotten same =
+      none_of limits.mode mode no_skeleton rest next cut
+      (record { none = no_dream; rest = rest; is = refl; fallback = fallback; forgotten = forgotten }) same
 
   -- a turn that goes on so
   pub record Completed : Type 0 where
@@ -110,9 +125,9 @@ module _ (limits : Limits) (task : Task) (before : List Entry) (k : Kept) (mode 
     pub cut : Bool
     pub turn : TurnOf limits.mode limits task k before (entry.Nothing ∷ more) next cut
 
-  -- behind the line a turn can go on
-  pub completed : All (λ (s : Share). 1 ≤ s.workers) limits.pools → MayBegin limits task before → Completed
-  completed workers may = by k.tried refl
+  -- behind the line a turn can go on, where no skeleton is picked
+  pub completed : HasNoneToPick limits.mode k → All (λ (s : Share). 1 ≤ s.workers) limits.pools → MayBegin limits task before → Completed
+  completed no_skeleton workers may = by k.tried refl
     where
       by : (tried : List Instance) → k.tried ≡ tried → Completed
       by [] untried =
@@ -132,13 +147,27 @@ module _ (limits : Limits) (task : Task) (before : List Entry) (k : Kept) (mode 
             next = k;
             more = entry.Level ∷ b.0;
             cut = is_cut limits marked may.list;
-            turn = none_turn (entry.Level ∷ b.0) k (is_cut limits marked may.list) fallback untried refl;
+            turn = none_turn no_skeleton (entry.Level ∷ b.0) k (is_cut limits marked may.list) fallback untried refl;
           }
       by (i ∷ is) some = record {
         next = forgetting k;
         more = entry.Reset ∷ [];
         cut = false;
-        turn = none_turn (entry.Reset ∷ []) (forgetting k) false
+        turn = none_turn no_skeleton (entry.Reset ∷ []) (forgetting k) false
             (subst (λ (ts : List Instance). IsFallback limits task (before ++ entry.Nothing ∷ []) ts (entry.Reset ∷ []) false)
             (sym some) (reset i is)) refl refl;
       }
+
+-- in a mode with skeletons one can be picked, or all are given up
+pub may_pick : (m : Mode) (k : Kept)
+    → HasNoneToPick m k ⊎ ((m ≡ Adaptive) × ¬ (list_all (λ (s : Skeleton). s.retired) k.skeletons ≡ true))
+may_pick Incremental k = inl (λ same. absurd (cc))
+may_pick Focused k = inl (λ same. absurd (cc))
+may_pick Binding k = inl (λ same. absurd (cc))
+may_pick Adaptive k = by (list_all (λ (s : Skeleton). s.retired) k.skeletons) refl
+  where
+    by : (all : Bool) → list_all (λ (s : Skeleton). s.retired) k.skeletons ≡ all
+        → HasNoneToPick Adaptive k
+        ⊎ ((Adaptive ≡ Adaptive) × ¬ (list_all (λ (s : Skeleton). s.retired) k.skeletons ≡ true))
+    by true all = inl (λ same. all)
+    by false some = inr (refl, λ all. true≢false (sym all ∙ some))

@@ -1,10 +1,11 @@
 -- Batches that open, and the rounds that their entries run in.
-use Rattle.std.proofs.Common.{◌≡◌, ◌+◌, Bool, List, length, sym, ap, subst, ◌∙◌}
+use Rattle.std.proofs.Common.{◌≡◌, ◌+◌, Bool, true, List, [], ◌∷◌, ◌++◌, length, refl, arith, sym, ap, subst, ◌∙◌}
 use Rattle.level_course.specs.Courses.{Course, Opens}
 use Rattle.task_model.specs.declared.stream.Instance.{Instance}
 use Rattle.task_model.specs.declared.task.Task.{Task}
+use Rattle.transcript_model.proofs.LegalNumberLemmas.{asks_more}
 use Rattle.transcript_model.proofs.RoundsFrontLemmas.{one_front}
-use Rattle.transcript_model.specs.Legal.{asks_of}
+use Rattle.transcript_model.specs.Legal.{asks_of, is_ask}
 use Rattle.transcript_model.specs.Rounds.{AreRounds, AreRoundsRun, Limits, requests}
 use Rattle.transcript_model.specs.declared.entry.Entry.{Entry}
 
@@ -40,3 +41,8 @@ module _ (limits : Limits) (task : Task) (before : List Entry) (list again : Lis
 pub opened_cut : (limits : Limits) (task : Task) (before : List Entry) (list : List Instance) (cut : Bool) (c : Course)
     → Opens limits task before list cut c → c.is_cut ≡ cut
 opened_cut limits task before list cut c o = ap (λ (d : Course). d.is_cut) o.is
+
+-- a request is one more
+pub asks_asked : (before : List Entry) (e : Entry) → is_ask e ≡ true → asks_of (before ++ e ∷ []) ≡ asks_of before + 1
+asks_asked before e ask =
+    let one : asks_of (e ∷ []) ≡ 1 = rw ask refl in omega (arith, asks_more before (e ∷ []), one)

@@ -1,27 +1,18 @@
 -- Laws of places. Each is the contract of a public function of `laws.rt`, and so is proved.
 use Rattle.std.specs.Prelude.{◌≡◌, ◌⊎◌, ◌↔◌, ◌<◌, ◌≤◌, List, [], All}
-use Rattle.mode_course.specs.Places.{Awaits, IsCutOff, LeadsOn, Place, at_start, resting, undreamt}
+use Rattle.mode_course.specs.Places.{Awaits, AwaitsLine, IsCutOff, LeadsOn, Place, at_start, resting}
 use Rattle.mode_turns.specs.Modes.{Leaves}
 use Rattle.task_model.specs.declared.task.Task.{Task}
 use Rattle.transcript_model.specs.Rounds.{Limits, Share}
 use Rattle.transcript_model.specs.Turns.{AreTurnsOf, Kept, Stage, between, after_cut, inside}
 use Rattle.transcript_model.specs.declared.entry.Entry.{Entry}
-use Rattle.transcript_model.specs.declared.head.Mode.{Mode}
-use Rattle.transcript_model.specs.declared.head.Mode.TheVariants.{Incremental, Focused, Binding, Adaptive}
 
--- the modes whose turns are followed; binding and adaptive mode aren't built
-abbrev pub IsFollowed : Mode → Type 0
-IsFollowed Incremental = Unit {0}
-IsFollowed Focused = Unit {0}
-IsFollowed Binding = ⊥
-IsFollowed Adaptive = ⊥
-
--- a place is between two turns, behind a batch that was cut, or inside a turn: in its batch, or
--- behind `none`
+-- a place is between two turns, behind a batch that was cut, or inside a turn: in a batch, or where
+-- another line of the turn comes
 abbrev pub IsAt : Place → Stage → Type 0
 IsAt p between = Awaits p resting
 IsAt p after_cut = IsCutOff p
-IsAt p inside = (0 < p.batch.answers) ⊎ Awaits p undreamt
+IsAt p inside = (0 < p.batch.answers) ⊎ AwaitsLine p
 
 -- Entries that lead somewhere are turns of the mode, the last of which stops there.
 abbrev pub CoursesAreTurns : Type 0
@@ -34,7 +25,7 @@ CoursesAreTurns =
 -- cut they lead there.
 abbrev pub TurnsAreCourses : Type 0
 TurnsAreCourses =
-    (limits : Limits) (task : Task) (entries : List Entry) (stage : Stage) → IsFollowed limits.mode
+    (limits : Limits) (task : Task) (entries : List Entry) (stage : Stage)
     → AreTurnsOf limits.mode limits task entries stage
     → (p : Place) × LeadsOn limits task at_start [] entries p × (¬ (stage ≡ inside) → IsAt p stage)
 
@@ -49,6 +40,5 @@ CoursesAreOne =
 abbrev pub LeftIsOne : Type 0
 LeftIsOne =
     (limits : Limits) (task : Task) (entries : List Entry) (p : Place) (k : Kept)
-    → IsFollowed limits.mode
     → All (λ (s : Share). 1 ≤ s.workers) limits.pools → LeadsOn limits task at_start [] entries p
     → Leaves limits task entries k ↔ (IsAt p between × (k ≡ p.kept))

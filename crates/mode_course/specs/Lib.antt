@@ -1,3 +1,4 @@
 pub mod Agendas
 pub mod Laws
 pub mod Places
+pub mod Running

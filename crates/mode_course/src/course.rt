@@ -1,33 +1,49 @@
 //! Where in a turn a transcript stands.
 ghost use Rattle.transcript_model.specs.declared.limits.TheConstants.{MOST_CALLS};
 
-use crate::joined::join;
-use instance_queue::Due;
+use crate::joined::{copies, join};
+use crate::running::Running;
+use dream_asks::dues_of;
+use fact_store::Facts;
+use instance_queue::{Due, Queue};
 use level_course::Course;
-use optimistic_set::Tried;
+use optimistic_set::{OptEntry, Tried};
 use pools::Workers;
+use skeletons::{Skeleton, count, keep, pick_of};
 use std::alloc::{AllocError, Global};
 use std::marker::Model;
-use task_model::Instance;
+use task_model::{Instance, Task};
+use transcript_model::Entry;
 
 /// What comes where nothing of the batch is open any more.
 #[derive(Clone, Copy)]
 enum Phase {
     /// The next turn.
     Resting,
-    /// What follows where there is no dream: what was tried is forgotten, or a level is asked.
+    /// What follows where there is no dream: what was tried is forgotten, a level is asked, or a
+    /// skeleton is picked.
     Undreamt,
+    /// What follows where a dream was kept: a skeleton is picked.
+    Dreamt,
+    /// The next batch of the dream that is run, or the next turn.
+    Repeated,
+    /// The skeleton at this place is given up.
+    Unasked(usize),
 }
 
 /// What the open turn has still to do, and what is carried from turn to turn: a batch of asks, cut
-/// into rounds, what comes behind it, and the instances that were tried (PDDLStream 2020; which
-/// turns there are is this project's). The instances that a dream asks count as tried from the
-/// dream's line on.
+/// into rounds, what comes behind it, the instances that were tried and the dreams that are kept
+/// (PDDLStream 2020; which turns there are is this project's). The instances that a batch of a
+/// dream asks count as tried from where it begins.
 #[derive(Drop)]
 pub struct ModeCourse {
     batch: Course,
     phase: Phase,
     tried: Tried,
+    skeletons: Vec<Skeleton>,
+    /// The dream whose batches were run last.
+    run: Running,
+    alloc: Global,
 }
 
 impl Model for ModeCourse {
@@ -39,12 +55,16 @@ impl Model for ModeCourse {
 }
 
 impl ModeCourse {
-    ghost use Rattle.std.specs.Prelude.{◌≡◌, ◌-◌, ◌<◌, ◌≤◌, ◌&&◌, not, [], length, take, slice_get, option_copied, IfSome, IfNone, OnOk};
+    ghost use Rattle.std.specs.Prelude.{◌≡◌, ℕ, ◌+◌, ◌-◌, ◌<◌, ◌≤◌, ◌&&◌, [], true, length, take, slice_get, option_copied, Some, IfSome, IfNone, OnOk};
+    ghost use Rattle.std.specs.List.{list_all};
     ghost use Rattle.instance_queue.specs.Level.{instances_of};
     ghost use Rattle.level_course.specs.Agendas.{with_asked};
-    ghost use Rattle.mode_course.specs.Agendas.{Begins, IsAnswered, is_over, is_resting, nothing_begun, with_agenda};
-    ghost use Rattle.mode_course.specs.Places.{forgetting, joining, resting, undreamt};
+    ghost use Rattle.mode_course.specs.Agendas.{Begins, HasPicked, HasSettled, IsAnswered, MovesOn, is_dreamt, is_over, is_resting, is_to_settle, is_undreamt, nothing_begun, phase_of, with_agenda, with_run};
+    ghost use Rattle.mode_course.specs.Places.{awaits_line, dreamt, forgetting, joining, keeping, resting, unasked, undreamt};
+    ghost use Rattle.mode_course.specs.Running.{made_by};
     ghost use Rattle.pools.specs.Pools.{shares_of};
+    ghost use Rattle.task_model.specs.Fit.{IsFit};
+    ghost use Rattle.transcript_model.specs.Turns.{IsPicked, Skeleton as Kept};
 
     /// Before the first turn.
     pub fn new(alloc: Global) -> ModeCourse
@@ -54,6 +74,9 @@ impl ModeCourse {
             batch: Course::new(alloc),
             phase: Phase::Resting,
             tried: Tried::new(alloc),
+            skeletons: Vec::new(alloc),
+            run: Running::none(alloc),
+            alloc,
         }
     }
 
@@ -65,12 +88,53 @@ impl ModeCourse {
         self.batch.is_between() && matches!(self.phase, Phase::Resting)
     }
 
-    /// Whether the want of a dream was the last entry: what was tried is to be forgotten, or a
-    /// level to be asked.
+    /// Whether the want of a dream was the last entry: what was tried is to be forgotten, a level
+    /// to be asked, or a skeleton to be picked.
     pub fn is_undreamt(&self) -> bool
-        ensures { result ≡ (is_over self.now.batch && not (is_resting self.now.phase)) }
+        ensures { result ≡ (is_over self.now.batch && is_undreamt self.now.phase) }
     {
         self.batch.is_between() && matches!(self.phase, Phase::Undreamt)
+    }
+
+    /// Whether a dream that is kept was the last entry: a skeleton is to be picked.
+    pub fn is_dreamt(&self) -> bool
+        ensures { result ≡ (is_over self.now.batch && is_dreamt self.now.phase) }
+    {
+        self.batch.is_between() && matches!(self.phase, Phase::Dreamt)
+    }
+
+    /// Whether a line of the open turn comes, which is neither a request nor an answer.
+    pub fn awaits_line(&self) -> bool
+        ensures { result ≡ (is_over self.now.batch && awaits_line self.now.phase) }
+    {
+        let awaits = match self.phase {
+            Phase::Resting | Phase::Repeated => false,
+            Phase::Undreamt | Phase::Dreamt | Phase::Unasked(_) => true,
+        };
+        self.batch.is_between() && awaits
+    }
+
+    /// The place of the skeleton that is to be given up, if one is.
+    pub fn next_retired(&self) -> Option<usize>
+        ensures some { IfSome result (λ place. (self.now.phase ≡ unasked place)
+            × (is_over self.now.batch ≡ true)) }
+        ensures none { IfNone result ((place : ℕ) → is_over self.now.batch ≡ true
+            → ¬ (self.now.phase ≡ unasked place)) }
+    {
+        match self.phase {
+            Phase::Unasked(place) if self.batch.is_between() => Some(place),
+            _ => None,
+        }
+    }
+
+    /// The place of the skeleton that is picked next, or None where all are given up.
+    pub fn next_pick(&self) -> Option<usize>
+        ensures some { IfSome result
+            (λ place. (s : Kept) × IsPicked self.now.kept.skeletons place s) }
+        ensures none { IfNone result
+            (list_all (λ (s : Kept). s.retired) self.now.kept.skeletons ≡ true) }
+    {
+        pick_of(self.skeletons.as_slice())
     }
 
     /// The instances that were tried.
@@ -107,8 +171,8 @@ impl ModeCourse {
         self.phase = Phase::Resting;
     }
 
-    /// Begins the batch of a dream over all of it that may be asked first, after so many requests
-    /// of so many. What is asked then was tried.
+    /// Begins a batch of a dream over all that may be asked of it now, after so many requests of so
+    /// many. What is asked then was tried. In focused mode it is the dream's only one.
     ///
     /// # Errors
     /// Only where memory is wanting; then the course may only be dropped.
@@ -121,8 +185,9 @@ impl ModeCourse {
     ) -> Result<(), AllocError>
         requires left { before ≤ calls }
         requires few { calls ≤ MOST_CALLS }
-        ensures { OnOk result (Begins (shares_of pools.now) asks.items before calls
+        ensures begins { OnOk result (Begins (shares_of pools.now) asks.items before calls
             (joining self.old.kept (take (calls - before) (instances_of asks.items))) self.new) }
+        ensures run { self.new.run ≡ self.old.run }
     {
         let count = ((calls - before) as usize).min(asks.len());
         let (asked, _) = asks.as_slice().split_at(count);
@@ -130,6 +195,155 @@ impl ModeCourse {
         self.batch.begin(pools, asks, before, calls);
         self.phase = Phase::Resting;
         Ok(())
+    }
+
+    /// Begins the next batch of the dream that is run, behind these entries of its run; where
+    /// nothing is left to ask, `over` comes.
+    fn begin_next(
+        &mut self,
+        task: &Task,
+        facts: &Facts,
+        queue: &Queue,
+        behind: &[Entry],
+        pools: &[Workers],
+        calls: u32,
+        over: Phase,
+    ) -> Result<(), AllocError>
+        requires fit { IsFit task.now }
+        requires left { made_by self.old.run ≤ calls }
+        requires few { calls ≤ MOST_CALLS }
+        ensures { OnOk result (MovesOn task.now facts.now.known queue.now behind.now
+            (shares_of pools.now) (phase_of over self.old.run) calls self.old self.new) }
+    {
+        let mut asks = self.run.next_asks(self.alloc, task, facts, queue, behind)?;
+        let dues = dues_of(self.alloc, queue, asks.as_slice())?;
+        let before = self.run.before + self.run.asks.len() as u32;
+        let left = (calls - before) as usize;
+        self.begin_dream(pools, dues, before, calls)?;
+        if asks.is_empty() {
+            self.phase = over;
+        } else if asks.len() <= left {
+            self.phase = Phase::Repeated;
+        }
+        self.run.asks.append(&mut asks)?;
+        Ok(())
+    }
+
+    /// Begins the first batch of a dream that needs these entries, before which so many objects
+    /// were real. Its line is the last of `from` entries, among which are so many requests of so
+    /// many. Further batches come by themselves (`settle`). What a batch asks was tried.
+    ///
+    /// # Errors
+    /// Only where memory is wanting; then the course may only be dropped.
+    pub fn follow_dream(
+        &mut self,
+        task: &Task,
+        facts: &Facts,
+        queue: &Queue,
+        pools: &[Workers],
+        entries: Vec<OptEntry>,
+        real: u32,
+        from: usize,
+        before: u32,
+        calls: u32,
+    ) -> Result<(), AllocError>
+        requires fit { IsFit task.now }
+        requires left { before < calls }
+        requires few { calls ≤ MOST_CALLS }
+        ensures { OnOk result (MovesOn task.now facts.now.known queue.now [] (shares_of pools.now)
+            resting calls (with_run self.old entries.items real from before) self.new) }
+    {
+        self.run = Running::new(self.alloc, entries, real, from, before);
+        self.begin_next(task, facts, queue, &[], pools, calls, Phase::Resting)
+    }
+
+    /// Goes on behind a dream that is kept as the last skeleton, before which so many objects were
+    /// real.
+    ///
+    /// # Errors
+    /// Only where memory is wanting; then the course may only be dropped.
+    pub fn keep_dream(&mut self, entries: Vec<OptEntry>, real: u32) -> Result<(), AllocError>
+        ensures batch { self.new.batch ≡ self.old.batch }
+        ensures phase { OnOk result (self.new.phase ≡ dreamt) }
+        ensures kept { OnOk result (self.new.kept ≡ keeping self.old.kept entries.items real) }
+    {
+        keep(&mut self.skeletons, entries, real)?;
+        self.phase = Phase::Dreamt;
+        Ok(())
+    }
+
+    /// Picks the skeleton at this place and begins its first batch. The line of the pick is the
+    /// last of `from` entries, among which are so many requests of so many. Further batches come by
+    /// themselves (`settle`). Where nothing of it may be asked it is to be given up.
+    ///
+    /// # Errors
+    /// Only where memory is wanting; then the course may only be dropped.
+    pub fn pick(
+        &mut self,
+        task: &Task,
+        facts: &Facts,
+        queue: &Queue,
+        pools: &[Workers],
+        place: usize,
+        from: usize,
+        before: u32,
+        calls: u32,
+    ) -> Result<(), AllocError>
+        requires fit { IsFit task.now }
+        requires place { (s : Kept) × (slice_get self.old.kept.skeletons place ≡ Some s)
+            × (s.picks < 4294967295) }
+        requires left { before < calls }
+        requires few { calls ≤ MOST_CALLS }
+        ensures { (s : Kept) → slice_get self.old.kept.skeletons place ≡ Some s
+            → OnOk result (HasPicked task.now facts.now.known queue.now (shares_of pools.now)
+            place s from before calls self.old self.new) }
+    {
+        let skeleton = &self.skeletons[place];
+        let real = skeleton.real;
+        let entries = copies(self.alloc, skeleton.entries.as_slice())?;
+        self.run = Running::new(self.alloc, entries, real, from, before);
+        let over = Phase::Unasked(place);
+        self.begin_next(task, facts, queue, &[], pools, calls, over)?;
+        let retired = self.run.asks.is_empty();
+        count(&mut self.skeletons, place, retired);
+        Ok(())
+    }
+
+    /// Goes on behind the line by which a skeleton is given up, and ends the turn.
+    pub fn retire(&mut self)
+        ensures batch { self.new.batch ≡ self.old.batch }
+        ensures phase { self.new.phase ≡ resting }
+        ensures kept { self.new.kept ≡ self.old.kept }
+    {
+        self.phase = Phase::Resting;
+    }
+
+    /// Moves on by itself where the last answer of a dream's batch was given: to the dream's next
+    /// batch, or to the end of the turn. `entries` are all of the transcript so far.
+    ///
+    /// # Errors
+    /// Only where memory is wanting; then the course may only be dropped.
+    pub fn settle(
+        &mut self,
+        task: &Task,
+        facts: &Facts,
+        queue: &Queue,
+        entries: &[Entry],
+        pools: &[Workers],
+        calls: u32,
+    ) -> Result<(), AllocError>
+        requires fit { IsFit task.now }
+        requires from { is_to_settle self.old ≡ true → self.old.run.from ≤ length entries.now }
+        requires left { is_to_settle self.old ≡ true → made_by self.old.run ≤ calls }
+        requires few { calls ≤ MOST_CALLS }
+        ensures { OnOk result (HasSettled task.now facts.now.known queue.now entries.now
+            (shares_of pools.now) calls self.old self.new) }
+    {
+        if !matches!(self.phase, Phase::Repeated) || !self.batch.is_between() {
+            return Ok(());
+        }
+        let behind = &entries[self.run.from..];
+        self.begin_next(task, facts, queue, behind, pools, calls, Phase::Resting)
     }
 
     /// Goes on behind `none`: there is no dream.
@@ -160,6 +374,7 @@ impl ModeCourse {
     }
 
     /// Goes on behind the next answer, and to the next round where that was the last of this one.
+    /// `settle` follows, in the modes whose dreams have several batches.
     pub fn answer(&mut self, pools: &[Workers])
         requires asked { self.old.batch.to_ask ≡ [] }
         requires some { 0 < self.old.batch.answers }

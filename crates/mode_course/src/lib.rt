@@ -4,5 +4,6 @@
 mod course;
 mod joined;
 pub mod laws;
+mod running;
 
 pub use course::ModeCourse;

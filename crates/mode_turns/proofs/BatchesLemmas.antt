@@ -1,7 +1,8 @@
--- Batches of a dream's entries can be run to an end behind any transcript: each request may be answered `end`.
+-- Batches of a dream's entries: behind any transcript they can be run to an end, since each request may be answered
+-- `end`; and where a call is left something is asked.
 use Rattle.std.proofs.Common.{◌≡◌, ℕ, zero, suc, ◌+◌, ◌-◌, ◌<◌, ◌≤◌, ◌⊎◌, inl, inr, Bool, true, false, All, List, [], ◌∷◌, ◌++◌, length, take, sym, ap, refl, arith}
 use Rattle.std.proofs.lemmas.Bool.{cases_lt, lt-ltb, le-ltb}
-use Rattle.std.proofs.lemmas.List.{length-map, take_all}
+use Rattle.std.proofs.lemmas.List.{length-append, length-map, length-take, take_all}
 use Rattle.mode_turns.proofs.CountsLemmas.{rounds_count}
 use Rattle.task_model.specs.Dreams as dreams
 use Rattle.task_model.specs.declared.task.Task.{Task}
@@ -69,3 +70,32 @@ module _ (limits : Limits) (task : Task) (real : ℕ)
 
   pub batches_end : (sent : List Sent) (before : List Entry) → Ending sent before
   batches_end sent before = from (calls_left limits before) sent before (omega arith)
+
+-- ---- how many are asked
+
+module _ (limits : Limits) (task : Task) (real : ℕ) (entries : List dreams.Entry) where
+  pub batches_grow : (sent : List Sent) (before now : List Entry) (after : List Sent) (cut : Bool)
+      → AreBatches limits task real entries sent before now after cut → length sent ≤ length after
+  batches_grow sent before now after cut (finished none) = omega arith
+  batches_grow sent before now after cut (last next is wanting batch) =
+      omega (arith, length-append sent (take (calls_left limits before) next))
+  batches_grow sent before now after cut (further {now = first} {rest = rest} next is some all batch more) =
+      omega (arith, batches_grow (sent ++ next) (before ++ first) rest after cut more, length-append sent next)
+
+  -- where an entry is ready and a call is left, something is asked
+  pub batches_ask : (sent : List Sent) (before now : List Entry) (after : List Sent) (cut : Bool)
+      → AreBatches limits task real entries sent before now after cut → asks_of before < limits.calls
+      → 0 < length (next_sent task before real sent (asks_of before + 1) (sent_instances sent) entries)
+      → length sent < length after
+  batches_ask sent before now after cut (finished none) left some = absurd (omega (arith, some, ap length none))
+  batches_ask sent before now after cut (last next is wanting batch) left some =
+      omega (
+        arith,
+        left,
+        some,
+        ap length is,
+        length-append sent (take (calls_left limits before) next),
+        length-take (calls_left limits before) next,
+      )
+  batches_ask sent before now after cut (further {now = first} {rest = rest} next is more_than all batch more) left some =
+      omega (arith, batches_grow (sent ++ next) (before ++ first) rest after cut more, length-append sent next, more_than)

@@ -10,7 +10,7 @@ use Rattle.transcript_model.proofs.RoundsLemmas.{requests_asks, answers_asks}
 use Rattle.transcript_model.specs.Dreaming.{Sent}
 use Rattle.transcript_model.specs.Legal.{asks_of, is_ask}
 use Rattle.transcript_model.specs.Rounds.{AreRounds, AreRoundsRun, IsBatch, Limits, calls_left, requests}
-use Rattle.transcript_model.specs.Turns.{AreBatches, AreTurns, IncrementalTurn, IsDreamTurn, IsEmptyTurn, IsFallback, IsFirstBatch, IsLevel, IsNewSkeleton, IsOldSkeleton, IsPickTurn, Kept, Stage, cut_off, finished, further, last, level, none_left, reset, retiring, stopped, whole}
+use Rattle.transcript_model.specs.Turns.{AreBatches, AreTurns, IsDreamTurn, IsEmptyTurn, IsFallback, IsFirstBatch, IsLevel, IsNewSkeleton, IsOldSkeleton, IsPickTurn, Kept, Stage, cut_off, finished, further, last, level, none_left, reset, retiring, stopped, whole}
 use Rattle.transcript_model.specs.declared.entry.Entry.{Entry}
 use Rattle.transcript_model.specs.declared.entry.Entry.TheVariants as entry
 use Rattle.transcript_model.specs.declared.head.Mode.{Mode}
@@ -86,6 +86,11 @@ batches_keep limits task real entries sent before now after cut (further {now = 
 
 -- ---- turns
 
+-- the line that gives up a skeleton is no request
+pub retiring_none : (number : ℕ) (sent : List Sent) → asks_of (retiring number sent) ≡ 0
+retiring_none number [] = refl
+retiring_none number (s ∷ sent) = refl
+
 module _ (limits : Limits) (task : Task) where
   dream_keeps : (asks : ℕ → List dreams.Entry → List Entry → List Entry → List Sent → Bool → Type 0)
       (tried : List Instance) (before now : List Entry) (next : List Instance) (cut : Bool)
@@ -103,10 +108,6 @@ module _ (limits : Limits) (task : Task) where
       subst (Keeps limits before) (sym this.is)
       (mark_keeps limits before this.rest entry.Nothing refl
       (fallback_keeps limits task (before ++ entry.Nothing ∷ []) tried this.rest cut this.fallback))
-
-  retiring_none : (number : ℕ) (sent : List Sent) → asks_of (retiring number sent) ≡ 0
-  retiring_none number [] = refl
-  retiring_none number (s ∷ sent) = refl
 
   pick_keeps : (kept : Kept) (before now : List Entry) (next : Kept) (cut : Bool)
       → IsPickTurn limits task kept before now next cut → Keeps limits before now
@@ -161,10 +162,3 @@ turns_keep limits task turn each kept before es stage (cut_off next may this) = 
 turns_keep limits task turn each kept before es stage (stopped next more cut may this) = λ few.
     let all = each kept before (es ++ more) next cut this few in
     omega (arith, all, asks_more before (es ++ more), asks_more es more, asks_more before es)
-
--- whole levels, from the empty transcript
-pub levels_keep : (limits : Limits) (task : Task) (entries : List Entry) (stage : Stage)
-    → AreTurns limits task (IncrementalTurn limits task) tt [] entries stage → asks_of entries ≤ limits.calls
-levels_keep limits task entries stage turns =
-    turns_keep limits task (IncrementalTurn limits task) (λ k before now next cut this. level_keeps limits task before now cut this)
-    tt [] entries stage turns (omega arith)

@@ -1,7 +1,7 @@
 -- Which files were asked for.
 use Rattle.std.proofs.Common.{◌≡◌, ℕ, List, [], ◌∷◌, refl, sym, subst, ◌⊎◌, inl, inr, false, Option, Some, Result, Ok, Err, IfOk, IfErr}
 use Rattle.std.specs.Io.KnownBytes.{Appends}
-use Rattle.round_run.proofs.StoppedLemmas.{appends_then}
+use Rattle.report_text.proofs.PrintsLemmas.{appends_then}
 use Rattle.round_run.specs.declared.fault.RunFault.{RunFault}
 use Rattle.round_run.specs.declared.fault.RunFault.TheVariants as fault
 use Rattle.transcript_model.specs.declared.outcome.Outcome.{Outcome}

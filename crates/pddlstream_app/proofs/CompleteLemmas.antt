@@ -4,11 +4,15 @@ use Rattle.std.specs.Prelude.{⊤}
 use Rattle.std.proofs.lemmas.List.{append-nil}
 use Rattle.io_world.specs.FileMap.{FileMap}
 use Rattle.io_world.specs.Faults.{Rose}
+use Rattle.plain_runs.specs.Laws.{IsSettledOutcome}
 use Rattle.task_model.specs.declared.task.Task.{Task}
+use Rattle.transcript_model.specs.Plain.{IsPlainRun, PlainEnd, end_of, no_plan, plan}
+use Rattle.transcript_model.specs.Tables.{Answers}
+use Rattle.transcript_model.specs.declared.outcome.LimitKind.TheVariants.{States}
 use Rattle.transcript_model.specs.declared.outcome.Outcome.{Outcome}
 use Rattle.transcript_model.specs.declared.outcome.Outcome.TheVariants as outcome
 use Rattle.round_run.specs.declared.fault.RunFault.TheVariants as fault
-use Rattle.pddlstream_app.specs.Complete.{GoesWell, EndsWell}
+use Rattle.pddlstream_app.specs.Complete.{AreGivenAnswers, Completes, EndsPlain, EndsWell, GoesWell, SettlesBy}
 use Rattle.pddlstream_app.specs.Files.{AreBytes, FileWanted, HasBytes}
 use Rattle.pddlstream_app.specs.Heads.{AreServed, HaveText, MeansBy, MeansPools}
 use Rattle.pddlstream_app.specs.Inputs.{EndsReading, HasNoInput, HasNoPool, IsInputRefused, IsRefusedMap, IsTaskOf, IsTooLong, MayBeFilesOf, ReadsNothing, SolvesNothing, file_at, files_named}
@@ -27,7 +31,7 @@ use Rattle.transcript_model.specs.declared.head.Pool.{Pool}
 use Rattle.pddlstream_app.specs.declared.stop.FileRole.{FileRole}
 use Rattle.pddlstream_app.specs.declared.stop.FileRole.TheVariants as role
 use Rattle.pddlstream_app.specs.declared.status.Status.{Status}
-use Rattle.pddlstream_app.specs.declared.status.Status.TheVariants.{WriteFault}
+use Rattle.pddlstream_app.specs.declared.status.Status.TheVariants.{Memory, WriteFault}
 use Rattle.pddlstream_app.specs.declared.stop.Stop.{Stop}
 use Rattle.pddlstream_app.specs.declared.stop.Stop.TheVariants as stop
 use Rattle.pddlstream_app.proofs.RefusalsLemmas.{before_map, form_not_refused, grid_not_blamed, map_not_refused, none_refused, not_long, one_meaning, one_spelled, one_text}
@@ -108,6 +112,33 @@ other_command : (words : List (List ℕ)) (a : SolveWords) (b : ReplayWords)
     → command_of words ≡ Some (solve a)
     → command_of words ≡ Some (replay b) → ⊥
 other_command words a b x y = let both = sym x ∙ y in absurd (cc)
+
+-- ---- outcomes that are no limit
+
+-- the plain run over the answers ends so, where the outcome does and isn't the limit of states
+plain_ends : {words : List (List ℕ)} {outside : Outside} {status : Status} {text : List ℕ} (answers : Answers) (end : PlainEnd)
+    → AreGivenAnswers words outside answers → (h : HasOutcome words outside status text) → ¬ (h.outcome ≡ outcome.Limit States)
+    → end_of h.outcome ≡ Some end → EndsPlain words outside.files.told answers end
+plain_ends answers end given h known_end is = record {
+  run = h.run;
+  plain = λ mode.
+      let p = h.tabled.plain answers (given.said h.run h.talks) mode known_end in
+      let both : Some p.end ≡ Some end = sym p.ends ∙ is in
+      let same : p.end ≡ end = cc in
+      (p.plain, subst (IsPlainRun h.run.task answers h.run.head.calls [] p.plain) same p.run);
+}
+
+outcome_settles : {words : List (List ℕ)} {outside : Outside} {status : Status} {text : List ℕ} (answers : Answers)
+    → AreGivenAnswers words outside answers → (h : HasOutcome words outside status text) (o : Outcome) → h.outcome ≡ o
+    → SettlesBy words outside.files.told answers (outcome_status o)
+outcome_settles answers given h (outcome.Plan steps cost from) is =
+    plain_ends answers plan given h
+    (λ far. absurd (let no : outcome.Plan steps cost from ≡ outcome.Limit States = sym is ∙ far in cc)) (ap end_of is)
+outcome_settles answers given h outcome.NoPlan is =
+    plain_ends answers no_plan given h
+    (λ far. absurd (let no : outcome.NoPlan ≡ outcome.Limit States = sym is ∙ far in cc)) (ap end_of is)
+outcome_settles answers given h (outcome.Limit kind) is =
+    absurd (subst IsSettledOutcome is (h.tabled.settled answers (given.said h.run h.talks) (given.few h.run)))
 
 module _ {words : List (List ℕ)} {outside : Outside} {host_rose sink_rose : Type 0}
     (well : GoesWell words outside host_rose sink_rose) where
@@ -237,7 +268,7 @@ module _ {words : List (List ℕ)} {outside : Outside} {host_rose sink_rose : Ty
       (same_command words n.command (solve asked) n.meant well.meant) n.cause)
 
   -- a run stops only for want of memory
-  pub stops_for_memory : (written : Written) (why : Stop)
+  stops_for_memory : (written : Written) (why : Stop)
       → IsBeforeLast words outside written why → (why ≡ stop.Run fault.Generator → host_rose)
       → why ≡ stop.Run fault.Memory
   stops_for_memory written stop.Usage b host = let both = sym b.cause.0 ∙ well.meant in absurd (cc)
@@ -255,7 +286,7 @@ module _ {words : List (List ℕ)} {outside : Outside} {host_rose sink_rose : Ty
   stops_for_memory written (stop.Run fault.Memory) b host = refl
 
   -- a task that is solved has an outcome
-  pub answered_outcome : {written : Written} (status : Status)
+  answered_outcome : {written : Written} (status : Status)
       → IsCompleted words outside written status → EndsWell status
   answered_outcome status c = of c.has
     where
@@ -269,17 +300,58 @@ module _ {words : List (List ℕ)} {outside : Outside} {host_rose sink_rose : Ty
       of (inl h) = subst EndsWell h.kind (solved h.outcome)
       of (inr h) = absurd (other_command words asked h.asked well.meant h.meant)
 
+  -- it has one that is no limit, where generators answer by a table that keeps it within its limits
+  answered_settled : {written : Written} (status : Status) (answers : Answers)
+      → AreGivenAnswers words outside answers
+      → IsCompleted words outside written status → SettlesBy words outside.files.told answers status
+  answered_settled status answers given c = of c.has
+    where
+      of : HasOutcome words outside status c.text ⊎ HasVerdict words outside status c.text
+          → SettlesBy words outside.files.told answers status
+      of (inl h) = subst (SettlesBy words outside.files.told answers) h.kind (outcome_settles answers given h h.outcome refl)
+      of (inr h) = absurd (other_command words asked h.asked well.meant h.meant)
+
 -- ---- last lines
 
--- the last line was written, or the sink failed
-pub answered_close : (why : Stop) (written : Written) (status : Status)
+-- the last line was written, or the sink failed: what is so for want of memory is so of the end
+answered_close : (IsSo : Status → Type 0) → IsSo Memory → (why : Stop) (written : Written) (status : Status)
     → why ≡ stop.Run fault.Memory → (status ≡ WriteFault → ⊥)
-    → ClosesRun why written status → EndsWell status
-answered_close why written status is sink (inl (inl x)) =
-    subst EndsWell (sym (x.0 ∙ ap status_at is)) tt
-answered_close why written status is sink (inl (inr x)) = absurd (sink x.0)
-answered_close why written status is sink (inr (inl x)) = subst EndsWell (sym x.0) tt
-answered_close why written status is sink (inr (inr x)) = absurd (sink x.0)
+    → ClosesRun why written status → IsSo status
+answered_close IsSo lacks why written status is sink (inl (inl x)) =
+    subst IsSo (sym (x.0 ∙ ap status_at is)) lacks
+answered_close IsSo lacks why written status is sink (inl (inr x)) = absurd (sink x.0)
+answered_close IsSo lacks why written status is sink (inr (inl x)) = subst IsSo (sym x.0) lacks
+answered_close IsSo lacks why written status is sink (inr (inr x)) = absurd (sink x.0)
+
+-- ---- the whole clause
+
+module _ {words : List (List ℕ)} {outside : Outside} {host_rose sink_rose : Type 0} where
+  -- the run has an outcome, or a verdict
+  pub completes_done : {written : Written} (status : Status) → IsCompleted words outside written status
+      → Completes words outside host_rose sink_rose status
+  completes_done status c = record {
+    ends = λ well. answered_outcome well status c;
+    settles = λ answers well given. answered_settled well status answers given c;
+  }
+
+  -- the sink failed
+  pub completes_cut : (status : Status) → sink_rose → Completes words outside host_rose sink_rose status
+  completes_cut status rose = record {
+    ends = λ well. absurd (well.written rose);
+    settles = λ answers well given. absurd (well.written rose);
+  }
+
+  -- the last line was written, or the sink failed
+  pub completes_closed : (before after : Written) (why : Stop) (status : Status) → IsBeforeLast words outside before why
+      → (why ≡ stop.Run fault.Generator → host_rose) → (status ≡ WriteFault → sink_rose) → ClosesRun why after status
+      → Completes words outside host_rose sink_rose status
+  completes_closed before after why status last host sink closes = record {
+    ends = λ well.
+        answered_close EndsWell tt why after status (stops_for_memory well before why last host) (λ e. well.written (sink e)) closes;
+    settles = λ answers well given.
+        answered_close (SettlesBy words outside.files.told answers) tt why after status (stops_for_memory well before why last host)
+        (λ e. well.written (sink e)) closes;
+  }
 
 -- a fault of the sink in the last line is one of the run
 pub sink_whole : (last before mid now : ℕ) (why : Stop) → before ≤ mid

@@ -2,7 +2,7 @@
 use Rattle.std.proofs.Common.{◌≡◌, ℕ, arith, List, [], Option, Some, refl, sym, subst, ap, ◌∙◌, inl, inr, Result, Ok, Err, IfOk, IfErr}
 use Rattle.std.specs.Io.KnownBytes.{Appends}
 use Rattle.io_world.specs.Faults.{Extends}
-use Rattle.round_run.proofs.StoppedLemmas.{appends_none}
+use Rattle.report_text.proofs.PrintsLemmas.{appends_none}
 use Rattle.round_run.specs.declared.fault.RunFault.TheVariants as fault
 use Rattle.level_run.specs.declared.mode_run.Ran.{Ran}
 use Rattle.task_model.specs.declared.task.Task.{Task}
@@ -52,7 +52,7 @@ module _ (words : List (List ℕ)) (outside : Outside) (number : ℕ) (meant : c
     has_line =
         let r = s.reported in
         outcome_with words outside (making number) meant s.task s.head
-        (posed_made s.task s.head s.posed) line r.entries ran.outcome r.run r.talks r.calls line_is
+        (posed_made s.task s.head s.posed) line r.entries ran.outcome r.run r.talks r.tabled r.calls line_is
 
     -- the line was written
     pub completed_making : (result : Result Status Stop) → IsLined (outcome_status ran.outcome) line outer result

@@ -3,13 +3,14 @@ use Rattle.std.proofs.Common.{◌≡◌, ℕ, ◌+◌, arith, List, [], ◌++◌
 use Rattle.std.proofs.Math.Seq.{take-append-add}
 use Rattle.std.proofs.lemmas.List.{length-append}
 use Rattle.std.specs.Io.KnownBytes.{Appends}
-use Rattle.round_run.proofs.StoppedLemmas.{appends_none, appends_then}
+use Rattle.report_text.proofs.PrintsLemmas.{appends_none, appends_then}
 use Rattle.round_run.specs.Calls.{LogRan, LogStops}
 use Rattle.round_run.specs.Dialogue.{Dialogue, workers_in}
 use Rattle.level_run.proofs.ReportsLemmas.{whole_is}
 use Rattle.level_run.specs.Reports as reports
 use Rattle.level_run.specs.Reports.{IsBroken, IsPart, IsReported, WasToWrite, TookTo, begins_last}
 use Rattle.level_run.specs.declared.mode_run.Ran.{Ran}
+use Rattle.table_runs.specs.Tabled.{IsTabled}
 use Rattle.task_model.specs.Fit.{IsFit}
 use Rattle.task_model.specs.declared.task.Task.{Task}
 use Rattle.transcript_model.specs.Legal.{IsLegal}
@@ -198,14 +199,16 @@ module _ (words : List (List ℕ)) (outside : Outside) where
 
     abbrev pub outcome_with : (text : List ℕ) (entries : List Entry) (o : Outcome)
         → reports.IsRun task head entries o
-        → Dialogue task head.version (workers_in head) entries outside.spoken → LogRan task head entries outside.was outside.now
+        → Dialogue task head.version (workers_in head) entries outside.spoken → IsTabled task head entries outside.spoken o
+        → LogRan task head entries outside.was outside.now
         → text ≡ shown_text work task head entries o → HasOutcome words outside (outcome_status o) text
-    outcome_with text entries o turns talks calls is = record {
+    outcome_with text entries o turns talks tabled calls is = record {
       run = run_with entries turns.legal;
       outcome = o;
       kind = refl;
       turns = turns;
       talks = talks;
+      tabled = tabled;
       calls = calls;
       is = is;
     }
@@ -218,7 +221,8 @@ module _ (words : List (List ℕ)) (outside : Outside) where
         → IsCompleted words outside written (outcome_status ran.outcome)
     completed_with written ran r none took = record {
       text = shown_text work task head r.entries ran.outcome;
-      has = inl (outcome_with (shown_text work task head r.entries ran.outcome) r.entries ran.outcome r.run r.talks r.calls refl);
+      has = inl (outcome_with (shown_text work task head r.entries ran.outcome) r.entries ran.outcome r.run r.talks r.tabled
+          r.calls refl);
       unneeded = λ asked. none (r.asks ∙ asked);
       took = took;
     }
@@ -318,7 +322,7 @@ module _ (words : List (List ℕ)) (outside : Outside) where
           was = inl (
             outcome_status w.outcome,
             inl (outcome_with
-                (solving asked) meant task head posed b.text w.entries w.outcome w.run w.talks w.calls
+                (solving asked) meant task head posed b.text w.entries w.outcome w.run w.talks w.tabled w.calls
                 (w.is ∙ whole_is task head w.entries w.outcome)),
           );
           count = n;

@@ -1,8 +1,14 @@
--- When a run has an outcome.
-use Rattle.std.specs.Prelude.{◌≡◌, ℕ, List, Some, ⊤}
+-- When a run has an outcome, and when that is no limit.
+use Rattle.std.specs.Prelude.{◌≡◌, ℕ, List, [], Option, Some, ⊤}
 use Rattle.gen_lines.specs.declared.answer.Why.{Why}
 use Rattle.io_world.specs.FileMap.{FileMap}
+use Rattle.round_run.specs.Dialogue.{Dialogue, workers_in}
+use Rattle.table_runs.specs.Asking.{AnsweredBy}
 use Rattle.task_model.specs.declared.task.Task.{Task}
+use Rattle.transcript_model.specs.Plain.{IsPlainRun, PlainEnd, no_plan, plan}
+use Rattle.transcript_model.specs.Tables.{Answers, IsBounded}
+use Rattle.transcript_model.specs.declared.entry.Entry.{Entry}
+use Rattle.transcript_model.specs.declared.head.Mode.TheVariants.{Incremental}
 use Rattle.transcript_model.specs.declared.head.Pool.{Pool}
 use Rattle.command_line.specs.Words.{SolveWords, command_of, solve}
 use Rattle.pddlstream_app.specs.Heads.{AreServed}
@@ -34,6 +40,16 @@ pub record GoesWell (words : List (List ℕ)) (outside : Outside) (host_rose sin
   pub written : ¬ sink_rose
   pub answered : OnlyAnswers words outside
 
+-- Answers, as those of a table, and whichever run's dialogue it was that was said with the children: each child that
+-- was asked answered so, and every transcript that agrees with the answers stays within the limits of calls and of
+-- states.
+pub record AreGivenAnswers (words : List (List ℕ)) (outside : Outside) (answers : Answers) : Type 0 where
+  pub said : (run : ProgramRun words outside.files.told)
+      → Dialogue run.task run.head.version (workers_in run.head) run.entries outside.spoken
+      → AnsweredBy run.head.version run.task (workers_in run.head) answers run.entries outside.spoken
+  pub few : (run : ProgramRun words outside.files.told)
+      → IsBounded run.head.version run.task answers run.head.calls run.head.states
+
 -- the run has an outcome, or memory is wanting
 abbrev pub EndsWell : Status → Type 0
 EndsWell Plan = ⊤
@@ -41,3 +57,25 @@ EndsWell NoPlan = ⊤
 EndsWell Limit = ⊤
 EndsWell Memory = ⊤
 EndsWell status = ⊥
+
+-- There is such a run, and in incremental mode the plain run over these answers ends so.
+pub record EndsPlain (words : List (List ℕ)) (told : Option FileMap) (answers : Answers) (end : PlainEnd) : Type 0 where
+  pub run : ProgramRun words told
+  pub plain : run.head.mode ≡ Incremental
+      → (entries : List Entry) × IsPlainRun run.task answers run.head.calls [] entries end
+
+-- The run ends with a plan or with `no plan`, and in incremental mode the plain run over these answers does so too; or
+-- memory is wanting.
+abbrev pub SettlesBy : List (List ℕ) → Option FileMap → Answers → Status → Type 0
+SettlesBy words told answers Plan = EndsPlain words told answers plan
+SettlesBy words told answers NoPlan = EndsPlain words told answers no_plan
+SettlesBy words told answers Memory = ⊤
+SettlesBy words told answers status = ⊥
+
+-- Where all goes well the run has an outcome; and where, besides, the children answer by a table that keeps it within
+-- its limits, that is no limit.
+pub record Completes (words : List (List ℕ)) (outside : Outside) (host_rose sink_rose : Type 0)
+    (status : Status) : Type 0 where
+  pub ends : GoesWell words outside host_rose sink_rose → EndsWell status
+  pub settles : (answers : Answers) → GoesWell words outside host_rose sink_rose
+      → AreGivenAnswers words outside answers → SettlesBy words outside.files.told answers status

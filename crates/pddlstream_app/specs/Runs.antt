@@ -12,6 +12,7 @@ use Rattle.level_run.specs.Reports as reports
 use Rattle.level_run.specs.Reports.{text_so_far, last_begins, report_of}
 use Rattle.round_run.specs.Rolling.{Blames}
 use Rattle.level_run.specs.Turns.{HasTurnLine, IsFrontOfRun}
+use Rattle.table_runs.specs.Tabled.{IsTabled}
 use Rattle.task_model.specs.Fit.{IsFit}
 use Rattle.task_model.specs.declared.task.Task.{Task}
 use Rattle.transcript_model.specs.Legal.{IsLegal, asks_of, is_level, is_open}
@@ -75,14 +76,15 @@ outcome_status (outcome.Limit kind) = Limit
 -- The text is all that is shown of a run with an outcome of the status's kind. The run's transcript is a list of whole
 -- turns of its mode, or one after a batch that was cut, each of which begins where one is needed; the outcome may
 -- stand there and is sure, and a limit that a plan would have avoided stands only where a turn would be needed. What
--- was said with the children is the transcript's dialogue, and the calls that came to the log are its calls, in order,
--- and then stops.
+-- was said with the children is the transcript's dialogue, and where they answer by a table the run comes to what the
+-- table says. The calls that came to the log are the transcript's, in order, and then stops.
 pub record HasOutcome (words : List (List ℕ)) (outside : Outside) (status : Status) (text : List ℕ) : Type 0 where
   pub run : ProgramRun words outside.files.told
   pub outcome : Outcome
   pub kind : outcome_status outcome ≡ status
   pub turns : reports.IsRun run.task run.head run.entries outcome
   pub talks : Dialogue run.task run.head.version (workers_in run.head) run.entries outside.spoken
+  pub tabled : IsTabled run.task run.head run.entries outside.spoken outcome
   pub calls : LogRan run.task run.head run.entries outside.was outside.now
   pub is : text ≡ shown_text run.work run.task run.head run.entries outcome
 
@@ -104,7 +106,7 @@ pub record HasVerdict (words : List (List ℕ)) (outside : Outside) (status : St
 -- ---- faults
 
 -- The text is what is shown of a run that stopped with this fault. The transcript is one of
--- whole turns, the last of which may stop at any entry; each begins where no plan exists. If a request is blamed, it is
+-- whole turns, the last of which may stop at any entry; each begins where one is needed. If a request is blamed, it is
 -- open, and what its child said next is no answer. What was said with the children is the transcript's dialogue, broken
 -- off behind it; the calls that came to the log are the transcript's, up to where it broke off, and then stops. A
 -- request more, if one was begun, is the next of the run; none was where an answer is bad, and where the sink failed no

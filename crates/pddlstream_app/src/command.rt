@@ -2,7 +2,7 @@
 ghost use Rattle.std.specs.Prelude.{◌≡◌, ◌≤◌, ◌⊎◌, ℕ, false, map, string_bytes, IfOk, IfErr};
 ghost use Rattle.io_world.specs.Faults.{last_count, HasCause, Rose};
 ghost use Rattle.pddlstream_app.specs.Asked.{AsksAll, AsksBefore, AsksFiles};
-ghost use Rattle.pddlstream_app.specs.Complete.{GoesWell, EndsWell};
+ghost use Rattle.pddlstream_app.specs.Complete.{Completes};
 ghost use Rattle.pddlstream_app.specs.Headline.{PrintsNoPlan, PrintsPlan};
 ghost use Rattle.pddlstream_app.specs.Outside.{outside_of, seen_of, written_of};
 ghost use Rattle.pddlstream_app.specs.Runs.{Caused, ClosesRun, Ends, IsCompleted, IsStopped, LeavesReplays, TellsStatus};
@@ -98,8 +98,7 @@ fn attempt<F: Files, H: Host, O: Sink>(
 ///
 /// `replay DOMAIN PROBLEM STREAMS REPORT [--states N]` reads the three texts so, then the report's
 /// file, and writes `valid`, `invalid LINE KIND`, or `limit states` where a claim of the report
-/// can't be decided within N states. Reports of incremental mode are judged; a head of another mode
-/// is its first wrong line.
+/// can't be decided within N states. Reports of all four modes are judged.
 ///
 /// `generate N` makes the grid's task of that number, solves it as `solve` does by `@grid`, without
 /// a report, and writes one line, `generate N OUTCOME levels L asks A`: how many levels and
@@ -129,11 +128,13 @@ pub fn run<F: Files, H: Host, O: Sink>(
         (written_of O.taken out.old out.new) }
     // What the sink took is what a run writes that ends so, or a part of it where the sink failed.
     // Where the host tells what was said with the children, that is the dialogue of the run's
-    // transcript. Where the host's log is told, its calls are those of the transcript, in order,
-    // and then stops: the starts of all workers, the writes of each request and the reads of each
-    // answer. A run without an outcome has them up to where it broke off; a fault of the generator
-    // has a call that failed, and where no line of a level stands only stops came. Where nothing
-    // was asked in a run with an outcome, no call was made on a child.
+    // transcript; and where they answer by a table, a run in incremental mode asks, hears, knows
+    // and ends as the plain run over the table does, but at the limit of states. Where the host's
+    // log is told, its calls are those of the transcript, in order, and then stops: the starts of
+    // all workers, the writes of each request and the reads of each answer. A run without an
+    // outcome has them up to where it broke off; a fault of the generator has a call that failed,
+    // and where no line stands that may have requests behind it only stops came. Where nothing was
+    // asked in a run with an outcome, no call was made on a child.
     ensures ends { Ends (map string_bytes words.now)
         (outside_of (seen_of F.told F.faults F.asked files.old files.new) H.spoken H.log host.old
         host.new) (written_of O.taken out.old out.new) result }
@@ -145,11 +146,14 @@ pub fn run<F: Files, H: Host, O: Sink>(
     ensures host { Caused (result ≡ GeneratorFault) H.last (H.faults host.old) (H.faults host.new) }
     ensures sink { Caused (result ≡ WriteFault) last_count (O.faults out.old) (O.faults out.new) }
     // Where the words mean that a task is to be solved, the files are told and spell one, no count
-    // of faults rose and only answers were heard, the run has an outcome, or memory is wanting.
-    ensures complete { GoesWell (map string_bytes words.now)
+    // of faults rose and only answers were heard, the run has an outcome, or memory is wanting. And
+    // where the generators answer by a finite table over which no run passes the limits of calls
+    // and of states, that outcome is a plan or `no plan`, in each mode, and in incremental mode the
+    // one of the plain run over the table, whatever the workers.
+    ensures complete { Completes (map string_bytes words.now)
         (outside_of (seen_of F.told F.faults F.asked files.old files.new) H.spoken H.log host.old
         host.new) (Rose H.last (H.faults host.old) (H.faults host.new))
-        (Rose last_count (O.faults out.old) (O.faults out.new)) → EndsWell result }
+        (Rose last_count (O.faults out.old) (O.faults out.new)) result }
     // Where the files tell which paths were asked for, those of this call are the command's files,
     // each once and in their order: none where the words are no command, those up to the text that
     // the last line names where it was refused or not read, and else all. Where memory is wanting

@@ -3,6 +3,7 @@ pub mod BoundedLemmas
 pub mod DuesLemmas
 pub mod LevelLemmas
 pub mod OneLemmas
+pub mod OwnLemmas
 pub mod RequestedLemmas
 pub mod SaidLemmas
 pub mod SettledLemmas

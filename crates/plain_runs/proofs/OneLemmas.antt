@@ -1,5 +1,6 @@
 -- To one table of answers there is one plain run.
-use Rattle.std.proofs.Common.{◌≡◌, ℕ, ◌+◌, ◌<◌, ◌≤◌, List, [], ◌∷◌, ◌++◌, length, refl, sym, ap, subst, arith}
+use Rattle.std.proofs.Common.{◌≡◌, ℕ, ◌+◌, ◌<◌, ◌≤◌, List, [], ◌∷◌, ◌++◌, length, refl, sym, ap, ◌∙◌, subst, arith, count_by, Some}
+use Rattle.std.specs.List.{filter}
 use Rattle.lemmas.proofs.Ascending.{contains_here}
 use Rattle.lemmas.proofs.Pigeonhole.{pigeons}
 use Rattle.task_model.proofs.StreamsLemmas.{due_once}
@@ -8,12 +9,13 @@ use Rattle.task_model.specs.Streams.{MoreAreDue, NothingIsDue}
 use Rattle.task_model.specs.declared.limits.TheConstants.{MOST_DUE}
 use Rattle.task_model.specs.declared.stream.Instance.{Instance}
 use Rattle.task_model.specs.declared.task.Task.{Task}
-use Rattle.transcript_model.specs.Legal.{asks_of}
-use Rattle.transcript_model.specs.Plain.{GoesOn, IsPlainRun, PlainEnd, closed, cut, level, level_of, solved, spent, too_many}
+use Rattle.transcript_model.specs.Legal.{asks_of, is_answer, is_ask, is_level}
+use Rattle.transcript_model.specs.Plain.{GoesOn, IsAsPlain, IsPlainRun, PlainEnd, SaysSame, closed, cut, end_of, level, level_of, solved, spent, too_many}
 use Rattle.transcript_model.specs.Plain as plain
 use Rattle.transcript_model.specs.Tables.{Answers}
 use Rattle.transcript_model.specs.Transcript.{known_of, notes_of}
 use Rattle.transcript_model.specs.declared.entry.Entry.{Entry}
+use Rattle.transcript_model.specs.declared.outcome.Outcome.{Outcome}
 
 module _ (task : Task) (answers : Answers) (calls : ℕ) where
   -- the same entries and the same end
@@ -127,3 +129,18 @@ module _ (task : Task) (answers : Answers) (calls : ℕ) where
 pub runs_once : (task : Task) (answers : Answers) (calls : ℕ) (xs ys : List Entry) (d e : PlainEnd)
     → IsPlainRun task answers calls [] xs d → IsPlainRun task answers calls [] ys e → (xs ≡ ys) × (d ≡ e)
 runs_once task answers calls xs ys d e first second = one task answers calls first second
+
+-- two runs that are as plain runs over one table say the same, and end so
+pub as_one : (task : Task) (answers : Answers) (calls : ℕ) (xs ys : List Entry) (o p : Outcome)
+    → IsAsPlain task answers calls xs o → IsAsPlain task answers calls ys p
+    → SaysSame xs ys × (known_of task xs ≡ known_of task ys) × (end_of o ≡ end_of p)
+as_one task answers calls xs ys o p a b =
+    let one = runs_once task answers calls a.plain b.plain a.end b.end a.run b.run in (
+      record {
+        asks = a.same.asks ∙ ap (filter is_ask) one.0 ∙ sym b.same.asks;
+        answers = a.same.answers ∙ ap (filter is_answer) one.0 ∙ sym b.same.answers;
+        levels = a.same.levels ∙ ap (count_by is_level) one.0 ∙ sym b.same.levels;
+      },
+      a.known ∙ ap (known_of task) one.0 ∙ sym b.known,
+      a.ends ∙ ap Some one.1 ∙ sym b.ends,
+    )

@@ -1,14 +1,15 @@
 -- Laws of plain runs. Each is the contract of a public function of `laws.rt`, and so is proved.
 use Rattle.std.specs.Prelude.{◌≡◌, ◌≤◌, ℕ, List, []}
 use Rattle.plain_runs.specs.Answered.{IsAnsweredRun}
+use Rattle.plain_runs.specs.Own.{own_rows}
 use Rattle.task_model.specs.Fit.{IsFit}
 use Rattle.task_model.specs.Plans.{IsReached, MoreThan}
 use Rattle.task_model.specs.declared.task.Task.{Task}
-use Rattle.transcript_model.specs.Legal.{HasNoneOpen, asks_of}
+use Rattle.transcript_model.specs.Legal.{HasNoneOpen, IsLegal, asks_of}
 use Rattle.transcript_model.specs.Outcomes.{IsTrueOutcome}
 use Rattle.transcript_model.specs.Plain.{IsAsPlain, IsPlainRun, PlainEnd, SaysSame, end_of}
 use Rattle.transcript_model.specs.Rounds.{Limits}
-use Rattle.transcript_model.specs.Tables.{AgreesWith, Answers, IsBounded}
+use Rattle.transcript_model.specs.Tables.{AgreesWith, Answers, IsBounded, IsTable, reply_in}
 use Rattle.transcript_model.specs.Transcript.{known_of, notes_of}
 use Rattle.transcript_model.specs.Turns.{Stage}
 use Rattle.transcript_model.specs.declared.entry.Entry.{Entry}
@@ -70,3 +71,9 @@ abbrev pub NoStreamsAreBounded : Type 0
 NoStreamsAreBounded =
     (version : ℕ) (task : Task) (answers : Answers) (calls states : ℕ) → task.streams ≡ []
     → ¬ (MoreThan states (IsReached task (known_of task []))) → IsBounded version task answers calls states
+
+-- What is answered in a legal transcript is a table, a row for each request, and the transcript agrees with it.
+abbrev pub TranscriptsHaveTables : Type 0
+TranscriptsHaveTables =
+    (version : ℕ) (task : Task) (entries : List Entry) → IsFit task → IsLegal version task entries
+    → IsTable version task (own_rows entries) × AgreesWith version task (reply_in (own_rows entries)) entries

@@ -1,5 +1,5 @@
 //! Laws of plain runs, each the contract of a function that does nothing.
-ghost use Rattle.plain_runs.specs.Laws.{AnsweredRunsArePlain, BoundedRunsSettle, NoStreamsAreBounded, PlainRunsAreOne, PoolsDoNotMatter, SaidIsKnown};
+ghost use Rattle.plain_runs.specs.Laws.{AnsweredRunsArePlain, BoundedRunsSettle, NoStreamsAreBounded, PlainRunsAreOne, PoolsDoNotMatter, SaidIsKnown, TranscriptsHaveTables};
 
 /// What is known, noted and counted after a transcript depends on its requests and its answers
 /// alone, each in one order.
@@ -37,4 +37,10 @@ pub fn bounded_runs_settle()
 /// first than the limit allows.
 pub fn no_streams_are_bounded()
     ensures { NoStreamsAreBounded }
+{}
+
+/// What is answered in a legal transcript is a table, and the transcript agrees with it; so there
+/// is a table to each run.
+pub fn transcripts_have_tables()
+    ensures { TranscriptsHaveTables }
 {}

@@ -1,18 +1,26 @@
 -- Claims of outcomes, from what is kept of the entries.
-use Rattle.std.proofs.Common.{◌≡◌, ◌==◌, ◌↔◌, ℕ, ◌<◌, Bool, List, [], ◌∷◌, length, refl, sym, ap, subst, ◌∙◌, arith, Contains, IsTrue}
+use Rattle.std.proofs.Common.{◌≡◌, ◌==◌, ◌↔◌, ℕ, ◌<◌, Bool, true, false, not, Some, List, [], ◌∷◌, length, refl, sym, ap, subst, ◌∙◌, arith, Contains, IsTrue}
 use Rattle.std.proofs.lemmas.Bool.{ne_eqb, true≢false}
 use Rattle.std.proofs.lemmas.List.{length-map}
+use Rattle.dream_check.specs.Judged.{IsSolvableWithin}
 use Rattle.lemmas.proofs.Pigeonhole.{pigeons}
 use Rattle.instance_queue.specs.Level.{AreDueInTurn, instances_of}
 use Rattle.instance_queue.specs.declared.due.Due.{Due}
 use Rattle.task_model.proofs.StreamsLemmas.{nothing_due}
+use Rattle.task_model.specs.Known.{Known}
+use Rattle.task_model.specs.Plans.{IsReached, IsSolvable, MoreThan}
 use Rattle.task_model.specs.Streams.{AreDue, IsDue, MoreAreDue, NothingIsDue}
 use Rattle.task_model.specs.declared.stream.Instance.{Instance}
 use Rattle.task_model.specs.declared.task.Task.{Task}
 use Rattle.transcript_ledger.specs.Ledgers.{IsLedger}
 use Rattle.transcript_ledger.specs.declared.ledger.Ledger.{Ledger}
+use Rattle.transcript_model.specs.Legal.{HasNoneOpen}
+use Rattle.transcript_model.specs.Rounds.{Limits}
 use Rattle.transcript_model.specs.Transcript.{known_of, notes_of}
 use Rattle.transcript_model.specs.declared.entry.Entry.{Entry}
+use Rattle.transcript_model.specs.declared.outcome.Outcome.TheVariants as outcome
+use Rattle.replay_check.specs.Claims.{IsJudged, claim_of}
+use Rattle.replay_check.specs.declared.claims.Claim.TheVariants.{Open}
 
 module _ (version : ℕ) (task : Task) (entries : List Entry) (l : Ledger) (h : IsLedger version task entries l) where
   -- too much is due after the entries
@@ -93,4 +101,35 @@ module _ (version : ℕ) (task : Task) (entries : List Entry) (l : Ledger) (h : 
   nothing_due_is (d ∷ more) empty turn is = (
     λ yes. absurd (true≢false (sym yes ∙ is ∙ ne_eqb (length (d ∷ more)) 0 (λ e. omega (arith, e)))),
     λ none. absurd (not_none_due (d ∷ more) d more turn refl none),
+  )
+
+-- ---- that there is no plan
+
+module _ (limits : Limits) (limit : ℕ) (task : Task) (entries : List Entry) (l : Ledger)
+    (h : IsLedger limits.version task entries l) where
+  abbrev NoneDue : Type 0
+  NoneDue = NothingIsDue task (known_of task entries) (notes_of task entries)
+
+  -- where more states are reached
+  pub no_plan_open : NoneDue → MoreThan limit (IsReached task l.facts.known)
+      → IsJudged limits limit task entries outcome.NoPlan Open
+  no_plan_open none many = (none, subst (λ (k : Known). MoreThan limit (IsReached task k)) h.known many)
+
+  few_reached : ¬ (MoreThan limit (IsReached task l.facts.known))
+      → ¬ (NoneDue × MoreThan limit (IsReached task (known_of task entries)))
+  few_reached few u = few (subst (λ (k : Known). MoreThan limit (IsReached task k)) (sym h.known) u.1)
+
+  -- where no more are
+  pub no_plan_said : HasNoneOpen entries → NoneDue → (solvable : Bool) → IsSolvableWithin task l.facts.known limit (Some solvable)
+      → IsJudged limits limit task entries outcome.NoPlan (claim_of (not solvable))
+  no_plan_said closed none true said = (
+    λ p. p.unsolvable (subst (λ (k : Known). IsSolvable task k) h.known said.0),
+    few_reached said.1,
+  )
+  no_plan_said closed none false said = (
+    record {
+      closed = record { legal = h.legal; none_open = closed; finished = none };
+      unsolvable = subst (λ (k : Known). ¬ (IsSolvable task k)) h.known said.0;
+    },
+    few_reached said.1,
   )

@@ -1,12 +1,14 @@
 -- What is due where a turn may begin.
-use Rattle.std.proofs.Common.{◌≡◌, ◌↔◌, ◌&&◌, ◌<◌, List, length, refl, ap, arith, true, Option, Some, None, IfSome, IfNone, IsTrue, is_some}
+use Rattle.std.proofs.Common.{◌≡◌, ◌∙◌, ◌↔◌, ◌&&◌, ◌<◌, ℕ, List, length, refl, sym, ap, arith, Bool, true, false, not, Option, Some, None, IfSome, IfNone, IsTrue, is_some}
+use Rattle.std.proofs.lemmas.Bool.{true≢false}
 use Rattle.std.proofs.lemmas.List.{length-map}
 use Rattle.instance_queue.specs.Level.{AreDueInTurn, instances_of}
 use Rattle.instance_queue.specs.declared.due.Due.{Due}
+use Rattle.std.specs.List.{list_all}
+use Rattle.lemmas.proofs.ListTests.{all_at}
 use Rattle.lemmas.proofs.Pigeonhole.{pigeons}
 use Rattle.mode_course.proofs.MadeLemmas.{between_awaits}
 use Rattle.mode_course.specs.Agendas.{ModeAgenda, is_over, is_resting, mode_place_in}
-use Rattle.mode_course.specs.Laws.{IsFollowed}
 use Rattle.pools.specs.Pools.{HaveWorkers}
 use Rattle.task_model.proofs.StreamsLemmas.{due_once}
 use Rattle.task_model.specs.Streams.{MoreAreDue}
@@ -15,7 +17,7 @@ use Rattle.transcript_ledger.specs.declared.ledger.Ledger.{Ledger}
 use Rattle.transcript_model.specs.Legal.{asks_of}
 use Rattle.transcript_model.specs.Rounds.{Limits}
 use Rattle.transcript_model.specs.Transcript.{known_of, notes_of}
-use Rattle.transcript_model.specs.Turns.{MayBegin}
+use Rattle.transcript_model.specs.Turns.{IsPicked, MayBegin, Skeleton}
 use Rattle.transcript_model.specs.declared.entry.Entry.{Entry}
 use Rattle.transcript_model.specs.declared.head.Mode.TheVariants.{Incremental}
 use Rattle.replay_check.proofs.ClaimsLemmas.{all_due, more_due}
@@ -25,11 +27,27 @@ use Rattle.replay_check.specs.Breaches.{BeginsTurn}
 use Rattle.replay_check.specs.Standings.{StandsBehind}
 use Rattle.replay_check.specs.Turns.{AreDueFor}
 
+-- where all are given up none is picked
+pub none_picked : (xs : List Skeleton) (place : ℕ) (s : Skeleton) → list_all (λ (x : Skeleton). x.retired) xs ≡ true
+    → IsPicked xs place s → ⊥
+none_picked xs place s all p = true≢false (sym (all_at (λ (x : Skeleton). x.retired) xs place s all p.there) ∙ p.kept)
+
 -- what is there exactly where it may be
 pub there_where : {A : Type 0} (o : Option A) (P : A → Type 0) (M : Type 0) → IfSome o P → IfNone o (¬ M) → ((x : A) → P x → M)
     → IsTrue (is_some o) ↔ M
 there_where (Some x) P M some none of = (λ yes. of x some, λ m. refl)
 there_where None P M some none of = (λ yes. absurd (cc), λ m. absurd (none m))
+
+-- a skeleton is to be picked, or all are given up
+pub none_where : (skeletons : List Skeleton) (o : Option ℕ)
+    → IfSome o (λ place. (s : Skeleton) × IsPicked skeletons place s)
+    → IfNone o (list_all (λ (s : Skeleton). s.retired) skeletons ≡ true)
+    → (empty : Bool) → not empty ≡ is_some o → IsTrue empty ↔ (list_all (λ (s : Skeleton). s.retired) skeletons ≡ true)
+none_where skeletons (Some place) some none true is = absurd (cc)
+none_where skeletons (Some place) some none false is =
+    (λ empty. absurd (cc), λ all. absurd (none_picked skeletons place some.0 all some.1))
+none_where skeletons None some none true is = (λ empty. none, λ all. refl)
+none_where skeletons None some none false is = absurd (cc)
 
 module _ (limits : Limits) (task : Task) (entries : List Entry) (l : Ledger) (a : ModeAgenda)
     (s : StandsBehind limits task entries l a) where
@@ -76,8 +94,9 @@ module _ (limits : Limits) (task : Task) (entries : List Entry) (l : Ledger) (a 
   pub begins_turn : HaveWorkers limits.pools → ¬ (limits.mode ≡ Incremental) → (is_over a.batch && is_resting a.phase) ≡ true
       → MayBegin limits task entries → BeginsTurn limits task entries
   begins_turn workers dreams between may =
-      (dreams, may, rests_between limits task entries (mode_place_in task entries a) s.leads workers (between_awaits task entries a between))
+      let awaits = between_awaits task entries a between in
+      (dreams, may, rests_between limits task entries (mode_place_in task entries a) s.leads workers awaits)
 
-  pub begins_between : IsFollowed limits.mode → BeginsTurn limits task entries → (is_over a.batch && is_resting a.phase) ≡ true
-  begins_between followed begins =
-      awaits_between task entries a (may_here limits task entries (mode_place_in task entries a) s.leads followed begins).awaits
+  pub begins_between : BeginsTurn limits task entries → (is_over a.batch && is_resting a.phase) ≡ true
+  begins_between begins =
+      awaits_between task entries a (may_here limits task entries (mode_place_in task entries a) s.leads begins).awaits

@@ -22,5 +22,6 @@ pub mod StandingsMarkLemmas
 pub mod VerdictsHeadLemmas
 pub mod VerdictsLemmas
 pub mod WalksLemmas
+pub mod WalksPickLemmas
 pub mod WalksTurnLemmas
 pub mod WrongLemmas

@@ -125,7 +125,9 @@ line_within limits task before e offset kind.Dream wrong = by e wrong
   where
     by : (d : Entry) → IsFalseDream limits task before d offset → offset + 1 ≤ length (entry_lines d)
     by (entry.Dream uses steps) (k, left, line) =
-        let few = wrong_line_few limits task before k.tried uses steps offset line in let count = dream_count uses steps in omega (arith, few, count)
+        let few = wrong_line_few limits task before k.tried uses steps offset line in
+        let count = dream_count uses steps in
+        omega (arith, few, count)
     by entry.Level none = absurd none
     by (entry.Ask number turn call) none = absurd none
     by (entry.Got number tuples values) none = absurd none

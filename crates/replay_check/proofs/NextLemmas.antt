@@ -1,10 +1,9 @@
 -- What comes next where the judge stands.
-use Rattle.std.proofs.Common.{◌≡◌, ℕ, ◌+◌, ◌<◌, ◌==◌, ◌&&◌, not, inl, inr, Bool, true, false, List, [], ◌∷◌, ◌++◌, length, refl, sym, ap, ◌∙◌, Some, None, arith, eqb-true, eq-eqb}
+use Rattle.std.proofs.Common.{◌≡◌, ℕ, ◌+◌, ◌<◌, ◌==◌, ◌&&◌, ◌⊎◌, not, inl, inr, Bool, true, false, List, [], ◌∷◌, ◌++◌, length, refl, sym, ap, ◌∙◌, Some, None, arith, eqb-true, eq-eqb}
 use Rattle.std.proofs.lemmas.Bool.{true≢false}
 use Rattle.level_course.specs.Courses.{Course}
-use Rattle.mode_course.specs.Agendas.{ModeAgenda, is_over, is_resting, mode_place_in}
-use Rattle.mode_course.specs.Laws.{IsFollowed}
-use Rattle.mode_course.specs.Places.{Awaits, IsBatchStep, IsStep, Place, begins_level, falls_back, goes_on, resets, resting, tells_dream, tells_none, undreamt}
+use Rattle.mode_course.specs.Agendas.{ModeAgenda, is_dreamt, is_over, is_resting, is_undreamt, mode_place_in}
+use Rattle.mode_course.specs.Places.{Awaits, AwaitsLine, AwaitsPick, IsBatchStep, IsStep, Place, awaits_line, begins_level, dreamt, falls_back, goes_on, picks, resets, resting, retires, tells_dream, tells_none, unasked, undreamt}
 use Rattle.task_model.specs.Streams.{yields_of}
 use Rattle.task_model.specs.declared.stream.Instance.{Instance}
 use Rattle.task_model.specs.declared.task.Task.{Task}
@@ -12,14 +11,14 @@ use Rattle.transcript_ledger.specs.declared.ledger.Ledger.{Ledger}
 use Rattle.transcript_model.specs.Legal.{answered_number, asks_of, is_answer_to, is_mark}
 use Rattle.transcript_model.specs.Names.{call_of_instance}
 use Rattle.transcript_model.specs.Rounds.{Limits, requests_from}
-use Rattle.transcript_model.specs.Turns.{MayBegin}
+use Rattle.transcript_model.specs.Turns.{IsPicked, MayBegin, Skeleton}
 use Rattle.transcript_model.specs.declared.entry.Call.{Call}
 use Rattle.transcript_model.specs.declared.entry.Entry.{Entry}
 use Rattle.transcript_model.specs.declared.entry.Entry.TheVariants as entry
 use Rattle.replay_check.proofs.PlacesLemmas.{batch_no_mark, batch_of, first_request, next_step}
 use Rattle.replay_check.specs.Breaches.{AreBegun}
 use Rattle.replay_check.specs.Standings.{IsNextRequest, StandsBehind}
-use Rattle.replay_check.specs.Turns.{AsksLevel}
+use Rattle.replay_check.specs.Turns.{AsksLevel, HasNothing, PicksNext}
 
 -- ---- requests and answers
 
@@ -67,13 +66,27 @@ module _ (task : Task) (entries : List Entry) (a : ModeAgenda) where
   pub awaits_between : Awaits (mode_place_in task entries a) resting → (is_over a.batch && is_resting a.phase) ≡ true
   awaits_between w = λ i. is_over_where a.batch.answers a.batch.is_cut w.answered w.uncut i && is_resting (w.phase_is i)
 
-  pub awaits_undreamt : Awaits (mode_place_in task entries a) undreamt → (is_over a.batch && not (is_resting a.phase)) ≡ true
-  awaits_undreamt w = λ i. is_over_where a.batch.answers a.batch.is_cut w.answered w.uncut i && not (is_resting (w.phase_is i))
+  pub awaits_undreamt : Awaits (mode_place_in task entries a) undreamt → (is_over a.batch && is_undreamt a.phase) ≡ true
+  awaits_undreamt w = λ i. is_over_where a.batch.answers a.batch.is_cut w.answered w.uncut i && is_undreamt (w.phase_is i)
+
+  awaits_dreamt : Awaits (mode_place_in task entries a) dreamt → (is_over a.batch && is_dreamt a.phase) ≡ true
+  awaits_dreamt w = λ i. is_over_where a.batch.answers a.batch.is_cut w.answered w.uncut i && is_dreamt (w.phase_is i)
+
+  pub awaits_a_line : AwaitsLine (mode_place_in task entries a) → (is_over a.batch && awaits_line a.phase) ≡ true
+  awaits_a_line w = λ i. is_over_where a.batch.answers a.batch.is_cut w.answered w.uncut i && w.line i
+
+  pub over_where : a.batch.answers ≡ 0 → a.batch.is_cut ≡ false → is_over a.batch ≡ true
+  over_where answered uncut = is_over_where a.batch.answers a.batch.is_cut answered uncut
+
+  awaits_pick : AwaitsPick (mode_place_in task entries a)
+      → ((is_over a.batch && is_dreamt a.phase) ≡ true) ⊎ ((is_over a.batch && is_undreamt a.phase) ≡ true)
+  awaits_pick (inl w) = inl (awaits_dreamt w)
+  awaits_pick (inr w) = inr (awaits_undreamt w)
 
 -- ---- turns
 
 module _ (limits : Limits) (task : Task) (entries : List Entry) (l : Ledger) (a : ModeAgenda)
-    (followed : IsFollowed limits.mode) (s : StandsBehind limits task entries l a) where
+    (s : StandsBehind limits task entries l a) where
   abbrev pub here : Place
   here = mode_place_in task entries a
 
@@ -84,7 +97,7 @@ module _ (limits : Limits) (task : Task) (entries : List Entry) (l : Ledger) (a 
   batch_step : (e : Entry) → is_mark e ≡ false → AreBegun limits task (entries ++ e ∷ [])
       → (d : Course) × IsBatchStep limits task entries here.batch e d
   batch_step e other begun =
-      let step = next_step limits task entries here s.leads followed e begun in
+      let step = next_step limits task entries here s.leads e begun in
       batch_of limits task entries here e step.0 other step.1
 
   -- a request with which a turn goes on is the next
@@ -125,7 +138,7 @@ module _ (limits : Limits) (task : Task) (entries : List Entry) (l : Ledger) (a 
 
   -- a level with which a turn goes on may be asked, and something is due
   pub next_level : AreBegun limits task (entries ++ entry.Level ∷ []) → AsksLevel limits.mode a × MayBegin limits task entries
-  next_level begun = by (next_step limits task entries here s.leads followed entry.Level begun)
+  next_level begun = by (next_step limits task entries here s.leads entry.Level begun)
     where
       by : (after : Place) × IsStep limits task entries here entry.Level after → AsksLevel limits.mode a × MayBegin limits task entries
       by (after, goes_on d t is) = no_batch entry.Level d refl t
@@ -134,41 +147,74 @@ module _ (limits : Limits) (task : Task) (entries : List Entry) (l : Ledger) (a 
       by (after, tells_none t) = absurd (let is = t.is in cc)
       by (after, resets t) = absurd (let is = t.is in cc)
       by (after, falls_back t) =
-          (inr (awaits_undreamt task entries a t.awaits, t.untried), (s.dreamless t.awaits.phase_is).1)
+          (inr ((awaits_undreamt task entries a t.awaits, t.no_skeleton), t.untried), (s.dreamless t.awaits.phase_is).1)
+      by (after, picks t) = absurd (let is = t.is in cc)
+      by (after, retires t) = absurd (let is = t.is in cc)
 
-  -- where a turn goes on with a reset there is no dream, and something was tried
-  pub next_reset : AreBegun limits task (entries ++ entry.Reset ∷ [])
-      → ((is_over a.batch && not (is_resting a.phase)) ≡ true) × (0 < length a.kept.tried)
-  next_reset begun = by (next_step limits task entries here s.leads followed entry.Reset begun)
+  -- where a turn goes on with a reset there is no dream, no skeleton to pick, and something was tried
+  pub next_reset : AreBegun limits task (entries ++ entry.Reset ∷ []) → HasNothing limits.mode a × (0 < length a.kept.tried)
+  next_reset begun = by (next_step limits task entries here s.leads entry.Reset begun)
     where
       by : (after : Place) × IsStep limits task entries here entry.Reset after
-          → ((is_over a.batch && not (is_resting a.phase)) ≡ true) × (0 < length a.kept.tried)
+          → HasNothing limits.mode a × (0 < length a.kept.tried)
       by (after, goes_on d t is) = no_batch entry.Reset d refl t
       by (after, begins_level t) = absurd (let is = t.begins.is in cc)
       by (after, tells_dream t) = absurd (let is = t.is in cc)
       by (after, tells_none t) = absurd (let is = t.is in cc)
-      by (after, resets t) = (awaits_undreamt task entries a t.awaits, t.tried)
+      by (after, resets t) = ((awaits_undreamt task entries a t.awaits, t.no_skeleton), t.tried)
       by (after, falls_back t) = absurd (let is = t.is in cc)
+      by (after, picks t) = absurd (let is = t.is in cc)
+      by (after, retires t) = absurd (let is = t.is in cc)
 
-  -- no turn goes on with a skeleton
-  pub no_pick : (n : ℕ) → ¬ (AreBegun limits task (entries ++ entry.Pick n ∷ []))
-  no_pick n begun = by (next_step limits task entries here s.leads followed (entry.Pick n) begun)
+  -- ---- skeletons
+
+  -- where a turn goes on with a pick, a skeleton comes to be picked, and it is the one that is told
+  pub record PicksIt (n : ℕ) : Type 0 where
+    pub comes : PicksNext limits.mode a
+    pub place : ℕ
+    pub skeleton : Skeleton
+    pub picked : IsPicked a.kept.skeletons place skeleton
+    pub is : n ≡ place + 1
+
+  pub next_pick : (n : ℕ) → AreBegun limits task (entries ++ entry.Pick n ∷ []) → PicksIt n
+  next_pick n begun = by (next_step limits task entries here s.leads (entry.Pick n) begun)
     where
-      by : (after : Place) × IsStep limits task entries here (entry.Pick n) after → ⊥
+      by : (after : Place) × IsStep limits task entries here (entry.Pick n) after → PicksIt n
       by (after, goes_on d t is) = no_batch (entry.Pick n) d refl t
       by (after, begins_level t) = absurd (let is = t.begins.is in cc)
       by (after, tells_dream t) = absurd (let is = t.is in cc)
       by (after, tells_none t) = absurd (let is = t.is in cc)
       by (after, resets t) = absurd (let is = t.is in cc)
       by (after, falls_back t) = absurd (let is = t.is in cc)
+      by (after, picks t) =
+          let is = t.is in
+          record {
+            comes = (t.mode, awaits_pick task entries a t.awaits);
+            place = t.place;
+            skeleton = t.skeleton;
+            picked = t.picked;
+            is = let same : n ≡ t.place + 1 = cc in same;
+          }
+      by (after, retires t) = absurd (let is = t.is in cc)
 
-  pub no_retire : (n : ℕ) → ¬ (AreBegun limits task (entries ++ entry.Retire n ∷ []))
-  no_retire n begun = by (next_step limits task entries here s.leads followed (entry.Retire n) begun)
+  -- where a turn goes on with a skeleton that is given up, it is the one of which nothing was asked
+  pub next_retire : (n : ℕ) → AreBegun limits task (entries ++ entry.Retire n ∷ [])
+      → (place : ℕ) × (n ≡ place + 1) × (a.phase ≡ unasked place) × (is_over a.batch ≡ true)
+  next_retire n begun = by (next_step limits task entries here s.leads (entry.Retire n) begun)
     where
-      by : (after : Place) × IsStep limits task entries here (entry.Retire n) after → ⊥
+      by : (after : Place) × IsStep limits task entries here (entry.Retire n) after
+          → (place : ℕ) × (n ≡ place + 1) × (a.phase ≡ unasked place) × (is_over a.batch ≡ true)
       by (after, goes_on d t is) = no_batch (entry.Retire n) d refl t
       by (after, begins_level t) = absurd (let is = t.begins.is in cc)
       by (after, tells_dream t) = absurd (let is = t.is in cc)
       by (after, tells_none t) = absurd (let is = t.is in cc)
       by (after, resets t) = absurd (let is = t.is in cc)
       by (after, falls_back t) = absurd (let is = t.is in cc)
+      by (after, picks t) = absurd (let is = t.is in cc)
+      by (after, retires t) =
+          let is = t.is in (
+            t.place,
+            (let same : n ≡ t.place + 1 = cc in same),
+            t.awaits.phase_is,
+            over_where task entries a t.awaits.answered t.awaits.uncut,
+          )

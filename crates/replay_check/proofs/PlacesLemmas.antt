@@ -3,23 +3,25 @@ use Rattle.std.proofs.Common.{◌≡◌, ℕ, zero, suc, ◌+◌, inl, inr, Bool
 use Rattle.std.proofs.lemmas.Bool.{true≢false}
 use Rattle.level_course.proofs.CoursesLemmas.{nothing_left}
 use Rattle.level_course.specs.Courses.{Course, IsBehind, Opens}
-use Rattle.mode_course.proofs.StepsLemmas.{leads_on_once, leads_on_then}
+use Rattle.mode_course.proofs.StepsLemmas.{at_first_rest, leads_on_once, leads_on_then}
 use Rattle.mode_course.proofs.TurnedLemmas.{turned}
 use Rattle.mode_course.proofs.TurnsLemmas.{turns_lead}
-use Rattle.mode_course.proofs.WholeLemmas.{at_first_rest, between_alone, step_of}
-use Rattle.mode_course.specs.Laws.{IsAt, IsFollowed}
-use Rattle.mode_course.specs.Places.{Awaits, IsBatchStep, IsStep, LeadsOn, MayDream, Place, at_start, begins_level, falls_back, goes_on, resets, resting, tells_dream, tells_none}
+use Rattle.mode_course.proofs.WholeLemmas.{between_alone, step_of}
+use Rattle.mode_course.specs.Laws.{IsAt}
+use Rattle.mode_course.specs.Places.{Awaits, IsBatchStep, IsBehindDream, IsStep, LeadsOn, MayDream, Phase, Place, RunsNext, Settles, at_start, begins_level, falls_back, goes_on, moves, picks, resets, resting, retires, stays, tells_dream, tells_none, with_batch}
 use Rattle.mode_turns.proofs.ModesLemmas.{as_family, of_mode}
 use Rattle.mode_turns.specs.Modes.{nothing_kept}
 use Rattle.pools.specs.Pools.{HaveWorkers}
+use Rattle.task_model.specs.Dreams as dreams
 use Rattle.task_model.specs.Streams.{yields_of}
 use Rattle.task_model.specs.declared.stream.Instance.{Instance}
 use Rattle.task_model.specs.declared.task.Task.{Task}
+use Rattle.transcript_model.specs.Dreaming.{Sent}
 use Rattle.transcript_model.specs.Legal.{asks_of, is_answer_to, is_mark}
 use Rattle.transcript_model.specs.Names.{call_of_instance}
 use Rattle.transcript_model.specs.Rounds.{Limits, requests_from}
 use Rattle.transcript_model.specs.Transcript.{names_of, notes_of}
-use Rattle.transcript_model.specs.Turns.{AreTurnsOf, Stage, between, inside}
+use Rattle.transcript_model.specs.Turns.{AreTurnsOf, Kept, Stage, between, inside}
 use Rattle.transcript_model.specs.declared.entry.Entry.{Entry}
 use Rattle.transcript_model.specs.declared.entry.Entry.TheVariants as entry
 use Rattle.transcript_model.specs.declared.head.Mode.{Mode}
@@ -76,18 +78,38 @@ module _ (limits : Limits) (task : Task) where
       by zero opens = opened_requests (before ++ e ∷ []) c.later c.is_cut d opens
       by (suc left) is = (before, 0, [], ap (λ (x : Course). x.asks) is)
 
+  run_requests : (over : Phase) (real : ℕ) (before : List Entry) (entries : List dreams.Entry) (sent : List Sent) (kept : Kept)
+      (q : Place) → RunsNext limits task over real before entries sent kept q → AreRequests task q.batch.asks
+  run_requests over real before entries sent kept q r =
+      subst (λ (x : Place). AreRequests task x.batch.asks) (sym r.after_is) (opened_requests _ _ _ r.batch r.opens)
+
+  settle_requests : (before : List Entry) (p q : Place) → Settles limits task before p q → AreRequests task p.batch.asks
+      → AreRequests task q.batch.asks
+  settle_requests before p q (stays settled is) are = subst (λ (x : Place). AreRequests task x.batch.asks) (sym is) are
+  settle_requests before p q (moves real entries sent awaits r) are = run_requests resting real before entries sent p.kept q r
+
+  dream_requests : (m : Mode) (real : ℕ) (before : List Entry) (entries : List dreams.Entry) (p q : Place)
+      → IsBehindDream m limits task real before entries p q → AreRequests task p.batch.asks → AreRequests task q.batch.asks
+  dream_requests Incremental real before entries p q behind are = absurd behind
+  dream_requests Focused real before entries p q behind are =
+      subst (λ (x : Place). AreRequests task x.batch.asks) (sym behind.after_is) (opened_requests _ _ _ behind.batch behind.opens)
+  dream_requests Binding real before entries p q behind are = run_requests resting real before entries [] p.kept q behind
+  dream_requests Adaptive real before entries p q behind are =
+      subst (λ (x : Place). AreRequests task x.batch.asks) (sym behind) are
+
   step_requests : (before : List Entry) (p : Place) (e : Entry) (q : Place) → IsStep limits task before p e q
       → AreRequests task p.batch.asks → AreRequests task q.batch.asks
-  step_requests before p e q (goes_on c s is) are =
-      subst (λ (x : Place). AreRequests task x.batch.asks) (sym is) (batch_requests before p.batch e c s are)
+  step_requests before p e q (goes_on c s settles) are =
+      settle_requests (before ++ e ∷ []) (with_batch p c) q settles (batch_requests before p.batch e c s are)
   step_requests before p e q (begins_level s) are =
       subst (λ (x : Place). AreRequests task x.batch.asks) (sym s.after_is) (opened_requests _ _ _ s.batch s.begins.opens)
-  step_requests before p e q (tells_dream s) are =
-      subst (λ (x : Place). AreRequests task x.batch.asks) (sym s.after_is) (opened_requests _ _ _ s.batch s.opens)
+  step_requests before p e q (tells_dream s) are = dream_requests limits.mode _ _ s.entries p q s.behind are
   step_requests before p e q (tells_none s) are = subst (λ (x : Place). AreRequests task x.batch.asks) (sym s.after_is) are
   step_requests before p e q (resets s) are = subst (λ (x : Place). AreRequests task x.batch.asks) (sym s.after_is) are
   step_requests before p e q (falls_back s) are =
       subst (λ (x : Place). AreRequests task x.batch.asks) (sym s.after_is) (opened_requests _ _ _ s.batch s.opens)
+  step_requests before p e q (picks s) are = run_requests _ _ _ _ _ _ q s.runs
+  step_requests before p e q (retires s) are = subst (λ (x : Place). AreRequests task x.batch.asks) (sym s.after_is) are
 
   leads_requests : (p : Place) (before es : List Entry) (q : Place) → LeadsOn limits task p before es q
       → AreRequests task p.batch.asks → AreRequests task q.batch.asks
@@ -113,40 +135,32 @@ module _ (limits : Limits) (task : Task) where
   batch_of before p e q other (tells_none s) = absurd (true≢false (sym (ap is_mark s.is) ∙ other))
   batch_of before p e q other (resets s) = absurd (true≢false (sym (ap is_mark s.is) ∙ other))
   batch_of before p e q other (falls_back s) = absurd (true≢false (sym (ap is_mark s.is) ∙ other))
+  batch_of before p e q other (picks s) = absurd (true≢false (sym (ap is_mark s.is) ∙ other))
+  batch_of before p e q other (retires s) = absurd (true≢false (sym (ap is_mark s.is) ∙ other))
 
 -- ---- turns
-
-focused_of : (m : Mode) → IsFollowed m → ¬ (m ≡ Incremental) → m ≡ Focused
-focused_of Incremental followed other = absurd (other refl)
-focused_of Focused followed other = refl
-focused_of Binding followed other = absurd followed
-focused_of Adaptive followed other = absurd followed
 
 pub between_inside : ¬ (between ≡ inside)
 between_inside e = absurd (cc)
 
 module _ (limits : Limits) (task : Task) (entries : List Entry) (p : Place) (leads : LeadsOn limits task at_start [] entries p) where
-  module _ (followed : IsFollowed limits.mode) where
-    -- an entry with which a turn goes on is a step from here
-    pub next_step : (e : Entry) → AreBegun limits task (entries ++ e ∷ [])
-        → (after : Place) × IsStep limits task entries p e after
-    next_step e begun = step_of limits task entries p followed leads e begun.0 begun.1
+  -- an entry with which a turn goes on is a step from here
+  pub next_step : (e : Entry) → AreBegun limits task (entries ++ e ∷ [])
+      → (after : Place) × IsStep limits task entries p e after
+  next_step e begun = step_of limits task entries p leads e begun.0 begun.1
 
-    -- turns lead to where they stop, unless that is inside one
-    pub stage_at : (stage : Stage) → ¬ (stage ≡ inside) → AreTurnsOf limits.mode limits task entries stage → IsAt p stage
-    stage_at stage other turns =
-        let to = turns_lead limits task followed nothing_kept [] entries stage at_start
-        (as_family limits.mode limits task entries stage turns) refl at_first_rest in
-        let same : to.last ≡ p = leads_on_once limits task at_start [] entries to.last p to.leads leads in
-        subst (λ (x : Place). IsAt x stage) same (to.at other)
+  -- turns lead to where they stop, unless that is inside one
+  pub stage_at : (stage : Stage) → ¬ (stage ≡ inside) → AreTurnsOf limits.mode limits task entries stage → IsAt p stage
+  stage_at stage other turns =
+      let to = turns_lead limits task nothing_kept [] entries stage at_start
+      (as_family limits.mode limits task entries stage turns) refl at_first_rest in
+      let same : to.last ≡ p = leads_on_once limits task at_start [] entries to.last p to.leads leads in
+      subst (λ (x : Place). IsAt x stage) same (to.at other)
 
-    -- where a turn of a mode that dreams begins
-    pub may_here : BeginsTurn limits task entries → MayDream limits task entries p
-    may_here (other, may, turns) = record {
-      mode = focused_of limits.mode followed other;
-      awaits = stage_at between between_inside turns;
-      may = may;
-    }
+  -- where a turn of a mode that dreams begins
+  pub may_here : BeginsTurn limits task entries → MayDream limits task entries p
+  may_here (other, may, turns) =
+      record { mode = other; awaits = stage_at between between_inside turns; may = may }
 
   module _ (workers : HaveWorkers limits.pools) where
     -- the entries are turns that stop there
@@ -166,8 +180,7 @@ module _ (limits : Limits) (task : Task) (entries : List Entry) (p : Place) (lea
         subst (λ (x : Stage). AreTurnsOf limits.mode limits task entries x) (between_alone p s.stage awaits s.at) s.turns
 
     pub begins_here : MayDream limits task entries p → BeginsTurn limits task entries
-    begins_here may =
-        (λ is. absurd (let both : Focused ≡ Incremental = sym may.mode ∙ is in cc), may.may, rests_between may.awaits)
+    begins_here may = (may.mode, may.may, rests_between may.awaits)
 
 -- a step goes on with a turn
 pub step_begun : (limits : Limits) (task : Task) (entries : List Entry) (p : Place) → LeadsOn limits task at_start [] entries p

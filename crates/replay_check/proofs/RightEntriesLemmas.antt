@@ -6,11 +6,10 @@ use Rattle.dream_check.proofs.DreamLinesLemmas.{dream_lines}
 use Rattle.dream_check.specs.Lines.{IsWrongLine}
 use Rattle.lemmas.proofs.Members.{take_next}
 use Rattle.level_course.specs.Courses.{Course}
-use Rattle.mode_course.proofs.StepsLemmas.{leads_on_apart}
+use Rattle.mode_course.proofs.StepsLemmas.{at_first_rest, leads_on_apart}
 use Rattle.mode_course.proofs.TurnsLemmas.{turns_lead}
-use Rattle.mode_course.proofs.WholeLemmas.{at_first_rest, left_kept}
-use Rattle.mode_course.specs.Laws.{IsFollowed}
-use Rattle.mode_course.specs.Places.{IsBatchStep, IsStep, LeadsOn, Place, at_start, begins_level, falls_back, goes_on, resets, tells_dream, tells_none}
+use Rattle.mode_course.proofs.WholeLemmas.{left_kept}
+use Rattle.mode_course.specs.Places.{IsBatchStep, IsStep, LeadsOn, Place, at_start, begins_level, falls_back, goes_on, picks, resets, retires, tells_dream, tells_none}
 use Rattle.mode_turns.proofs.CountsLemmas.{turn_keeps, turns_keep}
 use Rattle.mode_turns.proofs.FrontsLemmas.{front_turns}
 use Rattle.mode_turns.proofs.ModesLemmas.{as_family, of_mode}
@@ -49,10 +48,10 @@ some_uses limits task before tried uses steps entries x =
 
 -- ---- an entry that is a step
 
-module _ (limits : Limits) (task : Task) (followed : IsFollowed limits.mode) (workers : HaveWorkers limits.pools)
+module _ (limits : Limits) (task : Task) (workers : HaveWorkers limits.pools)
     (before : List Entry) (p q : Place) (leads : LeadsOn limits task at_start [] before p) where
   kept_is : (k : Kept) → Leaves limits task before k → k ≡ p.kept
-  kept_is k left = (left_kept limits task before p followed leads k left).1
+  kept_is k left = (left_kept limits task before p leads k left).1
 
   no_batch : {A : Type 0} (e : Entry) (d : Course) → is_mark e ≡ true → IsBatchStep limits task before p.batch e d → A
   no_batch e d mark step = absurd (true≢false (sym mark ∙ batch_no_mark limits task before p e d leads step))
@@ -75,6 +74,8 @@ module _ (limits : Limits) (task : Task) (followed : IsFollowed limits.mode) (wo
   dream_step uses steps (tells_none t) = absurd (let is = t.is in cc)
   dream_step uses steps (resets t) = absurd (let is = t.is in cc)
   dream_step uses steps (falls_back t) = absurd (let is = t.is in cc)
+  dream_step uses steps (picks t) = absurd (let is = t.is in cc)
+  dream_step uses steps (retires t) = absurd (let is = t.is in cc)
 
   none_step : IsStep limits task before p entry.Nothing q
       → BeginsTurn limits task before × HasNoDreamAfter limits task before p.kept.tried
@@ -84,6 +85,8 @@ module _ (limits : Limits) (task : Task) (followed : IsFollowed limits.mode) (wo
   none_step (tells_none t) = (begins_here limits task before p leads workers t.may, t.no_dream)
   none_step (resets t) = absurd (let is = t.is in cc)
   none_step (falls_back t) = absurd (let is = t.is in cc)
+  none_step (picks t) = absurd (let is = t.is in cc)
+  none_step (retires t) = absurd (let is = t.is in cc)
 
   -- ---- what could be wrong with it
 
@@ -132,7 +135,7 @@ module _ (limits : Limits) (task : Task) (followed : IsFollowed limits.mode) (wo
 
 -- ---- all entries
 
-module _ (limits : Limits) (task : Task) (entries : List Entry) (stage : Stage) (followed : IsFollowed limits.mode)
+module _ (limits : Limits) (task : Task) (entries : List Entry) (stage : Stage)
     (workers : HaveWorkers limits.pools) (legal : IsLegal limits.version task entries)
     (turns : AreTurnsOf limits.mode limits task entries stage) where
   all_few : asks_of entries ≤ limits.calls
@@ -186,7 +189,7 @@ module _ (limits : Limits) (task : Task) (entries : List Entry) (stage : Stage) 
 
   has_step : (place : ℕ) (e : Entry) → slice_get entries place ≡ Some e → HasStep place e
   has_step place e at =
-      let whole = turns_lead limits task followed nothing_kept [] entries stage at_start
+      let whole = turns_lead limits task nothing_kept [] entries stage at_start
       (as_family limits.mode limits task entries stage turns) refl at_first_rest in
       let parts = leads_on_apart limits task at_start [] (take place entries) (e ∷ drop (suc place) entries) whole.last
       (subst (λ es. LeadsOn limits task at_start [] es whole.last) (cut_at entries place e at) whole.leads) in
@@ -198,13 +201,13 @@ module _ (limits : Limits) (task : Task) (entries : List Entry) (stage : Stage) 
   entry_right place e offset kind.Answer at wrong = wrong.2 (legal place e at)
   entry_right place e offset kind.Order at wrong =
       let h = has_step place e at in
-      in_order limits task followed workers (take place entries) h.from h.to h.leads e h.step (begun place e at) wrong.1
+      in_order limits task workers (take place entries) h.from h.to h.leads e h.step (begun place e at) wrong.1
   entry_right place e offset kind.Dream at wrong =
       let h = has_step place e at in
-      dream_right limits task followed workers (take place entries) h.from h.to h.leads e offset h.step wrong
+      dream_right limits task workers (take place entries) h.from h.to h.leads e offset h.step wrong
   entry_right place e offset kind.Outcome at wrong =
       let h = has_step place e at in
-      none_right limits task followed workers (take place entries) h.from h.to h.leads e h.step wrong.1
+      none_right limits task workers (take place entries) h.from h.to h.leads e h.step wrong.1
   entry_right place e offset kind.Text at wrong = wrong
   entry_right place e offset kind.Head at wrong = wrong
   entry_right place e offset kind.Plan at wrong = wrong

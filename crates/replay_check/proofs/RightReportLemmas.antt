@@ -28,11 +28,10 @@ use Rattle.replay_check.specs.declared.verdict.BreachKind.TheVariants as kind
 
 pub head_right : (task : Task) (r : Report) (line : ℕ) → IsFitReportHead task r → BreaksHead task r line
     → ⊥
-head_right task r line fit (inl (at, other)) = other fit.mode
-head_right task r line fit (inr (inl (at, wrong))) = true≢false (sym fit.limits ∙ wrong)
-head_right task r line fit (inr (inr (inl breaks))) =
+head_right task r line fit (inl (at, wrong)) = true≢false (sym fit.limits ∙ wrong)
+head_right task r line fit (inr (inl breaks)) =
     true≢false (sym (fit.pools breaks.place breaks.pool breaks.there) ∙ breaks.wrong)
-head_right task r line fit (inr (inr (inr (at, wrong)))) = true≢false (sym fit.served ∙ wrong)
+head_right task r line fit (inr (inr (at, wrong))) = true≢false (sym fit.served ∙ wrong)
 
 -- ---- plans
 
@@ -44,7 +43,8 @@ module _ (limits : Limits) (task : Task) (entries : List Entry) (calls : List Ca
   plan_right : (offset : ℕ) (k : BreachKind)
       → BreaksPlan limits task entries calls cost from offset k → ⊥
   plan_right offset kind.Plan (inl breaks) =
-      breaks.stuck (front_can task (known_of task entries) calls (breaks.place + 1) (plan_can task (known_of task entries) calls cost is_plan))
+      breaks.stuck (front_can task (known_of task entries) calls (breaks.place + 1)
+      (plan_can task (known_of task entries) calls cost is_plan))
   plan_right offset kind.Plan (inr (at, none)) = none cost is_plan
   plan_right offset kind.Cost wrong = wrong.1 is_plan
   plan_right offset kind.From breaks =
@@ -111,7 +111,7 @@ pub no_breach : (task : Task) (r : Report) (line : ℕ) (k : BreachKind) → IsR
     → IsBreach task r line k → ⊥
 no_breach task r line k right (inl (is, wrong)) = head_right task r line right.head wrong
 no_breach task r line k right (inr (inl breaks)) =
-    entry_right (reported_limits task r) task r.entries right.stage right.head.mode (pools_work task r.pools right.head.pools)
+    entry_right (reported_limits task r) task r.entries right.stage (pools_work task r.pools right.head.pools)
     right.legal.legal right.legal.turns breaks.place breaks.e breaks.offset k breaks.there breaks.wrong
 no_breach task r line k right (inr (inr breaks)) =
     outcome_right (reported_limits task r) task r.entries right.stage right.legal.legal right.legal.turns r.outcome breaks.offset k

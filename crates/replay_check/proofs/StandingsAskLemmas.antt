@@ -4,9 +4,10 @@ use Rattle.std.proofs.lemmas.Bool.{cases_lt, or_cases}
 use Rattle.std.specs.List.{list_any}
 use Rattle.lemmas.proofs.Bools.{or_true}
 use Rattle.level_course.specs.Agendas.{place_in, with_asked}
+use Rattle.mode_course.proofs.KeepsLemmas.{run_asked}
 use Rattle.mode_course.proofs.StepsLemmas.{leads_on_then}
 use Rattle.mode_course.specs.Agendas.{ModeAgenda, mode_place_in, nothing_begun, with_agenda}
-use Rattle.mode_course.specs.Places.{IsStep, LeadsOn, Place, at_start, goes_on, undreamt}
+use Rattle.mode_course.specs.Places.{IsStep, LeadsOn, Place, at_start, goes_on, stays, undreamt}
 use Rattle.task_model.specs.Known.{Known}
 use Rattle.task_model.specs.Streams.{yields_of}
 use Rattle.task_model.specs.declared.stream.Instance.{Instance}
@@ -23,7 +24,7 @@ use Rattle.transcript_model.specs.Transcript.{names_of, notes_of}
 use Rattle.transcript_model.specs.declared.entry.Call.{Call}
 use Rattle.transcript_model.specs.declared.entry.Entry.{Entry}
 use Rattle.transcript_model.specs.declared.entry.Entry.TheVariants as entry
-use Rattle.replay_check.specs.Standings.{IsNextRequest, StandsBehind}
+use Rattle.replay_check.specs.Standings.{IsCounted, IsNextRequest, StandsBehind}
 
 -- ---- lists
 
@@ -50,17 +51,21 @@ stands_first limits task l ledger =
     record {
       ledger = ledger;
       leads = refl;
-      count = refl;
-      left = omega arith;
-      some = omega arith;
-      waiting = λ n from upto. absurd (omega (arith, from, upto));
-      answered = λ n waits. absurd (cc);
+      counts = record {
+        count = refl;
+        left = omega arith;
+        some = omega arith;
+        waiting = λ n from upto. absurd (omega (arith, from, upto));
+        answered = λ n waits. absurd (cc);
+      };
+      run = λ is. absurd (cc);
       dreamless = λ is. absurd (cc);
     }
 
 -- ---- one entry more
 
-module _ (limits : Limits) (task : Task) (entries : List Entry) (l : Ledger) (a : ModeAgenda) (s : StandsBehind limits task entries l a) where
+module _ (limits : Limits) (task : Task) (entries : List Entry) (l : Ledger) (a : ModeAgenda)
+    (s : StandsBehind limits task entries l a) where
   pub one_step : (e : Entry) (after : Place) → IsStep limits task entries (mode_place_in task entries a) e after
       → LeadsOn limits task at_start [] (entries ++ e ∷ []) after
   one_step e after step =
@@ -100,7 +105,7 @@ module _ (limits : Limits) (task : Task) (entries : List Entry) (l : Ledger) (a 
         right.due.stream right.instance right fresh right.named right.due.named
 
     some_answer : 0 < a.batch.answers
-    some_answer = let few = s.some in omega (arith, few, is_longer)
+    some_answer = let few = s.counts.some in omega (arith, few, is_longer)
 
     ask_leads : LeadsOn limits task at_start [] (entries ++ request ∷ [])
         (mode_place_in task (entries ++ request ∷ []) (with_agenda a (with_asked a.batch)))
@@ -125,7 +130,7 @@ module _ (limits : Limits) (task : Task) (entries : List Entry) (l : Ledger) (a 
             later = a.batch.later;
             is_cut = a.batch.is_cut;
           };
-        })) refl)
+        })) (stays (inl some_answer) refl))
 
     ask_waits : (m : ℕ) → a.batch.next ≤ m → m ≤ asks_of (entries ++ request ∷ [])
         → is_open (entries ++ request ∷ []) m ≡ true
@@ -135,7 +140,7 @@ module _ (limits : Limits) (task : Task) (entries : List Entry) (l : Ledger) (a 
         by (inl past) =
             let same : m ≡ number = let next = right.next in let more = adds.asks in omega (arith, past, upto, next, more) in
             adds.waiting m ∙ ap (λ b. is_open entries m || b) (eq-eqb m number same) ∙ or_true (is_open entries m)
-        by (inr below) = adds.waiting m ∙ ap (λ b. b || (m == number)) (s.waiting m from below)
+        by (inr below) = adds.waiting m ∙ ap (λ b. b || (m == number)) (s.counts.waiting m from below)
 
     ask_answered : (m : ℕ) → is_open (entries ++ request ∷ []) m ≡ true
         → (a.batch.next ≤ m) × (m ≤ asks_of (entries ++ request ∷ []))
@@ -145,30 +150,37 @@ module _ (limits : Limits) (task : Task) (entries : List Entry) (l : Ledger) (a 
         by : (is_open entries m ≡ true) ⊎ ((m == number) ≡ true)
             → (a.batch.next ≤ m) × (m ≤ asks_of (entries ++ request ∷ []))
         by (inl was) =
-            let r = s.answered m was in let more = adds.asks in (r.0, omega (arith, r.1, more))
+            let r = s.counts.answered m was in let more = adds.asks in (r.0, omega (arith, r.1, more))
         by (inr here) =
             let same = eqb-true m number here in
             let next = right.next in
             let more = adds.asks in
-            let count = s.count in
-            let few = s.some in
+            let count = s.counts.count in
+            let few = s.counts.some in
             (omega (arith, same, next, count, few), omega (arith, same, next, more))
 
-    pub ask_onward : (new : Ledger)
-        → IsLedger limits.version task (entries ++ entry.Ask number turn call ∷ []) new
-        → StandsBehind limits task (entries ++ entry.Ask number turn call ∷ []) new (with_agenda a (with_asked a.batch))
-    ask_onward new ledger =
+    ask_counts : IsCounted limits.calls (entries ++ request ∷ []) (with_asked a.batch)
+    ask_counts =
         let more = adds.asks in
-        let count = s.count in
-        let left = s.left in
-        let few = s.some in
+        let count = s.counts.count in
+        let left = s.counts.left in
+        let few = s.counts.some in
         record {
-          ledger = ledger;
-          leads = ask_leads;
           count = omega (arith, more, count, is_longer);
           left = omega (arith, more, left, is_longer);
           some = omega (arith, few, is_longer);
           waiting = ask_waits;
           answered = ask_answered;
+        }
+
+    pub ask_onward : (new : Ledger)
+        → IsLedger limits.version task (entries ++ entry.Ask number turn call ∷ []) new
+        → StandsBehind limits task (entries ++ entry.Ask number turn call ∷ []) new (with_agenda a (with_asked a.batch))
+    ask_onward new ledger =
+        record {
+          ledger = ledger;
+          leads = ask_leads;
+          counts = ask_counts;
+          run = λ is. run_asked limits.calls entries request a (s.run is) refl (omega (arith, is_longer)) some_answer;
           dreamless = not_dreamless some_answer;
         }

@@ -66,7 +66,7 @@ module _ (b : Bounds) (r : Report) (bounds : AreBounds b)
       → BreaksEntry (limits_by b) task (take place es) e offset k → ⊥
   none_wrong es s stands place e offset k at wrong =
       let t = stops (limits_by b) task es (mode_place_in task es s.course) stands.stands.leads bounds.workers in
-      entry_right (limits_by b) task es t.stage bounds.mode bounds.workers stands.stands.ledger.legal t.turns place e offset k at wrong
+      entry_right (limits_by b) task es t.stage bounds.workers stands.stands.ledger.legal t.turns place e offset k at wrong
 
   by_bounds : (before : List Entry) (e : Entry) (offset : ℕ) (k : BreachKind)
       → BreaksEntry (reported_limits task r) task before e offset k

@@ -1,16 +1,17 @@
--- A request, an answer or a line of a mode that isn't replayed is taken, or is wrong.
+-- A request or an answer is taken, or is wrong.
 use Rattle.std.proofs.Common.{◌≡◌, ℕ, ◌+◌, ◌<◌, ◌≤◌, ◌⊎◌, inl, inr, true, false, List, [], ◌∷◌, ◌++◌, take, length, refl, sym, subst, ◌∙◌, Option, Some, None, slice_get, arith}
-use Rattle.std.proofs.lemmas.Bool.{cases_lt, false≢true, true≢false}
+use Rattle.std.proofs.lemmas.Bool.{false≢true, true≢false}
 use Rattle.std.proofs.lemmas.List.Elements.{All-contains}
 use Rattle.lemmas.proofs.Members.{member_at, next_taken}
 use Rattle.level_course.specs.Agendas.{with_asked}
-use Rattle.mode_course.specs.Agendas.{IsAnswered, ModeAgenda, with_agenda}
+use Rattle.mode_course.specs.Agendas.{HasSettled, IsAnswered, KeepsRun, ModeAgenda, with_agenda}
 use Rattle.pools.specs.Pools.{shares_of}
 use Rattle.report_text.specs.Forms.{IsFormedEntry}
 use Rattle.task_model.specs.declared.stream.Instance.{Instance}
 use Rattle.task_model.specs.declared.task.Task.{Task}
 use Rattle.transcript_ledger.specs.Ledgers.{IsLedger}
 use Rattle.transcript_ledger.specs.Talks.{IsAskedBy}
+use Rattle.transcript_ledger.specs.declared.ledger.Ledger.{Ledger}
 use Rattle.transcript_model.specs.Legal.{IsRightAsk, MayFollow, answered_number, is_answer, is_ask}
 use Rattle.transcript_model.specs.Rounds.{Limits}
 use Rattle.transcript_model.specs.declared.entry.Call.{Call}
@@ -18,11 +19,12 @@ use Rattle.transcript_model.specs.declared.entry.DreamUse.{DreamUse}
 use Rattle.transcript_model.specs.declared.entry.Entry.{Entry}
 use Rattle.transcript_model.specs.declared.entry.Entry.TheVariants as entry
 use Rattle.replay_check.proofs.HeadsPoolLemmas.{last_or_before}
-use Rattle.replay_check.proofs.NextLemmas.{answer_no_mark, next_answer, next_request, no_pick, no_retire}
-use Rattle.replay_check.proofs.StandingsAnswerLemmas.{answer_last, answer_more}
+use Rattle.replay_check.proofs.NextLemmas.{answer_no_mark, next_answer, next_request}
+use Rattle.replay_check.proofs.StandingsAnswerLemmas.{answer_onward, keeps}
 use Rattle.replay_check.proofs.StandingsAskLemmas.{ask_onward}
-use Rattle.replay_check.proofs.WrongLemmas.{mark_order, out_of_order, wrong_answer, wrong_ask, wrong_order}
+use Rattle.replay_check.proofs.WrongLemmas.{out_of_order, wrong_answer, wrong_ask, wrong_order}
 use Rattle.replay_check.specs.Standings.{AreDecided, IsNextRequest, IsStanding, IsWrong, StandsBehind, limits_by}
+use Rattle.replay_check.specs.Turns.{SettlesOn}
 use Rattle.replay_check.specs.Verdicts.{IsOpenNone}
 use Rattle.replay_check.specs.Walks.{CanTake, IsWrongAt}
 use Rattle.replay_check.specs.declared.bounds.Bounds.{Bounds}
@@ -81,7 +83,7 @@ module _ (b : Bounds) (entries : List Entry) (place : ℕ) (s : Standing) (can :
   pub few_asked : length s.ledger.asked.items ≤ 100000
   few_asked =
       let counted = can.standing.stands.ledger.counted in
-      let left = can.standing.stands.left in
+      let left = can.standing.stands.counts.left in
       let few = can.bounds.calls in
       omega (arith, counted, left, few)
 
@@ -105,7 +107,7 @@ module _ (b : Bounds) (entries : List Entry) (place : ℕ) (s : Standing) (can :
       (wrong_order b.limit (limits_by b) b.task.now (take place entries) (entry.Ask number turn call)
       (λ is. (said.0, said.1)) (λ is. absurd (false≢true is))
       (λ begun. other
-      (next_request (limits_by b) b.task.now (take place entries) s.ledger s.course can.bounds.mode can.standing.stands number turn call
+      (next_request (limits_by b) b.task.now (take place entries) s.ledger s.course can.standing.stands number turn call
       begun)))
 
   -- the request has the next number, of which there are as many as calls at the most
@@ -152,59 +154,60 @@ module _ (b : Bounds) (entries : List Entry) (place : ℕ) (s : Standing) (can :
       (λ ask. absurd (false≢true (sym kinds.1 ∙ ask))) (λ answer. may)
       (out_of_order b.limit (limits_by b) b.task.now (take place entries) e (answer_no_mark e n is)
       (λ begun. other
-      (next_answer (limits_by b) b.task.now (take place entries) s.ledger s.course can.bounds.mode can.standing.stands e n is begun))))
+      (next_answer (limits_by b) b.task.now (take place entries) s.ledger s.course can.standing.stands e n is begun))))
 
-  pub answer_taken : (new : Standing) → MayFollow b.version b.task.now (take place entries) e
-      → n ≡ s.course.batch.next → s.course.batch.to_ask ≡ [] → 0 < s.course.batch.answers
-      → IsLedger b.version b.task.now (take (place + 1) entries) new.ledger
-      → IsAnswered (shares_of b.pools.now) s.course.batch new.course.batch
-      → new.course ≡ with_agenda s.course new.course.batch
-      → IsStanding b (take (place + 1) entries) new
-  answer_taken new may next none some ledger answered course =
-      is_taken b entries place s can e there new
-      (subst (λ (a : ModeAgenda). StandsBehind (limits_by b) b.task.now (take place entries ++ e ∷ []) new.ledger a) (sym course)
-      (by (cases_lt 1 s.course.batch.answers)))
-      (λ nothing. absurd (true≢false (sym (answer_is e n is).0 ∙ (λ k. is_answer (nothing k)))))
-    where
-      here : IsLedger b.version b.task.now (take place entries ++ e ∷ []) new.ledger
-      here = subst (λ es. IsLedger b.version b.task.now es new.ledger) (next_taken entries place e there) ledger
+  -- the batch went on behind it
+  pub record Answers (course : ModeAgenda) : Type 0 where
+    pub may : MayFollow b.version b.task.now (take place entries) e
+    pub next : n ≡ s.course.batch.next
+    pub none : s.course.batch.to_ask ≡ []
+    pub some : 0 < s.course.batch.answers
+    pub batch : IsAnswered (shares_of b.pools.now) s.course.batch course.batch
+    pub rest : course ≡ with_agenda s.course course.batch
 
-      by : (1 < s.course.batch.answers) ⊎ (s.course.batch.answers ≤ 1)
-          → StandsBehind (limits_by b) b.task.now (take place entries ++ e ∷ []) new.ledger (with_agenda s.course new.course.batch)
-      by (inl lt) =
-          answer_more (limits_by b) b.task.now (take place entries) s.ledger s.course can.standing.stands n e is next none may
-          can.bounds.workers can.bounds.calls new.ledger new.course.batch here lt (answered.more lt)
-      by (inr le) =
-          let one : s.course.batch.answers ≡ 1 = omega (arith, le, some) in
-          answer_last (limits_by b) b.task.now (take place entries) s.ledger s.course can.standing.stands n e is next none may
-          can.bounds.workers can.bounds.calls new.ledger new.course.batch here one (answered.last one)
+  module _ (course : ModeAgenda) (a : Answers course) where
+    -- a dream that is run is behind it
+    pub answer_keeps : KeepsRun b.calls (take (place + 1) entries) course
+    answer_keeps =
+        subst (λ (x : ModeAgenda). KeepsRun b.calls (take (place + 1) entries) x) (sym a.rest)
+        (subst (λ es. KeepsRun b.calls es (with_agenda s.course course.batch)) (sym (next_taken entries place e there))
+        (keeps (limits_by b) b.task.now (take place entries) s.ledger s.course can.standing.stands n e is a.next a.none a.some a.may
+        can.bounds.workers can.bounds.calls course.batch a.batch))
+
+    pub answer_taken : (l : Ledger) (new : Standing) → IsLedger b.version b.task.now (take (place + 1) entries) l
+        → SettlesOn b (take (place + 1) entries) (record { ledger = l; course = course }) new
+        → IsStanding b (take (place + 1) entries) new
+    answer_taken l new ledger h =
+        let task = b.task.now in
+        let known = l.facts.known in
+        let after = take place entries ++ e ∷ [] in
+        let settled =
+        subst (λ es. HasSettled task known l.queue es (shares_of b.pools.now) b.calls (with_agenda s.course course.batch) new.course)
+        (next_taken entries place e there)
+        (subst (λ (x : ModeAgenda). HasSettled task known l.queue (take (place + 1) entries) (shares_of b.pools.now) b.calls x new.course)
+        a.rest h.settled) in
+        is_taken b entries place s can e there new
+        (subst (λ (x : Ledger). StandsBehind (limits_by b) task after x new.course) (sym h.ledger_is)
+        (answer_onward (limits_by b) task (take place entries) s.ledger s.course can.standing.stands n e is a.next a.none a.some a.may
+        can.bounds.workers can.bounds.calls course.batch a.batch l new.course
+        (subst (λ es. IsLedger b.version task es l) (next_taken entries place e there) ledger) settled))
+        (λ nothing. absurd (true≢false (sym (answer_is e n is).0 ∙ (λ k. is_answer (nothing k)))))
 
 -- ---- all other entries
 
-module _ (b : Bounds) (entries : List Entry) (place : ℕ) (s : Standing) (can : CanTake b entries place s) where
-  pick_refused : (n : ℕ) → slice_get entries place ≡ Some (entry.Pick n) → IsWrongAt b entries place 0 kind.Order
-  pick_refused n there =
-      is_wrong b entries place s can (entry.Pick n) there 0 kind.Order
-      (mark_order b.limit (limits_by b) b.task.now (take place entries) (entry.Pick n) refl
-      (no_pick (limits_by b) b.task.now (take place entries) s.ledger s.course can.bounds.mode can.standing.stands n))
-
-  retire_refused : (n : ℕ) → slice_get entries place ≡ Some (entry.Retire n) → IsWrongAt b entries place 0 kind.Order
-  retire_refused n there =
-      is_wrong b entries place s can (entry.Retire n) there 0 kind.Order
-      (mark_order b.limit (limits_by b) b.task.now (take place entries) (entry.Retire n) refl
-      (no_retire (limits_by b) b.task.now (take place entries) s.ledger s.course can.bounds.mode can.standing.stands n))
-
-  pub other_refused : (e : Entry) → slice_get entries place ≡ Some e → answered_number e ≡ None
-      → ((n turn : ℕ) (call : Call) → e ≡ entry.Ask n turn call → ⊥) → ¬ (e ≡ entry.Level)
-      → ((uses : List DreamUse) (steps : List Call) → e ≡ entry.Dream uses steps → ⊥) → ¬ (e ≡ entry.Nothing)
-      → ¬ (e ≡ entry.Reset) → IsWrongAt b entries place 0 kind.Order
-  other_refused (entry.Pick n) there none ask level dream nothing reset = pick_refused n there
-  other_refused (entry.Retire n) there none ask level dream nothing reset = retire_refused n there
-  other_refused (entry.Ask n turn call) there none ask level dream nothing reset = absurd (ask n turn call refl)
-  other_refused entry.Level there none ask level dream nothing reset = absurd (level refl)
-  other_refused (entry.Dream uses steps) there none ask level dream nothing reset = absurd (dream uses steps refl)
-  other_refused entry.Nothing there none ask level dream nothing reset = absurd (nothing refl)
-  other_refused entry.Reset there none ask level dream nothing reset = absurd (reset refl)
-  other_refused (entry.Got n tuples values) there none ask level dream nothing reset = absurd (cc)
-  other_refused (entry.Value n value) there none ask level dream nothing reset = absurd (cc)
-  other_refused (entry.End n) there none ask level dream nothing reset = absurd (cc)
+-- an entry that answers nothing is a request or a mark
+pub other_refused : (b : Bounds) (entries : List Entry) (place : ℕ) (e : Entry) → answered_number e ≡ None
+    → ((n turn : ℕ) (call : Call) → e ≡ entry.Ask n turn call → ⊥) → ¬ (e ≡ entry.Level)
+    → ((uses : List DreamUse) (steps : List Call) → e ≡ entry.Dream uses steps → ⊥) → ¬ (e ≡ entry.Nothing)
+    → ¬ (e ≡ entry.Reset) → ((n : ℕ) → e ≡ entry.Pick n → ⊥) → ((n : ℕ) → e ≡ entry.Retire n → ⊥)
+    → IsWrongAt b entries place 0 kind.Order
+other_refused b entries place (entry.Got n tuples values) none ask level dream nothing reset pick retire = absurd (cc)
+other_refused b entries place (entry.Value n value) none ask level dream nothing reset pick retire = absurd (cc)
+other_refused b entries place (entry.End n) none ask level dream nothing reset pick retire = absurd (cc)
+other_refused b entries place (entry.Ask n turn call) none ask level dream nothing reset pick retire = absurd (ask n turn call refl)
+other_refused b entries place entry.Level none ask level dream nothing reset pick retire = absurd (level refl)
+other_refused b entries place (entry.Dream uses steps) none ask level dream nothing reset pick retire = absurd (dream uses steps refl)
+other_refused b entries place entry.Nothing none ask level dream nothing reset pick retire = absurd (nothing refl)
+other_refused b entries place entry.Reset none ask level dream nothing reset pick retire = absurd (reset refl)
+other_refused b entries place (entry.Pick n) none ask level dream nothing reset pick retire = absurd (pick n refl)
+other_refused b entries place (entry.Retire n) none ask level dream nothing reset pick retire = absurd (retire n refl)

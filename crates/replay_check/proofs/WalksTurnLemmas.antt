@@ -1,5 +1,6 @@
 -- A line of a turn is taken, or is wrong.
-use Rattle.std.proofs.Common.{◌≡◌, ℕ, ◌+◌, ◌-◌, ◌<◌, ◌&&◌, not, inl, inr, true, List, [], ◌∷◌, ◌++◌, take, length, refl, sym, ap, subst, ◌∙◌, Some, slice_get, arith}
+use Rattle.std.proofs.Common.{◌≡◌, ℕ, ◌+◌, ◌-◌, ◌<◌, inl, inr, true, List, [], ◌∷◌, ◌++◌, take, length, refl, sym, ap, subst, ◌∙◌, Some, slice_get, arith}
+use Rattle.std.proofs.lemmas.List.{length-append, length-take}
 use Rattle.dream_asks.proofs.EntriesLemmas.{dream_distinct}
 use Rattle.dream_asks.proofs.FirstLemmas.{first_sent}
 use Rattle.dream_asks.specs.First.{first_instances}
@@ -7,11 +8,12 @@ use Rattle.dream_check.specs.Judged.{IsUndecidedNone}
 use Rattle.dream_check.specs.Lines.{IsFirstWrongLine}
 use Rattle.instance_queue.specs.Level.{instances_of}
 use Rattle.instance_queue.specs.declared.due.Due.{Due}
-use Rattle.mode_course.proofs.MadeLemmas.{between_awaits, dream_made, fallback_made, level_made, none_made, reset_made, undreamt_awaits}
+use Rattle.mode_course.proofs.KeepsLemmas.{run_followed}
+use Rattle.mode_course.proofs.MadeLemmas.{between_awaits, dream_made, fallback_made, keep_made, level_made, none_made, reset_made, run_made, undreamt_awaits}
 use Rattle.mode_course.proofs.StepsLemmas.{phases_differ}
 use Rattle.mode_course.proofs.WholeLemmas.{kept_left, left_kept}
-use Rattle.mode_course.specs.Agendas.{Begins, ModeAgenda, is_over, is_resting, mode_place_in}
-use Rattle.mode_course.specs.Places.{Awaits, MayDream, Place, begins_level, falls_back, forgetting, joining, resets, resting, sent_first, tells_dream, tells_none, undreamt}
+use Rattle.mode_course.specs.Agendas.{Begins, ModeAgenda, MovesOn, mode_place_in, with_run}
+use Rattle.mode_course.specs.Places.{Awaits, MayDream, Phase, Place, begins_level, dreamt, falls_back, forgetting, is_repeated, joining, keeping, resets, resting, sent_first, tells_dream, tells_none, undreamt}
 use Rattle.mode_turns.specs.Modes.{Leaves}
 use Rattle.task_model.specs.Dreams as dreams
 use Rattle.task_model.specs.Known.{Known}
@@ -19,7 +21,8 @@ use Rattle.task_model.specs.Streams.{AreDue}
 use Rattle.task_model.specs.declared.task.Task.{Task}
 use Rattle.transcript_ledger.specs.declared.ledger.Ledger.{Ledger}
 use Rattle.transcript_model.specs.Dreaming.{HasNoDreamAfter, IsDreamAfter, sent_instances}
-use Rattle.transcript_model.specs.Legal.{asks_of}
+use Rattle.transcript_model.specs.Laws.{AddsMark}
+use Rattle.transcript_model.specs.Legal.{asks_of, is_mark}
 use Rattle.transcript_model.specs.Rounds.{Limits}
 use Rattle.transcript_model.specs.Transcript.{known_of, names_of, notes_of}
 use Rattle.transcript_model.specs.Turns.{Kept, MayBegin}
@@ -27,14 +30,16 @@ use Rattle.transcript_model.specs.declared.entry.Call.{Call}
 use Rattle.transcript_model.specs.declared.entry.DreamUse.{DreamUse}
 use Rattle.transcript_model.specs.declared.entry.Entry.{Entry}
 use Rattle.transcript_model.specs.declared.entry.Entry.TheVariants as entry
+use Rattle.transcript_model.specs.declared.head.Mode.{Mode}
+use Rattle.transcript_model.specs.declared.head.Mode.TheVariants.{Adaptive, Binding, Focused, Incremental}
 use Rattle.replay_check.proofs.NextLemmas.{next_level, next_reset}
 use Rattle.replay_check.proofs.PlacesLemmas.{may_here}
-use Rattle.replay_check.proofs.StandingsMarkLemmas.{adds, batch_onward, idle_asks, mark_onward, may_behind}
+use Rattle.replay_check.proofs.StandingsMarkLemmas.{adds, begun_onward, closed_behind, idle_asks, mark_ledger, mark_onward, may_behind, moves_onward}
 use Rattle.replay_check.proofs.WalksLemmas.{is_taken, is_wrong}
 use Rattle.replay_check.proofs.WrongLemmas.{mark_order, open_none, wrong_dream, wrong_none}
 use Rattle.replay_check.specs.Breaches.{BeginsTurn}
 use Rattle.replay_check.specs.Standings.{IsStanding, StandsBehind, limits_by}
-use Rattle.replay_check.specs.Turns.{AreDueFor, AsksLevel, HasDreamt}
+use Rattle.replay_check.specs.Turns.{AreDueFor, AsksLevel, AsksOnce, GoesOn, HasNothing, KeepsDream, RunsDream}
 use Rattle.replay_check.specs.Verdicts.{IsOpenNone}
 use Rattle.replay_check.specs.Walks.{CanTake, IsOpenAt, IsWrongAt}
 use Rattle.replay_check.specs.declared.bounds.Bounds.{Bounds}
@@ -68,6 +73,26 @@ module _ (b : Bounds) (entries : List Entry) (place : ℕ) (s : Standing) (can :
   begins_counted dues n new kept is begins =
       subst (λ m. Begins limits.pools dues m b.calls (kept m) new) (is ∙ stands.ledger.counted) begins
 
+  -- the line is the last of so many entries
+  pub line_length : (e : Entry) → slice_get entries place ≡ Some e → place + 1 ≡ length (before ++ e ∷ [])
+  line_length e there =
+      let within = can.within in
+      let front = length-take place entries in
+      omega (arith, within, front, length-append before (e ∷ []))
+
+  -- a dream's batches begin behind so many entries and so many requests
+  moves_counted : (e : Entry) → slice_get entries place ≡ Some e → is_mark e ≡ true → (needs : List dreams.Entry) (real : ℕ)
+      (new : ModeAgenda) (over : Phase)
+      → MovesOn task s.ledger.facts.known s.ledger.queue [] limits.pools over limits.calls
+      (with_run s.course needs real (place + 1) (length s.ledger.asked.items)) new
+      → MovesOn task s.ledger.facts.known s.ledger.queue [] limits.pools over limits.calls
+      (with_run s.course needs real (length (before ++ e ∷ [])) (asks_of (before ++ e ∷ []))) new
+  moves_counted e there mark needs real new over moves =
+      let counted : length s.ledger.asked.items ≡ asks_of (before ++ e ∷ []) =
+      stands.ledger.counted ∙ sym (adds limits task before s.ledger s.course stands e mark).asks in
+      subst (λ (old : ModeAgenda). MovesOn task s.ledger.facts.known s.ledger.queue [] limits.pools over limits.calls old new)
+      (λ i. with_run s.course needs real (line_length e there i) (counted i)) moves
+
   -- ---- levels
 
   module _ (there : slice_get entries place ≡ Some entry.Level) where
@@ -75,13 +100,13 @@ module _ (b : Bounds) (entries : List Entry) (place : ℕ) (s : Standing) (can :
     level_refused bad =
         is_wrong b entries place s can entry.Level there 0 kind.Order
         (mark_order b.limit limits task before entry.Level refl
-        (λ begun. bad (next_level limits task before s.ledger s.course can.bounds.mode stands begun).0))
+        (λ begun. bad (next_level limits task before s.ledger s.course stands begun).0))
 
     pub level_not_due : ¬ (MayBegin limits task before) → IsWrongAt b entries place 0 kind.Order
     level_not_due bad =
         is_wrong b entries place s can entry.Level there 0 kind.Order
         (mark_order b.limit limits task before entry.Level refl
-        (λ begun. bad (next_level limits task before s.ledger s.course can.bounds.mode stands begun).1))
+        (λ begun. bad (next_level limits task before s.ledger s.course stands begun).1))
 
     module _ (new : Standing) (dues : List Due) (ledger : new.ledger ≡ s.ledger) (due : AreDueFor limits task before dues)
         (begins : Begins limits.pools dues (asks_of before) limits.calls s.course.kept new.course) where
@@ -89,15 +114,16 @@ module _ (b : Bounds) (entries : List Entry) (place : ℕ) (s : Standing) (can :
           → StandsBehind limits task (before ++ entry.Level ∷ []) s.ledger new.course
       level_stands (inl (mode, between)) =
           let awaits = between_awaits task before s.course between in
-          batch_onward limits task before s.ledger s.course stands entry.Level refl new.course awaits.answered
+          begun_onward limits task before s.ledger s.course stands entry.Level refl new.course awaits.answered
           (begins_level (level_made limits task before s.course new.course can.bounds.workers dues mode awaits due.0 due.1 begins))
           dues s.course.kept begins
-      level_stands (inr (dreamless, untried)) =
-          let awaits = undreamt_awaits task before s.course dreamless in
+      level_stands (inr (nothing, untried)) =
+          let awaits = undreamt_awaits task before s.course nothing.0 in
           let all : AreDue task (known_of task before) (notes_of task before) (instances_of dues) =
           subst (AreDue task (known_of task before) (notes_of task before)) (sym due.1) due.0.due in
-          batch_onward limits task before s.ledger s.course stands entry.Level refl new.course awaits.answered
-          (falls_back (fallback_made limits task before s.course new.course can.bounds.workers dues awaits untried all begins))
+          begun_onward limits task before s.ledger s.course stands entry.Level refl new.course awaits.answered
+          (falls_back
+          (fallback_made limits task before s.course new.course can.bounds.workers dues awaits nothing.1 untried all begins))
           dues s.course.kept begins
 
       pub level_taken : AsksLevel b.mode s.course → IsStanding b (take (place + 1) entries) new
@@ -109,37 +135,37 @@ module _ (b : Bounds) (entries : List Entry) (place : ℕ) (s : Standing) (can :
   -- ---- resets
 
   module _ (there : slice_get entries place ≡ Some entry.Reset) where
-    pub reset_refused : ¬ (((is_over s.course.batch && not (is_resting s.course.phase)) ≡ true) × (0 < length s.course.kept.tried))
+    pub reset_refused : ¬ (HasNothing b.mode s.course × (0 < length s.course.kept.tried))
         → IsWrongAt b entries place 0 kind.Order
     reset_refused bad =
         is_wrong b entries place s can entry.Reset there 0 kind.Order
         (mark_order b.limit limits task before entry.Reset refl
-        (λ begun. bad (next_reset limits task before s.ledger s.course can.bounds.mode stands begun)))
+        (λ begun. bad (next_reset limits task before s.ledger s.course stands begun)))
 
-    pub reset_taken : (new : Standing) → (is_over s.course.batch && not (is_resting s.course.phase)) ≡ true
+    pub reset_taken : (new : Standing) → HasNothing b.mode s.course
         → 0 < length s.course.kept.tried → new.ledger ≡ s.ledger → new.course.batch ≡ s.course.batch
         → new.course.phase ≡ resting → new.course.kept ≡ forgetting s.course.kept
         → IsStanding b (take (place + 1) entries) new
-    reset_taken new dreamless some ledger batch phase kept =
-        let awaits = undreamt_awaits task before s.course dreamless in
+    reset_taken new nothing some ledger batch phase kept =
+        let awaits = undreamt_awaits task before s.course nothing.0 in
         let idle = idle_asks limits task before s.ledger s.course stands entry.Reset refl awaits.answered in
         is_taken b entries place s can entry.Reset there new
         (subst (λ (l : Ledger). StandsBehind limits task (before ++ entry.Reset ∷ []) l new.course) (sym ledger)
         (mark_onward limits task before s.ledger s.course stands entry.Reset refl new.course awaits.answered
-        (resets (reset_made limits task before s.course new.course idle awaits some batch phase kept)) batch
-        (λ is. absurd (phases_differ (sym phase ∙ is))))) (λ is. absurd (cc))
+        (resets (reset_made limits task before s.course new.course idle awaits nothing.1 some batch phase kept)) batch
+        (ap is_repeated phase) (λ is. absurd (phases_differ (sym phase ∙ is))))) (λ is. absurd (cc))
 
   -- ---- turns that begin
 
   module _ (begins : BeginsTurn limits task before) where
     may : MayDream limits task before here
-    may = may_here limits task before here stands.leads can.bounds.mode begins
+    may = may_here limits task before here stands.leads begins
 
     left : Leaves limits task before s.course.kept
-    left = kept_left limits task before here can.bounds.mode stands.leads s.course.kept can.bounds.workers may.awaits refl
+    left = kept_left limits task before here stands.leads s.course.kept can.bounds.workers may.awaits refl
 
     alone : (k : Kept) → Leaves limits task before k → k ≡ s.course.kept
-    alone k there = (left_kept limits task before here can.bounds.mode stands.leads k there).1
+    alone k there = (left_kept limits task before here stands.leads k there).1
 
     idle : s.course.batch.to_ask ≡ []
     idle = idle_asks limits task before s.ledger s.course stands entry.Nothing refl may.awaits.answered
@@ -155,31 +181,94 @@ module _ (b : Bounds) (entries : List Entry) (place : ℕ) (s : Standing) (can :
           (wrong_dream b.limit limits task before begins s.course.kept left alone uses steps offset some wrong)
 
       module _ (needs : List dreams.Entry) (dream : IsDreamAfter limits task before s.course.kept.tried uses steps needs)
-          (new : Standing) (h : HasDreamt b needs s new) where
+          (new : Standing) where
+        abbrev line : Entry
+        line = entry.Dream uses steps
+
         abbrev marked : List Entry
-        marked = before ++ entry.Dream uses steps ∷ []
+        marked = before ++ line ∷ []
 
-        -- what is asked of it is what the definition of turns asks first
-        asked_first : instances_of h.dues ≡ sent_instances (sent_first task (length (names_of task before)) marked needs)
-        asked_first =
-            let a = adds limits task before s.ledger s.course stands (entry.Dream uses steps) refl in
-            let known : s.ledger.facts.known ≡ known_of task marked = stands.ledger.known ∙ sym a.same.known in
-            let notes : s.ledger.queue ≡ notes_of task marked = stands.ledger.notes ∙ sym a.same.notes in
-            let real : length s.ledger.facts.known.names ≡ length (names_of task before) =
-            ap (λ (k : Known). length k.names) stands.ledger.known in
-            h.asks.instances ∙ (λ i. first_instances task (known i) (notes i) (real i) needs)
-            ∙ sym (first_sent task marked (length (names_of task before)) (asks_of marked + 1) needs
-            (dream_distinct limits task before s.course.kept.tried uses steps needs dream))
+        adds_line : AddsMark task before marked
+        adds_line = adds limits task before s.ledger s.course stands line refl
 
-        pub dream_taken : IsStanding b (take (place + 1) entries) new
-        dream_taken =
-            let kept = λ (n : ℕ). joining s.course.kept (take (b.calls - n) (instances_of h.dues)) in
-            let begun = begins_counted h.dues (length s.ledger.asked.items) new.course kept refl h.begins in
-            is_taken b entries place s can (entry.Dream uses steps) there new
-            (subst (λ (l : Ledger). StandsBehind limits task marked l new.course) (sym h.ledger_is)
-            (batch_onward limits task before s.ledger s.course stands (entry.Dream uses steps) refl new.course may.awaits.answered
-            (tells_dream (dream_made limits task before s.course new.course can.bounds.workers h.dues uses steps needs may dream
-            asked_first begun)) h.dues (kept (asks_of before)) begun)) (λ is. absurd (cc))
+        known_behind : s.ledger.facts.known ≡ known_of task marked
+        known_behind = stands.ledger.known ∙ sym adds_line.same.known
+
+        notes_behind : s.ledger.queue ≡ notes_of task marked
+        notes_behind = stands.ledger.notes ∙ sym adds_line.same.notes
+
+        real_is : length s.ledger.facts.known.names ≡ length (names_of task before)
+        real_is = ap (λ (k : Known). length k.names) stands.ledger.known
+
+        -- the judge stands behind the dream's line
+        dream_onward : new.ledger ≡ s.ledger → StandsBehind limits task marked s.ledger new.course
+            → IsStanding b (take (place + 1) entries) new
+        dream_onward same there_stands =
+            is_taken b entries place s can line there new
+            (subst (λ (l : Ledger). StandsBehind limits task marked l new.course) (sym same) there_stands) (λ is. absurd (cc))
+
+        -- ---- its one batch
+
+        module _ (h : AsksOnce b needs s new) where
+          -- what is asked of it is what the definition of turns asks first
+          asked_first : instances_of h.dues ≡ sent_instances (sent_first task (length (names_of task before)) marked needs)
+          asked_first =
+              h.asks.instances ∙ (λ i. first_instances task (known_behind i) (notes_behind i) (real_is i) needs)
+              ∙ sym (first_sent task marked (length (names_of task before)) (asks_of marked + 1) needs
+              (dream_distinct limits task before s.course.kept.tried uses steps needs dream))
+
+          once_taken : b.mode ≡ Focused → IsStanding b (take (place + 1) entries) new
+          once_taken mode =
+              let kept = λ (n : ℕ). joining s.course.kept (take (b.calls - n) (instances_of h.dues)) in
+              let begun = begins_counted h.dues (length s.ledger.asked.items) new.course kept refl h.begins in
+              dream_onward h.ledger_is
+              (begun_onward limits task before s.ledger s.course stands line refl new.course may.awaits.answered
+              (tells_dream (dream_made limits task before s.course new.course can.bounds.workers h.dues mode uses steps needs may dream
+              asked_first begun)) h.dues (kept (asks_of before)) begun)
+
+        -- ---- the first of several batches
+
+        run_taken : b.mode ≡ Binding → RunsDream b (place + 1) needs s new → IsStanding b (take (place + 1) entries) new
+        run_taken mode h =
+            let known = s.ledger.facts.known in
+            let notes = s.ledger.queue in
+            let real = length known.names in
+            let same = adds_line.asks in
+            let left = stands.counts.left in
+            let closed = closed_behind limits task before s.ledger s.course stands line refl may.awaits.answered in
+            let ledger = mark_ledger limits task before s.ledger s.course stands line refl in
+            let moves : MovesOn task known notes [] limits.pools resting limits.calls
+            (with_run s.course needs real (length marked) (asks_of marked)) new.course =
+            moves_counted line there refl needs real new.course resting h.moves in
+            let run = run_followed limits.pools can.bounds.workers limits.calls marked task known notes closed
+            (omega (arith, same, left)) s.course new.course needs real moves in
+            dream_onward h.ledger_is
+            (moves_onward limits task before s.ledger s.course stands line refl new.course may.awaits.answered
+            (tells_dream (run_made limits task before s.course new.course can.bounds.workers limits.version can.bounds.fit known notes
+            mode uses steps needs may dream ledger.legal closed known_behind notes_behind real (length marked) (asks_of marked) real_is
+            refl moves)) known notes resting needs real (length marked) (asks_of marked) new.course refl same moves refl refl run)
+
+        -- ---- it is kept
+
+        keep_taken : b.mode ≡ Adaptive → KeepsDream needs s new → IsStanding b (take (place + 1) entries) new
+        keep_taken mode h =
+            let kept : new.course.kept ≡ keeping s.course.kept needs (length (names_of task before)) =
+            h.kept_is ∙ ap (keeping s.course.kept needs) real_is in
+            dream_onward h.ledger_is
+            (mark_onward limits task before s.ledger s.course stands line refl new.course may.awaits.answered
+            (tells_dream (keep_made limits task before s.course new.course mode idle uses steps needs may dream h.batch_is h.phase_is
+            kept)) h.batch_is (ap is_repeated h.phase_is)
+            (λ is. absurd (let both : dreamt ≡ undreamt = sym h.phase_is ∙ is in cc)))
+
+        -- in each mode that dreams
+        by_mode : (m : Mode) → b.mode ≡ m → GoesOn m b (place + 1) needs s new → IsStanding b (take (place + 1) entries) new
+        by_mode Incremental mode h = absurd (may.mode mode)
+        by_mode Focused mode h = once_taken h mode
+        by_mode Binding mode h = run_taken mode h
+        by_mode Adaptive mode h = keep_taken mode h
+
+        pub dream_taken : GoesOn b.mode b (place + 1) needs s new → IsStanding b (take (place + 1) entries) new
+        dream_taken h = by_mode b.mode refl h
 
     -- ---- the want of a dream
 
@@ -217,7 +306,7 @@ module _ (b : Bounds) (entries : List Entry) (place : ℕ) (s : Standing) (can :
           (subst (λ (l : Ledger). StandsBehind limits task (before ++ entry.Nothing ∷ []) l new.course) (sym ledger)
           (mark_onward limits task before s.ledger s.course stands entry.Nothing refl new.course may.awaits.answered
           (tells_none (none_made limits task before s.course new.course idle may no_dream batch phase kept)) batch
-          (λ is. (awaits, may_behind limits task before s.ledger s.course stands entry.Nothing refl may.may))))
+          (ap is_repeated phase) (λ is. (awaits, may_behind limits task before s.ledger s.course stands entry.Nothing refl may.may))))
           (λ is. closed decided)
 
   -- ---- turns that may not begin

@@ -1,7 +1,6 @@
 -- What is wrong with a report, line by line. There is one case for each kind.
 use Rattle.std.specs.Prelude.{◌≡◌, ◌⊎◌, ◌||◌, ℕ, ◌+◌, ◌<◌, ◌≤◌, List, [], ◌∷◌, ◌++◌, length, take, true, false, Some, slice_get}
 use Rattle.dream_check.specs.Lines.{IsWrongLine}
-use Rattle.mode_course.specs.Laws.{IsFollowed}
 use Rattle.mode_turns.specs.Modes.{Leaves}
 use Rattle.task_model.specs.declared.task.Task.{Task}
 use Rattle.transcript_model.specs.Dreaming.{HasNoDreamAfter}
@@ -36,13 +35,11 @@ pub record BreaksPool (task : Task) (r : Report) (line : ℕ) : Type 0 where
   pub wrong : is_fit_pool task (take place r.pools) pool ≡ false
   pub is : line ≡ place + 3
 
--- The mode isn't one that is replayed; a limit is out of its range; a pool doesn't fit; a stream has no pool, which is
--- told behind the pools.
+-- A limit is out of its range; a pool doesn't fit; a stream has no pool, which is told behind the pools.
 abbrev pub BreaksHead : Task → Report → ℕ → Type 0
 BreaksHead task r line =
-    ((line ≡ 1) × ¬ (IsFollowed r.mode))
-    ⊎ (((line ≡ 2) × (are_fit_limits r ≡ false))
-    ⊎ (BreaksPool task r line ⊎ ((line ≡ line_behind_pools r) × (are_served task r.pools ≡ false))))
+    ((line ≡ 2) × (are_fit_limits r ≡ false))
+    ⊎ (BreaksPool task r line ⊎ ((line ≡ line_behind_pools r) × (are_served task r.pools ≡ false)))
 
 -- ---- entries
 
@@ -62,8 +59,8 @@ BeginsTurn limits task before =
     ¬ (limits.mode ≡ Incremental) × MayBegin limits task before
     × AreTurnsOf limits.mode limits task before between
 
--- No turn goes on with the entry. A dream that uses something, and the want of one, are in order where a turn may begin,
--- whatever else is wrong with them.
+-- No turn goes on with the entry. A dream that uses something, and the want of one, are in order where a turn may
+-- begin, whatever else is wrong with them.
 abbrev pub IsOutOfOrder : Limits → Task → List Entry → Entry → Type 0
 IsOutOfOrder limits task before (entry.Dream uses steps) =
     ¬ (BeginsTurn limits task before × (0 < length uses))
@@ -82,8 +79,8 @@ IsFalseNone limits task before entry.Nothing =
     (k : Kept) × Leaves limits task before k × ¬ (HasNoDreamAfter limits task before k.tried)
 IsFalseNone limits task before e = ⊥
 
--- So many lines behind the entry's first: a request that may not be made; an answer that may not be given; an entry with
--- which no turn goes on; a line of a dream that is none; that there is no dream, which is false.
+-- So many lines behind the entry's first: a request that may not be made; an answer that may not be given; an entry
+-- with which no turn goes on; a line of a dream that is none; that there is no dream, which is false.
 abbrev pub BreaksEntry : Limits → Task → List Entry → Entry → ℕ → BreachKind → Type 0
 BreaksEntry limits task before e offset kind.Ask =
     (offset ≡ 0) × (is_ask e ≡ true) × ¬ (MayAsk limits task before e)

@@ -1,6 +1,7 @@
 -- What is found of an outcome.
-use Rattle.std.specs.Prelude.{◌≡◌, ◌⊎◌, ◌&&◌, not, true, false, ℕ, List}
+use Rattle.std.specs.Prelude.{◌≡◌, ◌⊎◌, ◌&&◌, true, false, ℕ, List}
 use Rattle.mode_course.specs.Agendas.{ModeAgenda, is_over, is_resting}
+use Rattle.mode_course.specs.Places.{awaits_line}
 use Rattle.task_model.specs.declared.task.Task.{Task}
 use Rattle.transcript_model.specs.Outcomes.{IsTrueOutcome, MayStand}
 use Rattle.transcript_model.specs.Rounds.{Limits}
@@ -22,12 +23,12 @@ abbrev pub IsClaim : Outcome → Type 0
 IsClaim (outcome.Plan steps cost from) = ⊥
 IsClaim o = Unit {0}
 
--- As far as the course goes the outcome has a place: between two turns; and the limit of calls everywhere but behind the
--- want of a dream.
+-- As far as the course goes the outcome has a place: between two turns; and the limit of calls everywhere but where
+-- another line of the turn comes.
 abbrev pub MayEndAt : ModeAgenda → Outcome → Type 0
 MayEndAt a o =
     ((is_over a.batch && is_resting a.phase) ≡ true)
-    ⊎ ((o ≡ outcome.Limit Calls) × ((is_over a.batch && not (is_resting a.phase)) ≡ false))
+    ⊎ ((o ≡ outcome.Limit Calls) × ((is_over a.batch && awaits_line a.phase) ≡ false))
 
 module _ (limits : Limits) (limit : ℕ) (task : Task) (entries : List Entry) (o : Outcome) where
   -- it can't be decided
@@ -41,8 +42,8 @@ module _ (limits : Limits) (limit : ℕ) (task : Task) (entries : List Entry) (o
     pub stands : MayStand stage o
     pub true : IsTrueOutcome limits task entries o
 
-  -- It has its place, and it may stand here if what it says is true. The limit of calls has one inside a batch, where it
-  -- is false.
+  -- It has its place, and it may stand here if what it says is true. The limit of calls has one inside a batch, where
+  -- it is false.
   pub record IsPlaced : Type 0 where
     pub place : HasPlace limits task entries o
     pub stands : IsTrueOutcome limits task entries o → IsRightEnd

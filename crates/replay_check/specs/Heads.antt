@@ -2,7 +2,6 @@
 use Rattle.std.specs.Prelude.{◌≡◌, ℕ, ◌+◌, List, [], ◌∷◌, ◌++◌, map, take, sum_by, Bool, true, false, ◌&&◌, not, ◌==◌, nat_le, Option, Some, None, slice_get, unwrap_or}
 use Rattle.std.specs.List.{list_any, list_all, filter_map, flat_map}
 use Rattle.std.specs.Option.{option_map}
-use Rattle.mode_course.specs.Laws.{IsFollowed}
 use Rattle.task_model.specs.Known.{same_numbers}
 use Rattle.task_model.specs.declared.limits.TheConstants.{MOST_STATES}
 use Rattle.task_model.specs.declared.stream.Stream.{Stream}
@@ -79,9 +78,8 @@ abbrev pub AreFitPoolLines : Task → List PoolLine → Type 0
 AreFitPoolLines task pools =
     (place : ℕ) (pool : PoolLine) → slice_get pools place ≡ Some pool → is_fit_pool task (take place pools) pool ≡ true
 
--- The head fits the task: its mode is one that is replayed, and its limits and pools are as they should.
+-- The head fits the task: its limits and pools are as they should.
 pub record IsFitReportHead (task : Task) (r : Report) : Type 0 where
-  pub mode : IsFollowed r.mode
   pub limits : are_fit_limits r ≡ true
   pub pools : AreFitPoolLines task r.pools
   pub served : are_served task r.pools ≡ true

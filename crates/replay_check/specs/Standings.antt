@@ -1,8 +1,7 @@
 -- Where the judge of a transcript stands.
 use Rattle.std.specs.Prelude.{◌≡◌, ℕ, ◌+◌, ◌≤◌, List, [], length, take, true, Some, slice_get}
 use Rattle.level_course.specs.Agendas.{Agenda}
-use Rattle.mode_course.specs.Agendas.{ModeAgenda, mode_place_in}
-use Rattle.mode_course.specs.Laws.{IsFollowed}
+use Rattle.mode_course.specs.Agendas.{KeepsRun, ModeAgenda, mode_place_in}
 use Rattle.mode_course.specs.Places.{Awaits, LeadsOn, at_start, undreamt}
 use Rattle.pools.specs.Pools.{HaveWorkers, shares_of}
 use Rattle.task_model.specs.Fit.{IsFit}
@@ -39,11 +38,10 @@ limits_by b = record {
   pools = shares_of b.pools.now;
 }
 
--- The task is fit, the mode is one that is replayed, each pool has a worker, there are at most 100,000 calls and from 1 to
--- 200,000 states, and from 1 to 200,000 states are searched.
+-- The task is fit, each pool has a worker, there are at most 100,000 calls and from 1 to 200,000 states, and from 1 to
+-- 200,000 states are searched.
 pub record AreBounds (b : Bounds) : Type 0 where
   pub fit : IsFit b.task.now
-  pub mode : IsFollowed b.mode
   pub workers : HaveWorkers (shares_of b.pools.now)
   pub calls : b.calls ≤ MOST_CALLS
   pub some_states : 1 ≤ b.states
@@ -51,18 +49,22 @@ pub record AreBounds (b : Bounds) : Type 0 where
   pub some_limit : 1 ≤ b.limit
   pub few_limit : b.limit ≤ MOST_STATES
 
--- The judge's ledger is that of the entries, and what is to be done is what may come behind them. No more requests are
--- to come than calls are left, and those that were made and are to be answered are open. Behind the want of a dream
--- nothing is open, and what is due is still so.
+-- No more requests are to come than calls are left, and those that were made and are to be answered are open.
+pub record IsCounted (calls : ℕ) (entries : List Entry) (a : Agenda) : Type 0 where
+  pub count : a.next + a.answers ≡ asks_of entries + length a.to_ask + 1
+  pub left : asks_of entries + length a.to_ask + length a.later ≤ calls
+  pub some : length a.to_ask ≤ a.answers
+  pub waiting : (n : ℕ) → a.next ≤ n → n ≤ asks_of entries → is_open entries n ≡ true
+  pub answered : (n : ℕ) → is_open entries n ≡ true → (a.next ≤ n) × (n ≤ asks_of entries)
+
+-- The judge's ledger is that of the entries, and what is to be done is what may come behind them. Behind the want of a
+-- dream nothing is open, and what is due is still so.
 pub record StandsBehind (limits : Limits) (task : Task) (entries : List Entry) (l : Ledger)
     (a : ModeAgenda) : Type 0 where
   pub ledger : IsLedger limits.version task entries l
   pub leads : LeadsOn limits task at_start [] entries (mode_place_in task entries a)
-  pub count : a.batch.next + a.batch.answers ≡ asks_of entries + length a.batch.to_ask + 1
-  pub left : asks_of entries + length a.batch.to_ask + length a.batch.later ≤ limits.calls
-  pub some : length a.batch.to_ask ≤ a.batch.answers
-  pub waiting : (n : ℕ) → a.batch.next ≤ n → n ≤ asks_of entries → is_open entries n ≡ true
-  pub answered : (n : ℕ) → is_open entries n ≡ true → (a.batch.next ≤ n) × (n ≤ asks_of entries)
+  pub counts : IsCounted limits.calls entries a.batch
+  pub run : KeepsRun limits.calls entries a
   pub dreamless : a.phase ≡ undreamt
       → Awaits (mode_place_in task entries a) undreamt × MayBegin limits task entries
 

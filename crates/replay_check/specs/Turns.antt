@@ -1,18 +1,18 @@
--- What turns begin with.
-use Rattle.std.specs.Prelude.{◌≡◌, ◌⊎◌, ◌&&◌, ◌-◌, not, List, [], length, take, true}
+-- What turns begin with, and what comes behind their lines.
+use Rattle.std.specs.Prelude.{◌≡◌, ◌⊎◌, ◌&&◌, ◌-◌, ℕ, List, [], length, take, true}
 use Rattle.dream_asks.specs.First.{AreFirstAsks}
 use Rattle.instance_queue.specs.Level.{instances_of}
 use Rattle.instance_queue.specs.declared.due.Due.{Due}
-use Rattle.mode_course.specs.Agendas.{Begins, ModeAgenda, is_over, is_resting}
-use Rattle.mode_course.specs.Places.{joining}
+use Rattle.mode_course.specs.Agendas.{Begins, HasPicked, HasSettled, ModeAgenda, MovesOn, is_dreamt, is_over, is_resting, is_undreamt, with_run}
+use Rattle.mode_course.specs.Places.{HasNoneToPick, dreamt, joining, keeping, resting}
 use Rattle.pools.specs.Pools.{shares_of}
 use Rattle.task_model.specs.Dreams as dreams
 use Rattle.task_model.specs.declared.task.Task.{Task}
 use Rattle.transcript_model.specs.Rounds.{Limits}
-use Rattle.transcript_model.specs.Turns.{MayBegin}
+use Rattle.transcript_model.specs.Turns.{MayBegin, Skeleton}
 use Rattle.transcript_model.specs.declared.entry.Entry.{Entry}
 use Rattle.transcript_model.specs.declared.head.Mode.{Mode}
-use Rattle.transcript_model.specs.declared.head.Mode.TheVariants.{Incremental}
+use Rattle.transcript_model.specs.declared.head.Mode.TheVariants.{Adaptive, Binding, Focused, Incremental}
 use Rattle.replay_check.specs.declared.bounds.Bounds.{Bounds}
 use Rattle.replay_check.specs.declared.standing.Standing.{Standing}
 
@@ -21,20 +21,66 @@ abbrev pub AreDueFor : Limits → Task → List Entry → List Due → Type 0
 AreDueFor limits task entries dues =
     (may : MayBegin limits task entries) × (instances_of dues ≡ may.list)
 
+-- There is no dream, and in adaptive mode no skeleton to pick either.
+abbrev pub HasNothing : Mode → ModeAgenda → Type 0
+HasNothing mode a = ((is_over a.batch && is_undreamt a.phase) ≡ true) × HasNoneToPick mode a.kept
+
 -- A level may be asked, as far as the course goes: a turn of incremental mode begins with it, or it stands behind the
--- want of a dream, where nothing was tried.
+-- want of a dream, where no skeleton is to be picked and nothing was tried.
 abbrev pub AsksLevel : Mode → ModeAgenda → Type 0
 AsksLevel mode a =
     ((mode ≡ Incremental) × ((is_over a.batch && is_resting a.phase) ≡ true))
-    ⊎ (((is_over a.batch && not (is_resting a.phase)) ≡ true) × (a.kept.tried ≡ []))
+    ⊎ (HasNothing mode a × (a.kept.tried ≡ []))
 
--- The judge goes on behind a dream with these entries: the batch begins over what may be asked first of them, which joins
--- what was tried.
-pub record HasDreamt (b : Bounds) (entries : List dreams.Entry) (old new : Standing) : Type 0 where
+-- A skeleton comes to be picked, if there is one: in adaptive mode behind a dream, or behind the want of one.
+abbrev pub PicksNext : Mode → ModeAgenda → Type 0
+PicksNext mode a =
+    (mode ≡ Adaptive)
+    × (((is_over a.batch && is_dreamt a.phase) ≡ true) ⊎ ((is_over a.batch && is_undreamt a.phase) ≡ true))
+
+-- ---- behind a dream
+
+-- The one batch begins over what may be asked first of these entries, which joins what was tried.
+pub record AsksOnce (b : Bounds) (entries : List dreams.Entry) (old new : Standing) : Type 0 where
   pub dues : List Due
   pub asks : AreFirstAsks b.task.now old.ledger.facts.known old.ledger.queue
       (length old.ledger.facts.known.names) entries dues
   pub begins : Begins (shares_of b.pools.now) dues (length old.ledger.asked.items) b.calls
       (joining old.course.kept (take (b.calls - length old.ledger.asked.items) (instances_of dues)))
       new.course
+  pub ledger_is : new.ledger ≡ old.ledger
+
+-- The first of the batches begins, behind a line that is the last of so many entries.
+pub record RunsDream (b : Bounds) (from : ℕ) (entries : List dreams.Entry) (old new : Standing) : Type 0 where
+  pub moves : MovesOn b.task.now old.ledger.facts.known old.ledger.queue [] (shares_of b.pools.now) resting b.calls
+      (with_run old.course entries (length old.ledger.facts.known.names) from (length old.ledger.asked.items))
+      new.course
+  pub ledger_is : new.ledger ≡ old.ledger
+
+-- The dream becomes the last skeleton, and one is picked next.
+pub record KeepsDream (entries : List dreams.Entry) (old new : Standing) : Type 0 where
+  pub batch_is : new.course.batch ≡ old.course.batch
+  pub phase_is : new.course.phase ≡ dreamt
+  pub kept_is : new.course.kept ≡ keeping old.course.kept entries (length old.ledger.facts.known.names)
+  pub ledger_is : new.ledger ≡ old.ledger
+
+-- the judge goes on behind a dream with these entries, whose line is the last of so many entries
+abbrev pub GoesOn : Mode → Bounds → ℕ → List dreams.Entry → Standing → Standing → Type 0
+GoesOn Incremental b from entries old new = AsksOnce b entries old new
+GoesOn Focused b from entries old new = AsksOnce b entries old new
+GoesOn Binding b from entries old new = RunsDream b from entries old new
+GoesOn Adaptive b from entries old new = KeepsDream entries old new
+
+-- ---- behind a pick, and behind an answer
+
+-- The skeleton at this place is picked, by a line that is the last of so many entries.
+pub record RunsPick (b : Bounds) (from place : ℕ) (s : Skeleton) (old new : Standing) : Type 0 where
+  pub picked : HasPicked b.task.now old.ledger.facts.known old.ledger.queue (shares_of b.pools.now) place s from
+      (length old.ledger.asked.items) b.calls old.course new.course
+  pub ledger_is : new.ledger ≡ old.ledger
+
+-- The dream's next batch begins behind these entries, or its turn is over, where that is due.
+pub record SettlesOn (b : Bounds) (entries : List Entry) (old new : Standing) : Type 0 where
+  pub settled : HasSettled b.task.now old.ledger.facts.known old.ledger.queue entries (shares_of b.pools.now) b.calls
+      old.course new.course
   pub ledger_is : new.ledger ≡ old.ledger

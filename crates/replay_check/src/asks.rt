@@ -1,6 +1,8 @@
 //! Requests and answers.
-ghost use Rattle.std.specs.Prelude.{◌≡◌, ◌≤◌, Some, length, slice_get, IfOk, IfSome, IsTrue};
-ghost use Rattle.replay_check.specs.Standings.{IsNextRequest};
+ghost use Rattle.std.specs.Prelude.{◌≡◌, ◌≤◌, Some, length, slice_get, IfOk, IfSome, IsTrue, OnOk};
+ghost use Rattle.mode_course.specs.Agendas.{KeepsRun};
+ghost use Rattle.replay_check.specs.Standings.{AreBounds, IsNextRequest};
+ghost use Rattle.replay_check.specs.Turns.{SettlesOn};
 ghost use Rattle.replay_check.specs.Walks.{CanTake, IsEntryTaken};
 ghost use Rattle.transcript_model.specs.Legal.{answered_number as number_in};
 ghost use Rattle.transcript_model.specs.declared.entry.Entry.TheVariants as entry;
@@ -77,6 +79,24 @@ impl Standing {
         Ok(Finding::Holds)
     }
 
+    /// Goes on with the next batch of a dream, or ends its turn, where the last of these entries is
+    /// the last answer of its batch.
+    fn settle(&mut self, bounds: &Bounds<'_>, entries: &[Entry]) -> Result<(), AllocError>
+        requires bounds { AreBounds bounds.now }
+        requires run { KeepsRun bounds.now.calls entries.now self.old.course }
+        ensures { OnOk result (SettlesOn bounds.now entries.now self.old self.new) }
+    {
+        let ledger = &self.ledger;
+        self.course.settle(
+            bounds.task,
+            &ledger.facts,
+            &ledger.queue,
+            entries,
+            bounds.pools,
+            bounds.calls,
+        )
+    }
+
     /// Takes the answer at this place, to the request of this number.
     pub(crate) fn take_answer(
         &mut self,
@@ -105,6 +125,7 @@ impl Standing {
             place,
         )?;
         self.course.answer(bounds.pools);
+        self.settle(bounds, &entries[..place + 1])?;
         Ok(Finding::Holds)
     }
 }

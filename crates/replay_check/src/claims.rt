@@ -12,7 +12,8 @@ ghost use Rattle.transcript_model.specs.declared.outcome.LimitKind.TheVariants.{
 ghost use Rattle.transcript_model.specs.declared.outcome.Outcome.TheVariants as outcome;
 
 use crate::bounds::Bounds;
-use best_first::{Additive, Found, exceeds, search};
+use best_first::exceeds;
+use dream_check::is_solvable_within;
 use std::alloc::AllocError;
 use transcript_ledger::{Ledger, dues_of};
 use transcript_model::Mode;
@@ -60,23 +61,9 @@ pub(crate) fn judge_no_plan(bounds: &Bounds<'_>, ledger: &Ledger) -> Result<Clai
     if !is_nothing_due(bounds, ledger)? {
         return Ok(Claim::False);
     }
-    let mut estimate = Additive::new(bounds.alloc, bounds.task, &ledger.facts)?;
-    match search(
-        bounds.alloc,
-        bounds.task,
-        &ledger.facts,
-        bounds.limit,
-        &mut estimate,
-    )? {
-        Found::Nothing => Ok(Claim::True),
-        Found::Limit => Ok(Claim::Open),
-        Found::Plan(_, _) => {
-            if exceeds(bounds.alloc, bounds.task, &ledger.facts, bounds.limit)? {
-                Ok(Claim::Open)
-            } else {
-                Ok(Claim::False)
-            }
-        }
+    match is_solvable_within(bounds.alloc, bounds.task, &ledger.facts, bounds.limit)? {
+        None => Ok(Claim::Open),
+        Some(solvable) => Ok(decided(!solvable)),
     }
 }
 

@@ -38,6 +38,8 @@ impl Standing {
             }
             Entry::Nothing => self.take_none(bounds, entries, place),
             Entry::Reset => Ok(self.take_reset(bounds, entries, place)),
+            Entry::Pick(number) => self.take_pick(bounds, *number, entries, place),
+            Entry::Retire(number) => Ok(self.take_retire(bounds, *number, entries, place)),
             _ => Ok(Finding::Breaks(0, BreachKind::Order)),
         }
     }

@@ -1,7 +1,6 @@
 //! The head of a report.
-ghost use Rattle.std.specs.Prelude.{◌≡◌, ◌+◌, ◌<◌, ◌≤◌, List, ◌++◌, length, map, take, slice_get, ◌↔◌, IfErr, IfOk, IfSome, IfNone, IsTrue, false, true};
+ghost use Rattle.std.specs.Prelude.{◌≡◌, ◌+◌, ◌<◌, ◌≤◌, List, ◌++◌, length, map, take, slice_get, IfErr, IfOk, IfSome, IfNone, false, true};
 ghost use Rattle.std.specs.List.{filter_map, list_any};
-ghost use Rattle.mode_course.specs.Laws.{IsFollowed};
 ghost use Rattle.pools.specs.Pools.{shares_of};
 ghost use Rattle.replay_check.specs.Headed.{IsAfter, IsHeaded};
 ghost use Rattle.replay_check.specs.Heads.{AreFitPoolLines, are_fit_limits as limits_fit, are_new, are_served as all_served, is_fit_pool, share_in};
@@ -16,7 +15,7 @@ use pools::Workers;
 use std::alloc::{AllocError, Global};
 use task_model::{MOST_STATES, Name, Seq, Task};
 use transcript_ledger::stream_named;
-use transcript_model::{MOST_CALLS, MOST_DEPTH, Mode, PoolLine, Report, WORKERS};
+use transcript_model::{MOST_CALLS, MOST_DEPTH, PoolLine, Report, WORKERS};
 
 /// What is said of a head.
 #[derive(Drop)]
@@ -26,16 +25,6 @@ pub(crate) enum Headed {
     Fits(Vec<Workers>),
     /// It breaks a rule first in this line.
     Breaks(usize),
-}
-
-/// Whether reports of the mode are replayed: binding and adaptive mode aren't built.
-fn is_followed(mode: Mode) -> bool
-    ensures { IsTrue result ↔ IsFollowed mode }
-{
-    match mode {
-        Mode::Incremental | Mode::Focused => true,
-        Mode::Binding | Mode::Adaptive => false,
-    }
 }
 
 /// Whether the limits are in their ranges.
@@ -173,9 +162,6 @@ pub(crate) fn judge_head(alloc: Global, task: &Task, report: &Report) -> Result<
     requires { IsFit task.now }
     ensures { IfOk result (IsHeaded task.now report.now) }
 {
-    if !is_followed(report.mode) {
-        return Ok(Headed::Breaks(1));
-    }
     if !are_fit_limits(report) {
         return Ok(Headed::Breaks(2));
     }

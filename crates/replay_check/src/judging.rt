@@ -110,8 +110,7 @@ fn judge(alloc: Global, task: &Task, report: &Report, limit: u32) -> Result<Verd
 /// and is true, and where no claim is undecided. `Invalid` has the first line that is wrong and the
 /// smallest kind of what is wrong with it; that the text isn't of the form is told before all else.
 /// `Limit` comes exactly where a claim, of the outcome or that there is no dream, can't be decided
-/// within the limit, and nothing is wrong before it. Reports of binding and adaptive mode, which
-/// aren't replayed yet, are wrong in line 1, kind 2. Fails only where memory is wanting.
+/// within the limit, and nothing is wrong before it. Fails only where memory is wanting.
 pub fn replay(alloc: Global, task: &Task, bytes: &[u8], limit: u32) -> Result<Verdict, AllocError>
     requires fit { IsFit task.now }
     requires some { 1 ≤ limit }

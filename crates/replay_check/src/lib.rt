@@ -5,6 +5,7 @@
 mod asks;
 mod bounds;
 mod claims;
+mod dreams;
 mod entries;
 mod finding;
 mod head;
@@ -13,6 +14,7 @@ pub mod laws;
 mod lines;
 mod origins;
 mod outcome;
+mod picks;
 mod plan;
 mod standing;
 mod turns;

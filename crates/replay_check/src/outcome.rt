@@ -105,11 +105,11 @@ impl Standing {
     }
 
     /// Whether the outcome may stand here, or is the limit of calls inside a batch, where that is
-    /// false. Behind the want of a dream none may stand.
+    /// false. Where another line of the turn comes none may stand.
     fn has_place(&self, outcome: &Outcome) -> bool
         ensures { IsTrue result ↔ MayEndAt self.now.course outcome.now }
     {
-        self.course.is_between() || (is_limit_of_calls(outcome) && !self.course.is_undreamt())
+        self.course.is_between() || (is_limit_of_calls(outcome) && !self.course.awaits_line())
     }
 
     /// Judges the outcome behind these entries.

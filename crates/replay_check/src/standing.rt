@@ -1,9 +1,10 @@
 //! Where the judge of a transcript stands.
-ghost use Rattle.std.specs.Prelude.{◌↔◌, List, IfOk, IfSome, IfNone, IsTrue};
+ghost use Rattle.std.specs.Prelude.{◌≡◌, ◌↔◌, List, IfOk, IfSome, IfNone, IsTrue, true};
+ghost use Rattle.std.specs.List.{list_all};
 ghost use Rattle.replay_check.specs.Breaches.{BeginsTurn};
 ghost use Rattle.replay_check.specs.Standings.{AreBounds, StandsBehind, limits_by};
-ghost use Rattle.replay_check.specs.Turns.{AreDueFor, AsksLevel};
-ghost use Rattle.transcript_model.specs.Turns.{MayBegin};
+ghost use Rattle.replay_check.specs.Turns.{AreDueFor, AsksLevel, HasNothing, PicksNext};
+ghost use Rattle.transcript_model.specs.Turns.{IsPicked, MayBegin, Skeleton};
 ghost use Rattle.transcript_model.specs.declared.entry.Entry.{Entry as AnyEntry};
 
 use crate::bounds::Bounds;
@@ -61,11 +62,40 @@ impl Standing {
         Ok(dues.is_some())
     }
 
+    /// Whether there is no dream, and in adaptive mode no skeleton to pick either.
+    pub(crate) fn has_nothing(&self, bounds: &Bounds<'_>) -> bool
+        ensures { IsTrue result ↔ HasNothing bounds.now.mode self.now.course }
+    {
+        self.course.is_undreamt()
+            && (bounds.mode != Mode::Adaptive || self.course.next_pick().is_none())
+    }
+
     /// Whether a level may be asked, as far as the course goes.
     pub(crate) fn asks_level(&self, bounds: &Bounds<'_>) -> bool
         ensures { IsTrue result ↔ AsksLevel bounds.now.mode self.now.course }
     {
         (bounds.mode == Mode::Incremental && self.course.is_between())
-            || (self.course.is_undreamt() && self.course.tried().is_empty())
+            || (self.has_nothing(bounds) && self.course.tried().is_empty())
+    }
+
+    /// Whether a skeleton comes to be picked, if there is one.
+    fn awaits_pick(&self, bounds: &Bounds<'_>) -> bool
+        ensures { IsTrue result ↔ PicksNext bounds.now.mode self.now.course }
+    {
+        bounds.mode == Mode::Adaptive && (self.course.is_dreamt() || self.course.is_undreamt())
+    }
+
+    /// The place of the skeleton that is picked next, if one comes to be picked.
+    pub(crate) fn next_pick(&self, bounds: &Bounds<'_>) -> Option<usize>
+        ensures some { IfSome result (λ place. PicksNext bounds.now.mode self.now.course
+            × ((s : Skeleton) × IsPicked self.now.course.kept.skeletons place s)) }
+        ensures none { IfNone result (PicksNext bounds.now.mode self.now.course
+            → list_all (λ (s : Skeleton). s.retired) self.now.course.kept.skeletons ≡ true) }
+    {
+        if self.awaits_pick(bounds) {
+            self.course.next_pick()
+        } else {
+            None
+        }
     }
 }

@@ -2,7 +2,6 @@
 use Rattle.std.proofs.Common.{◌≡◌, ℕ, ◌<◌, ◌≤◌, ◌^◌, List, length, sym, subst, ap, ◌∙◌, arith, Option, Some}
 use Rattle.io_world.specs.FileMap.{FileMap}
 use Rattle.level_run.specs.Reports.{whole_text}
-use Rattle.mode_course.specs.Laws.{IsFollowed}
 use Rattle.command_line.proofs.RangesLemmas.{in_range}
 use Rattle.command_line.specs.Ranges.{AreInRange}
 use Rattle.command_line.specs.Words.{SolveWords, TaskFiles, command_of, solve}
@@ -72,7 +71,7 @@ same_work words asked (solving w) one two = let both = sym one ∙ two in ap sol
 same_work words asked (making n) one two = let both = sym one ∙ two in absurd (cc)
 
 pub solved_valid : SolvedReportsAreValid
-solved_valid files later words others outside after status end text said asked meant solved judged first second same report le mode =
+solved_valid files later words others outside after status end text said asked meant solved judged first second same report le =
     let run = solved.run in
     let work : run.work ≡ solving asked = same_work words asked run.work run.meant meant in
     let spelled : IsTaskOf outside.files.told asked.files run.task = subst
@@ -99,7 +98,6 @@ solved_valid files later words others outside after status end text said asked m
     let most = judging.has.short in
     let short : length whole < 2 ^ 31 = omega (arith, most, ap length wrote) in
     let states : run.head.states ≤ judged.asked.states = omega (arith, le, headed.states) in
-    let valid : judged.verdict ≡ Valid = written_valid run.task run.head run.entries solved.outcome run.fit can
-    (subst IsFollowed (sym headed.mode) mode) solved.turns
+    let valid : judged.verdict ≡ Valid = written_valid run.task run.head run.entries solved.outcome run.fit can solved.turns
     judged.asked.states judged.verdict short states verdict in
     (sym judged.kind ∙ ap kind_of_verdict valid, judged.is ∙ ap verdict_text valid)

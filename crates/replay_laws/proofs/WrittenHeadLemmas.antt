@@ -7,7 +7,6 @@ use Rattle.std.proofs.lemmas.Option.{slice_get_within, slice_get-map}
 use Rattle.std.specs.List.{list_any, filter_map, flat_map}
 use Rattle.std.specs.Option.{option_map}
 use Rattle.std.proofs.lemmas.Map.Keys.{any_passes_from_place}
-use Rattle.mode_course.specs.Laws.{IsFollowed}
 use Rattle.replay_check.specs.Heads.{AreFitPoolLines, IsFitReportHead, are_new, is_fit_pool, reported_limits, served_by, share_in, workers_together}
 use Rattle.pools.proofs.PoolsLemmas.{server_is}
 use Rattle.pools.specs.Pools.{Workers, workers_of}
@@ -205,10 +204,8 @@ module _ (task : Task) (fit : IsFit task) where
         → (a && b && c && d && e && f) ≡ true
     six a b c d e f ea eb ec ed ee ef = rw (ea, eb, ec, ed, ee, ef) refl
 
-    pub head_fits : IsFollowed head.mode → (entries : List Entry) (o : Outcome)
-        → IsFitReportHead task (report_of task head entries o)
-    head_fits mode entries o = record {
-      mode = mode;
+    pub head_fits : (entries : List Entry) (o : Outcome) → IsFitReportHead task (report_of task head entries o)
+    head_fits entries o = record {
       limits = six (nat_le 1 head.calls) (nat_le head.calls 100000) (nat_le 1 head.states) (nat_le head.states 200000)
           (nat_le 1 head.depth) (nat_le head.depth 8)
           (le-leb 1 head.calls can.runnable.fit.some_calls) (le-leb head.calls 100000 can.runnable.fit.calls)

@@ -2,7 +2,6 @@
 use Rattle.std.proofs.Common.{◌≡◌, ℕ, ◌<◌, ◌≤◌, ◌^◌, inl, inr, List, length, refl, sym, subst, arith}
 use Rattle.level_run.specs.Reports.{IsRun, whole_text}
 use Rattle.level_run.specs.Turns.{IsSure}
-use Rattle.mode_course.specs.Laws.{IsFollowed}
 use Rattle.replay_check.proofs.OneVerdictLemmas.{right_valid}
 use Rattle.replay_check.specs.Heads.{reported_limits}
 use Rattle.replay_check.specs.Verdicts.{IsRightReport, IsUndecidedAt, IsUndecidedClaim, IsVerdict}
@@ -51,13 +50,13 @@ decided limit task head entries o sure le line (inl (is, claim)) = claim_decided
 decided limit task head entries o sure le line (inr u) = let below = u.unsure.2.below in omega (arith, le, below)
 
 module _ (task : Task) (head : Head) (entries : List Entry) (o : Outcome) (fit : IsFit task)
-    (can : IsHeadOfReports task head) (mode : IsFollowed head.mode) (run : IsRun task head entries o) where
+    (can : IsHeadOfReports task head) (run : IsRun task head entries o) where
   -- all that it says is right
   right : IsRightReport task (report_of task head entries o)
   right =
       let limits = limits_same task fit head entries o can.runnable.streams in
       record {
-        head = head_fits task fit head can mode entries o;
+        head = head_fits task fit head can entries o;
         stage = run.stage;
         legal = record {
           legal = run.legal;
@@ -73,4 +72,5 @@ module _ (task : Task) (head : Head) (entries : List Entry) (o : Outcome) (fit :
   written_valid limit v short le is =
       right_valid limit task (report_of task head entries o) v
       (formed task head entries o fit can run (short_counted task head entries o (omega (arith, short)))) right
-      (λ unsure. decided limit task head entries o run.sure le unsure.0 unsure.1) (subst (λ bytes. IsVerdict limit task bytes v) (whole_is task head entries o) is)
+      (λ unsure. decided limit task head entries o run.sure le unsure.0 unsure.1)
+      (subst (λ bytes. IsVerdict limit task bytes v) (whole_is task head entries o) is)

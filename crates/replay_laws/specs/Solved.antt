@@ -8,7 +8,6 @@ use Rattle.pddlstream_app.specs.Replays.{verdict_text}
 use Rattle.pddlstream_app.specs.Runs.{HasOutcome, HasVerdict}
 use Rattle.pddlstream_app.specs.declared.status.Status.{Status}
 use Rattle.pddlstream_app.specs.declared.status.Status.TheVariants.{Done}
-use Rattle.mode_course.specs.Laws.{IsFollowed}
 use Rattle.replay_check.specs.declared.verdict.Verdict.TheVariants.{Valid}
 
 -- Under these paths of the first files stand the same three texts as under those of the later files.
@@ -19,7 +18,7 @@ pub record AreSameTexts (files later : FileMap) (paths others : TaskFiles) : Typ
 
 -- A run for words that mean a task is to be solved has an outcome and writes this text. A later run, for other words,
 -- judges a report: its task has the same three texts, its report is what was written, and its limit is at least the
--- run's. Then, of a mode that is replayed, it says that the report is valid, and ends so.
+-- run's. Then it says that the report is valid, and ends so.
 abbrev pub SolvedReportsAreValid : Type 0
 SolvedReportsAreValid =
     (files later : FileMap) (words others : List (List ℕ)) (outside after : Outside) (status end : Status)
@@ -28,4 +27,4 @@ SolvedReportsAreValid =
     → (judged : HasVerdict others after end said)
     → outside.files.told ≡ Some files → after.files.told ≡ Some later
     → AreSameTexts files later asked.files judged.asked.files → later judged.asked.report ≡ Some text
-    → asked.limits.states ≤ judged.asked.states → IsFollowed asked.mode → (end ≡ Done) × (said ≡ verdict_text Valid)
+    → asked.limits.states ≤ judged.asked.states → (end ≡ Done) × (said ≡ verdict_text Valid)

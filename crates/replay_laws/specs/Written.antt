@@ -2,7 +2,6 @@
 -- and so is proved.
 use Rattle.std.specs.Prelude.{◌≡◌, ◌⊎◌, ℕ, ◌^◌, ◌<◌, ◌≤◌, List, [], ◌∷◌, length}
 use Rattle.level_run.specs.Reports.{IsRun, whole_text}
-use Rattle.mode_course.specs.Laws.{IsFollowed}
 use Rattle.replay_check.specs.Verdicts.{IsVerdict}
 use Rattle.replay_check.specs.declared.verdict.Verdict.{Verdict}
 use Rattle.replay_check.specs.declared.verdict.Verdict.TheVariants.{Valid}
@@ -28,11 +27,10 @@ abbrev pub OnePoolIsOfReports : Type 0
 OnePoolIsOfReports =
     (task : Task) (pools : List Pool) → IsOnePool task pools → ArePoolsOfReports pools
 
--- Of a whole report that a run wrote, of a mode that is replayed and of fewer than 2^31 bytes, a replay with a limit of at
--- least the run's says nothing but that it is valid.
+-- Of a whole report that a run wrote, of fewer than 2^31 bytes, a replay with a limit of at least the run's says
+-- nothing but that it is valid.
 abbrev pub WrittenReportsAreValid : Type 0
 WrittenReportsAreValid =
     (limit : ℕ) (task : Task) (head : Head) (entries : List Entry) (o : Outcome) (v : Verdict) → IsFit task
-    → IsHeadOfReports task head → IsFollowed head.mode
-    → IsRun task head entries o → length (whole_text task head entries o) < 2 ^ 31
+    → IsHeadOfReports task head → IsRun task head entries o → length (whole_text task head entries o) < 2 ^ 31
     → head.states ≤ limit → IsVerdict limit task (whole_text task head entries o) v → v ≡ Valid

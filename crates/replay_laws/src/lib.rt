@@ -5,15 +5,14 @@
 ghost use Rattle.replay_laws.specs.Solved.{SolvedReportsAreValid};
 ghost use Rattle.replay_laws.specs.Written.{OnePoolIsOfReports, WrittenReportsAreValid};
 
-/// What the program writes of a run with an outcome, of a mode that is replayed, it finds valid
-/// where it judges it with the same three texts and with a limit of at least the run's states.
+/// What the program writes of a run with an outcome it finds valid where it judges it with the same
+/// three texts and with a limit of at least the run's states.
 pub fn solved_reports_are_valid()
     ensures { SolvedReportsAreValid }
 {}
 
-/// Of a whole report that a run wrote, of a mode that is replayed, a replay with the same task, and
-/// with a limit of at least the run's states, says nothing but that it is valid, where the report
-/// has fewer than 2^31 bytes.
+/// Of a whole report that a run wrote a replay with the same task, and with a limit of at least the
+/// run's states, says nothing but that it is valid, where the report has fewer than 2^31 bytes.
 pub fn written_reports_are_valid()
     ensures { WrittenReportsAreValid }
 {}

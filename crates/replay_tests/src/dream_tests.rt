@@ -38,7 +38,7 @@ const DREAM: [Row<'static>; 11] = [
 ];
 
 /// Other lines in the place of the first dream.
-const NONE: [Row<'static>; 4] = [
+const NONE: [Row<'static>; 5] = [
     (
         &[
             (4, "none"),
@@ -64,7 +64,8 @@ const NONE: [Row<'static>; 4] = [
         "invalid 4 5",
     ),
     (&[(1, "pddlstream 1 incremental")], "invalid 4 5"),
-    (&[(1, "pddlstream 1 binding")], "invalid 1 2"),
+    (&[(1, "pddlstream 1 binding")], "invalid 15 5"),
+    (&[(1, "pddlstream 1 adaptive")], "invalid 11 5"),
 ];
 
 /// Lines behind the first dream that are wrong.

@@ -22,9 +22,7 @@ const TEXT: [Row<'static>; 13] = [
 ];
 
 /// Heads that don't fit the task.
-const HEAD: [Row<'static>; 14] = [
-    (&[(1, "pddlstream 1 binding")], "invalid 1 2"),
-    (&[(1, "pddlstream 1 adaptive")], "invalid 1 2"),
+const HEAD: [Row<'static>; 12] = [
     (&[(2, "limits 0 100000 3")], "invalid 2 2"),
     (&[(2, "limits 100001 100000 3")], "invalid 2 2"),
     (&[(2, "limits 10000 0 3")], "invalid 2 2"),
@@ -64,7 +62,9 @@ const TALK: [Row<'static>; 20] = [
 ];
 
 /// Lines that may not stand where they stand.
-const ORDER: [Row<'static>; 15] = [
+const ORDER: [Row<'static>; 17] = [
+    (&[(1, "pddlstream 1 binding")], "invalid 4 5"),
+    (&[(1, "pddlstream 1 adaptive")], "invalid 4 5"),
     (&[(4, "")], "invalid 4 5"),
     (&[(4, "none")], "invalid 4 5"),
     (&[(4, "reset")], "invalid 4 5"),

@@ -184,7 +184,7 @@ const FIRST: [Row<'static>; 6] = [
     (&[(2, "limits 0 100000 3"), (12, "don")], "invalid 12 1"),
     (
         &[(1, "pddlstream 1 binding"), (2, "limits 0 0 0")],
-        "invalid 1 2",
+        "invalid 2 2",
     ),
     (&[(6, "got 1"), (10, "cost 3")], "invalid 6 4"),
     (&[(4, "none"), (5, "ask 7 0 grip cup")], "invalid 4 5"),

@@ -1,3 +1,4 @@
+pub mod PrintsLemmas
 pub mod TextsLemmas
 pub mod LineTextLemmas
 pub mod FormsLemmas

@@ -1,3 +1,4 @@
+pub mod Prints
 pub mod Texts
 pub mod Forms
 pub mod Faults

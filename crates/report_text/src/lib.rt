@@ -2,6 +2,7 @@
 #![tactic(auto)]
 
 mod fault;
+mod held_text;
 pub mod laws;
 mod lines;
 mod write_entry;
@@ -9,6 +10,7 @@ mod write_head;
 mod write_outcome;
 
 pub use fault::ReportFault;
-pub use write_entry::entry_text;
-pub use write_head::head_text;
-pub use write_outcome::outcome_text;
+pub use held_text::{entry_text, head_text, outcome_text};
+pub use write_entry::put_entry;
+pub use write_head::put_head;
+pub use write_outcome::put_outcome;

@@ -1,90 +1,126 @@
-//! Lines of fields with single spaces.
-ghost use Rattle.std.specs.Prelude.{◌≡◌, [], ◌∷◌, ◌++◌, map, OnOk};
-ghost use Rattle.std.specs.Fmt.{decimal};
-ghost use Rattle.report_text.specs.Texts.{line, line_text, lines_text, fields_text, call_fields};
+//! Lines of fields with single spaces, written to a sink piece by piece: no memory is taken for
+//! them.
+ghost use Rattle.std.specs.Prelude.{◌∷◌, [], ◌++◌, map};
+ghost use Rattle.io_world.specs.Faults.{last_count, HasCause};
+ghost use Rattle.io_world.specs.declared.sink.SinkFault.TheVariants.{Failed};
+ghost use Rattle.report_text.specs.Prints.{Prints};
+ghost use Rattle.report_text.specs.Texts.{call_fields, fields_text, line, line_text, lines_text};
 
-use std::alloc::{AllocError, Global};
+use io_world::{Sink, SinkFault, write_all};
+use itoa::{Buffer, Integer};
 use task_model::Name;
 use transcript_model::Call;
 
-/// Writes a space and a field.
-pub(crate) fn push_field(text: &mut Vec<u8>, field: &[u8]) -> Result<(), AllocError>
-    ensures { OnOk result (text.new.items ≡ text.old.items ++ 32 ∷ field.now) }
+/// Writes these bytes.
+pub(crate) fn put<O: Sink>(out: &mut O, bytes: &[u8]) -> Result<(), SinkFault>
+    ensures told { Prints result (O.taken out.old) (O.taken out.new) bytes.now }
+    ensures cause { HasCause Failed last_count (O.faults out.old) (O.faults out.new) result }
 {
-    text.push(b' ')?;
-    text.extend_from_slice(field)
+    write_all(out, bytes)
+}
+
+/// Writes a space and a field.
+pub(crate) fn put_field<O: Sink>(out: &mut O, field: &[u8]) -> Result<(), SinkFault>
+    ensures told { Prints result (O.taken out.old) (O.taken out.new) (32 ∷ field.now) }
+    ensures cause { HasCause Failed last_count (O.faults out.old) (O.faults out.new) result }
+{
+    put(out, b" ")?;
+    put(out, field)
 }
 
 /// Writes a space and a number.
-pub(crate) fn push_number(alloc: Global, text: &mut Vec<u8>, number: u64) -> Result<(), AllocError>
-    ensures { OnOk result (text.new.items ≡ text.old.items ++ 32 ∷ decimal number) }
+pub(crate) fn put_number<O: Sink, N: Integer>(out: &mut O, number: N) -> Result<(), SinkFault>
+    ensures told { Prints result (O.taken out.old) (O.taken out.new) (32 ∷ N.text number) }
+    ensures cause { HasCause Failed last_count (O.faults out.old) (O.faults out.new) result }
 {
-    push_field(text, number.to_string(alloc)?.as_bytes())
+    let mut digits = Buffer::new();
+    put_field(out, digits.format(number).as_bytes())
 }
 
 /// Writes each name with a space before it.
-#[tactic(auto, using(lemmas::proofs::Members::flat_map_next))]
-pub(crate) fn push_names(text: &mut Vec<u8>, names: &[Name]) -> Result<(), AllocError>
-    ensures { OnOk result (text.new.items ≡ text.old.items ++ fields_text names.now) }
+pub(crate) fn put_names<O: Sink>(out: &mut O, names: &[Name]) -> Result<(), SinkFault>
+    ensures told { Prints result (O.taken out.old) (O.taken out.new) (fields_text names.now) }
+    ensures cause { HasCause Failed last_count (O.faults out.old) (O.faults out.new) result }
 {
     for name in names {
-        push_field(text, name.bytes())?;
+        put_field(out, name.bytes())?;
     }
     Ok(())
 }
 
-/// Writes a call behind the fields of a line.
-pub(crate) fn push_call(text: &mut Vec<u8>, call: &Call) -> Result<(), AllocError>
-    ensures { OnOk result (text.new.items ≡ text.old.items ++ fields_text (call_fields call.now)) }
+/// Writes a call behind the fields of a line, and ends the line.
+pub(crate) fn put_call<O: Sink>(out: &mut O, call: &Call) -> Result<(), SinkFault>
+    ensures told { Prints result (O.taken out.old) (O.taken out.new)
+        (fields_text (call_fields call.now) ++ 10 ∷ []) }
+    ensures cause { HasCause Failed last_count (O.faults out.old) (O.faults out.new) result }
 {
-    push_field(text, call.name.bytes())?;
-    push_names(text, call.args.as_slice())
+    put_field(out, call.name.bytes())?;
+    put_names(out, call.args.as_slice())?;
+    put(out, b"\n")
+}
+
+/// Begins a line with a word and a number.
+pub(crate) fn put_begun<O: Sink, N: Integer>(
+    out: &mut O,
+    word: &[u8],
+    number: N,
+) -> Result<(), SinkFault>
+    ensures told { Prints result (O.taken out.old) (O.taken out.new)
+        (word.now ++ 32 ∷ N.text number) }
+    ensures cause { HasCause Failed last_count (O.faults out.old) (O.faults out.new) result }
+{
+    put(out, word)?;
+    put_number(out, number)
 }
 
 /// Writes a line of a word and a number.
-pub(crate) fn push_numbered(
-    alloc: Global,
-    text: &mut Vec<u8>,
+pub(crate) fn put_numbered<O: Sink, N: Integer>(
+    out: &mut O,
     word: &[u8],
-    number: u64,
-) -> Result<(), AllocError>
-    ensures { OnOk result (text.new.items ≡ text.old.items
-        ++ line_text (line word.now (decimal number ∷ []))) }
+    number: N,
+) -> Result<(), SinkFault>
+    ensures told { Prints result (O.taken out.old) (O.taken out.new)
+        (line_text (line word.now (N.text number ∷ []))) }
+    ensures cause { HasCause Failed last_count (O.faults out.old) (O.faults out.new) result }
 {
-    text.extend_from_slice(word)?;
-    push_number(alloc, text, number)?;
-    text.push(b'\n')?;
-    Ok(())
+    put_begun(out, word, number)?;
+    put(out, b"\n")
 }
 
 /// Writes a line of a word and two numbers.
-pub(crate) fn push_pair(
-    alloc: Global,
-    text: &mut Vec<u8>,
+pub(crate) fn put_pair<O: Sink, N: Integer>(
+    out: &mut O,
     word: &[u8],
-    first: u64,
-    second: u64,
-) -> Result<(), AllocError>
-    ensures { OnOk result (text.new.items ≡ text.old.items
-        ++ line_text (line word.now (decimal first ∷ decimal second ∷ []))) }
+    first: N,
+    second: N,
+) -> Result<(), SinkFault>
+    ensures told { Prints result (O.taken out.old) (O.taken out.new)
+        (line_text (line word.now (N.text first ∷ N.text second ∷ []))) }
+    ensures cause { HasCause Failed last_count (O.faults out.old) (O.faults out.new) result }
 {
-    text.extend_from_slice(word)?;
-    push_number(alloc, text, first)?;
-    push_number(alloc, text, second)?;
-    text.push(b'\n')?;
-    Ok(())
+    put_begun(out, word, first)?;
+    put_number(out, second)?;
+    put(out, b"\n")
 }
 
 /// Writes a line for each call, with this word first.
-#[tactic(auto, using(lemmas::proofs::Members::flat_map_map_next))]
-pub(crate) fn push_calls(text: &mut Vec<u8>, word: &[u8], calls: &[Call]) -> Result<(), AllocError>
-    ensures { OnOk result (text.new.items ≡ text.old.items
-        ++ lines_text (map (λ call. line word.now (call_fields call)) calls.now)) }
+pub(crate) fn put_calls<O: Sink>(out: &mut O, word: &[u8], calls: &[Call]) -> Result<(), SinkFault>
+    ensures told { Prints result (O.taken out.old) (O.taken out.new)
+        (lines_text (map (λ call. line word.now (call_fields call)) calls.now)) }
+    ensures cause { HasCause Failed last_count (O.faults out.old) (O.faults out.new) result }
 {
     for call in calls {
-        text.extend_from_slice(word)?;
-        push_call(text, call)?;
-        text.push(b'\n')?;
+        put_call_line(out, word, call)?;
     }
     Ok(())
+}
+
+/// Writes a line of a word and a call.
+fn put_call_line<O: Sink>(out: &mut O, word: &[u8], call: &Call) -> Result<(), SinkFault>
+    ensures told { Prints result (O.taken out.old) (O.taken out.new)
+        (line_text (line word.now (call_fields call.now))) }
+    ensures cause { HasCause Failed last_count (O.faults out.old) (O.faults out.new) result }
+{
+    put(out, word)?;
+    put_call(out, call)
 }

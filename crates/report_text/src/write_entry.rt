@@ -1,146 +1,138 @@
 //! How the entries of a transcript are written.
-ghost use Rattle.std.specs.Prelude.{◌≡◌, [], ◌∷◌, ◌++◌, map, IfOk, OnOk, codes};
+ghost use Rattle.std.specs.Prelude.{◌∷◌, [], ◌++◌, map, codes};
 ghost use Rattle.std.specs.Fmt.{decimal};
+ghost use Rattle.io_world.specs.Faults.{last_count, HasCause};
+ghost use Rattle.io_world.specs.declared.sink.SinkFault.TheVariants.{Failed};
+ghost use Rattle.report_text.specs.Prints.{Prints};
+ghost use Rattle.report_text.specs.Texts.{call_fields, fields_text, line, line_text, lines_text, text_of_entry, tuple_fields, use_line};
 ghost use Rattle.transcript_model.specs.declared.entry.Entry.TheVariants as entry;
-ghost use Rattle.report_text.specs.Texts.{line, line_text, lines_text, fields_text, tuple_fields, call_fields, use_line, text_of_entry};
 
 use crate::lines::{
-    push_call, push_calls, push_field, push_names, push_number, push_numbered, push_pair,
+    put, put_begun, put_call, put_calls, put_field, put_names, put_number, put_numbered, put_pair,
 };
-use std::alloc::{AllocError, Global};
+use io_world::{Sink, SinkFault};
 use task_model::Name;
 use transcript_model::{Call, DreamUse, Entry};
 
-/// The lines of an entry, each with its line feed. Fails only where memory is wanting.
-pub fn entry_text(alloc: Global, entry: &Entry) -> Result<Vec<u8>, AllocError>
-    ensures { IfOk result (λ text. text.items ≡ text_of_entry entry.now) }
+/// Writes the lines of an entry, each with its line feed. No memory is taken.
+///
+/// # Errors
+/// `Failed` where the sink took no more, and only where its count of faults rose; the first bytes
+/// may have been written.
+pub fn put_entry<O: Sink>(out: &mut O, entry: &Entry) -> Result<(), SinkFault>
+    ensures told { Prints result (O.taken out.old) (O.taken out.new) (text_of_entry entry.now) }
+    ensures cause { HasCause Failed last_count (O.faults out.old) (O.faults out.new) result }
 {
-    let mut text = Vec::new(alloc);
     match entry {
-        Entry::Level => push_word(&mut text, b"level")?,
-        Entry::Ask { number, turn, call } => push_ask(alloc, &mut text, *number, *turn, call)?,
+        Entry::Level => put_word(out, b"level"),
+        Entry::Ask { number, turn, call } => put_ask(out, *number, *turn, call),
         Entry::Got {
             number,
             tuples,
             values,
-        } => push_got(alloc, &mut text, *number, *tuples, values.as_slice())?,
-        Entry::Value { number, value } => push_pair(
-            alloc,
-            &mut text,
-            b"value",
-            u64::from(*number),
-            u64::from(*value),
-        )?,
-        Entry::End { number } => push_numbered(alloc, &mut text, b"end", u64::from(*number))?,
-        Entry::Dream { uses, steps } => push_dream(
-            alloc,
-            &mut text,
-            uses.as_slice(),
-            steps.as_slice(),
-        )?,
-        Entry::Nothing => push_word(&mut text, b"none")?,
-        Entry::Reset => push_word(&mut text, b"reset")?,
-        Entry::Pick(number) => push_numbered(alloc, &mut text, b"pick", u64::from(*number))?,
-        Entry::Retire(number) => push_numbered(alloc, &mut text, b"retire", u64::from(*number))?,
+        } => put_got(out, *number, *tuples, values.as_slice()),
+        Entry::Value { number, value } => put_pair(out, b"value", *number, *value),
+        Entry::End { number } => put_numbered(out, b"end", *number),
+        Entry::Dream { uses, steps } => put_dream(out, uses.as_slice(), steps.as_slice()),
+        Entry::Nothing => put_word(out, b"none"),
+        Entry::Reset => put_word(out, b"reset"),
+        Entry::Pick(number) => put_numbered(out, b"pick", *number),
+        Entry::Retire(number) => put_numbered(out, b"retire", *number),
     }
-    Ok(text)
 }
 
 /// Writes a line of one word.
-fn push_word(text: &mut Vec<u8>, word: &[u8]) -> Result<(), AllocError>
-    ensures { OnOk result (text.new.items ≡ text.old.items ++ line_text (line word.now [])) }
+fn put_word<O: Sink>(out: &mut O, word: &[u8]) -> Result<(), SinkFault>
+    ensures told { Prints result (O.taken out.old) (O.taken out.new)
+        (line_text (line word.now [])) }
+    ensures cause { HasCause Failed last_count (O.faults out.old) (O.faults out.new) result }
 {
-    text.extend_from_slice(word)?;
-    text.push(b'\n')?;
-    Ok(())
+    put(out, word)?;
+    put(out, b"\n")
 }
 
 /// Writes a request.
-fn push_ask(
-    alloc: Global,
-    text: &mut Vec<u8>,
-    number: u32,
-    turn: u32,
-    call: &Call,
-) -> Result<(), AllocError>
-    ensures { OnOk result (text.new.items ≡ text.old.items
-        ++ line_text (line (codes "ask") (decimal number ∷ decimal turn ∷ call_fields call.now))) }
+fn put_ask<O: Sink>(out: &mut O, number: u32, turn: u32, call: &Call) -> Result<(), SinkFault>
+    ensures told { Prints result (O.taken out.old) (O.taken out.new)
+        (line_text (line (codes "ask") (decimal number ∷ decimal turn ∷ call_fields call.now))) }
+    ensures cause { HasCause Failed last_count (O.faults out.old) (O.faults out.new) result }
 {
-    text.extend_from_slice(b"ask")?;
-    push_number(alloc, text, u64::from(number))?;
-    push_number(alloc, text, u64::from(turn))?;
-    push_call(text, call)?;
-    text.push(b'\n')?;
-    Ok(())
+    put_begun(out, b"ask", number)?;
+    put_number(out, turn)?;
+    put_call(out, call)
 }
 
 /// Writes a yield.
-fn push_got(
-    alloc: Global,
-    text: &mut Vec<u8>,
-    number: u32,
-    tuples: u8,
-    values: &[Name],
-) -> Result<(), AllocError>
-    ensures { OnOk result (text.new.items ≡ text.old.items
-        ++ line_text (line (codes "got") (decimal number ∷ tuple_fields tuples values.now))) }
+fn put_got<O: Sink>(out: &mut O, number: u32, tuples: u8, values: &[Name]) -> Result<(), SinkFault>
+    ensures told { Prints result (O.taken out.old) (O.taken out.new)
+        (line_text (line (codes "got") (decimal number ∷ tuple_fields tuples values.now))) }
+    ensures cause { HasCause Failed last_count (O.faults out.old) (O.faults out.new) result }
 {
-    text.extend_from_slice(b"got")?;
-    push_number(alloc, text, u64::from(number))?;
-    push_tuples(text, tuples, values)?;
-    text.push(b'\n')?;
-    Ok(())
+    put_begun(out, b"got", number)?;
+    put_tuples(out, tuples, values)?;
+    put(out, b"\n")
 }
 
 /// Writes the values of so many tuples, with a bar between each two.
-#[tactic(auto, using(crate::proofs::TextsLemmas::tuples_step, crate::proofs::TextsLemmas::enough_first, lemmas::proofs::Numbers::enough_next, crate::proofs::TextsLemmas::assoc))]
-fn push_tuples(text: &mut Vec<u8>, tuples: u8, values: &[Name]) -> Result<(), AllocError>
-    ensures { OnOk result (text.new.items ≡ text.old.items
-        ++ fields_text (tuple_fields tuples values.now)) }
+fn put_tuples<O: Sink>(out: &mut O, tuples: u8, values: &[Name]) -> Result<(), SinkFault>
+    ensures told { Prints result (O.taken out.old) (O.taken out.new)
+        (fields_text (tuple_fields tuples values.now)) }
+    ensures cause { HasCause Failed last_count (O.faults out.old) (O.faults out.new) result }
 {
     if tuples < 2 {
-        return push_names(text, values);
+        return put_names(out, values);
     }
     let width = values.len() / usize::from(tuples);
     let mut rest = values;
     let mut bars = tuples - 1;
     while bars > 0 {
         let (tuple, after) = rest.split_at(width);
-        push_names(text, tuple)?;
-        push_field(text, b"|")?;
+        put_tuple(out, tuple)?;
         rest = after;
         bars -= 1;
     }
-    push_names(text, rest)
+    put_names(out, rest)
+}
+
+/// Writes the values of a tuple, and a bar.
+fn put_tuple<O: Sink>(out: &mut O, values: &[Name]) -> Result<(), SinkFault>
+    ensures told { Prints result (O.taken out.old) (O.taken out.new)
+        (fields_text values.now ++ 32 ∷ codes "|") }
+    ensures cause { HasCause Failed last_count (O.faults out.old) (O.faults out.new) result }
+{
+    put_names(out, values)?;
+    put_field(out, b"|")
 }
 
 /// Writes a dream.
-#[tactic(auto, using(crate::proofs::TextsLemmas::lines_joined, crate::proofs::TextsLemmas::assoc))]
-fn push_dream(
-    alloc: Global,
-    text: &mut Vec<u8>,
-    uses: &[DreamUse],
-    steps: &[Call],
-) -> Result<(), AllocError>
-    ensures { OnOk result (text.new.items ≡ text.old.items
-        ++ text_of_entry (entry.Dream uses.now steps.now)) }
+fn put_dream<O: Sink>(out: &mut O, uses: &[DreamUse], steps: &[Call]) -> Result<(), SinkFault>
+    ensures told { Prints result (O.taken out.old) (O.taken out.new)
+        (text_of_entry (entry.Dream uses.now steps.now)) }
+    ensures cause { HasCause Failed last_count (O.faults out.old) (O.faults out.new) result }
 {
-    push_pair(alloc, text, b"dream", uses.len() as u64, steps.len() as u64)?;
-    push_uses(alloc, text, uses)?;
-    push_calls(text, b"step", steps)?;
-    Ok(())
+    put_pair(out, b"dream", uses.len(), steps.len())?;
+    put_uses(out, uses)?;
+    put_calls(out, b"step", steps)
 }
 
 /// Writes the entries that a dream uses.
-#[tactic(auto, using(lemmas::proofs::Members::flat_map_map_next))]
-fn push_uses(alloc: Global, text: &mut Vec<u8>, uses: &[DreamUse]) -> Result<(), AllocError>
-    ensures { OnOk result (text.new.items ≡ text.old.items ++ lines_text (map use_line uses.now)) }
+fn put_uses<O: Sink>(out: &mut O, uses: &[DreamUse]) -> Result<(), SinkFault>
+    ensures told { Prints result (O.taken out.old) (O.taken out.new)
+        (lines_text (map use_line uses.now)) }
+    ensures cause { HasCause Failed last_count (O.faults out.old) (O.faults out.new) result }
 {
     for one in uses {
-        text.extend_from_slice(b"use")?;
-        push_number(alloc, text, u64::from(one.number))?;
-        push_call(text, &one.call)?;
-        text.push(b'\n')?;
+        put_use(out, one)?;
     }
     Ok(())
+}
+
+/// Writes an entry that a dream uses.
+fn put_use<O: Sink>(out: &mut O, one: &DreamUse) -> Result<(), SinkFault>
+    ensures told { Prints result (O.taken out.old) (O.taken out.new)
+        (line_text (use_line one.now)) }
+    ensures cause { HasCause Failed last_count (O.faults out.old) (O.faults out.new) result }
+{
+    put_begun(out, b"use", one.number)?;
+    put_call(out, &one.call)
 }

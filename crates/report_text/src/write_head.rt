@@ -1,70 +1,69 @@
 //! How the head of a report is written.
-ghost use Rattle.std.specs.Prelude.{◌≡◌, ◌<◌, [], ◌∷◌, ◌++◌, All, length, map, codes, IfOk, OnOk};
+ghost use Rattle.std.specs.Prelude.{◌≡◌, ◌<◌, ◌∷◌, [], All, length, map, codes};
 ghost use Rattle.std.specs.Fmt.{decimal};
-ghost use Rattle.report_text.specs.Texts.{line, line_text, lines_text, fields_text, mode_word, shown_pool, pool_line, text_of_head};
 ghost use Rattle.gen_lines.specs.Request.{stream_name};
+ghost use Rattle.io_world.specs.Faults.{last_count, HasCause};
+ghost use Rattle.io_world.specs.declared.sink.SinkFault.TheVariants.{Failed};
+ghost use Rattle.report_text.specs.Prints.{Prints};
+ghost use Rattle.report_text.specs.Texts.{fields_text, line, line_text, lines_text, mode_word, pool_line, shown_pool, text_of_head};
 
-use crate::lines::{push_field, push_number};
-use std::alloc::{AllocError, Global};
+use crate::lines::{put, put_begun, put_field, put_number};
+use io_world::{Sink, SinkFault};
 use task_model::Task;
 use transcript_model::{Head, Mode, Pool};
 
-/// The first lines of a report, each with its line feed: the version and the mode, the limits, and
-/// the pools. Fails only where memory is wanting.
-#[tactic(auto, using(crate::proofs::TextsLemmas::assoc))]
-pub fn head_text(alloc: Global, task: &Task, head: &Head) -> Result<Vec<u8>, AllocError>
+/// Writes the first lines of a report, each with its line feed: the version and the mode, the
+/// limits, and the pools. No memory is taken.
+///
+/// # Errors
+/// `Failed` where the sink took no more, and only where its count of faults rose; the first bytes
+/// may have been written.
+pub fn put_head<O: Sink>(out: &mut O, task: &Task, head: &Head) -> Result<(), SinkFault>
     requires { All (λ pool. All (λ stream. stream < length task.now.streams) pool.streams)
         head.now.pools }
-    ensures { IfOk result (λ text. text.items ≡ text_of_head task.now head.now) }
+    ensures told { Prints result (O.taken out.old) (O.taken out.new)
+        (text_of_head task.now head.now) }
+    ensures cause { HasCause Failed last_count (O.faults out.old) (O.faults out.new) result }
 {
-    let mut text = Vec::new(alloc);
-    push_first(alloc, &mut text, head.version, mode_bytes(head.mode))?;
-    push_limits(alloc, &mut text, head)?;
-    push_pools(alloc, &mut text, task, head.pools.as_slice())?;
-    Ok(text)
+    put_first(out, head.version, mode_bytes(head.mode))?;
+    put_limits(out, head)?;
+    put_pools(out, task, head.pools.as_slice())
 }
 
 /// Writes the version and the word of the mode.
-fn push_first(alloc: Global, text: &mut Vec<u8>, version: u8, mode: &[u8]) -> Result<(), AllocError>
-    ensures { OnOk result (text.new.items ≡ text.old.items
-        ++ line_text (line (codes "pddlstream") (decimal version ∷ mode.now ∷ []))) }
+fn put_first<O: Sink>(out: &mut O, version: u8, mode: &[u8]) -> Result<(), SinkFault>
+    ensures told { Prints result (O.taken out.old) (O.taken out.new)
+        (line_text (line (codes "pddlstream") (decimal version ∷ mode.now ∷ []))) }
+    ensures cause { HasCause Failed last_count (O.faults out.old) (O.faults out.new) result }
 {
-    text.extend_from_slice(b"pddlstream")?;
-    push_number(alloc, text, u64::from(version))?;
-    push_field(text, mode)?;
-    text.push(b'\n')?;
-    Ok(())
+    put_begun(out, b"pddlstream", version)?;
+    put_field(out, mode)?;
+    put(out, b"\n")
 }
 
 /// Writes the limits.
-fn push_limits(alloc: Global, text: &mut Vec<u8>, head: &Head) -> Result<(), AllocError>
-    ensures { OnOk result (text.new.items ≡ text.old.items
-        ++ line_text (line (codes "limits")
+fn put_limits<O: Sink>(out: &mut O, head: &Head) -> Result<(), SinkFault>
+    ensures told { Prints result (O.taken out.old) (O.taken out.new)
+        (line_text (line (codes "limits")
         (decimal head.now.calls ∷ decimal head.now.states ∷ decimal head.now.depth ∷ []))) }
+    ensures cause { HasCause Failed last_count (O.faults out.old) (O.faults out.new) result }
 {
-    text.extend_from_slice(b"limits")?;
-    push_number(alloc, text, u64::from(head.calls))?;
-    push_number(alloc, text, u64::from(head.states))?;
-    push_number(alloc, text, u64::from(head.depth))?;
-    text.push(b'\n')?;
-    Ok(())
+    put_begun(out, b"limits", head.calls)?;
+    put_number(out, head.states)?;
+    put_number(out, head.depth)?;
+    put(out, b"\n")
 }
 
 /// Writes the line of each pool.
-#[tactic(auto, using(crate::proofs::TextsLemmas::shown_next))]
-fn push_pools(
-    alloc: Global,
-    text: &mut Vec<u8>,
-    task: &Task,
-    pools: &[Pool],
-) -> Result<(), AllocError>
+fn put_pools<O: Sink>(out: &mut O, task: &Task, pools: &[Pool]) -> Result<(), SinkFault>
     requires { All (λ pool. All (λ stream. stream < length task.now.streams) pool.streams)
         pools.now }
-    ensures { OnOk result (text.new.items ≡ text.old.items
-        ++ lines_text (map pool_line (map (shown_pool task.now) pools.now))) }
+    ensures told { Prints result (O.taken out.old) (O.taken out.new)
+        (lines_text (map (λ pool. pool_line (shown_pool task.now pool)) pools.now)) }
+    ensures cause { HasCause Failed last_count (O.faults out.old) (O.faults out.new) result }
 {
     for pool in pools {
-        push_pool(alloc, text, task, pool)?;
+        put_pool(out, task, pool)?;
     }
     Ok(())
 }
@@ -82,37 +81,37 @@ fn mode_bytes(mode: Mode) -> &'static [u8]
 }
 
 /// Writes the line of a pool.
-fn push_pool(alloc: Global, text: &mut Vec<u8>, task: &Task, pool: &Pool) -> Result<(), AllocError>
+fn put_pool<O: Sink>(out: &mut O, task: &Task, pool: &Pool) -> Result<(), SinkFault>
     requires { All (λ stream. stream < length task.now.streams) pool.now.streams }
-    ensures { OnOk result (text.new.items ≡ text.old.items
-        ++ line_text (pool_line (shown_pool task.now pool.now))) }
+    ensures told { Prints result (O.taken out.old) (O.taken out.new)
+        (line_text (pool_line (shown_pool task.now pool.now))) }
+    ensures cause { HasCause Failed last_count (O.faults out.old) (O.faults out.new) result }
 {
-    text.extend_from_slice(b"pool")?;
-    push_number(alloc, text, u64::from(pool.workers))?;
-    push_streams(text, task, pool.streams.as_slice())?;
-    text.push(b'\n')?;
-    Ok(())
+    put_begun(out, b"pool", pool.workers)?;
+    put_streams(out, task, pool.streams.as_slice())?;
+    put(out, b"\n")
 }
 
 /// Writes the names of streams of a task, each with a space before it.
-#[tactic(auto, using(lemmas::proofs::Members::flat_map_map_next))]
-fn push_streams(text: &mut Vec<u8>, task: &Task, streams: &[u32]) -> Result<(), AllocError>
+fn put_streams<O: Sink>(out: &mut O, task: &Task, streams: &[u32]) -> Result<(), SinkFault>
     requires { All (λ stream. stream < length task.now.streams) streams.now }
-    ensures { OnOk result (text.new.items ≡ text.old.items
-        ++ fields_text (map (stream_name task.now) streams.now)) }
+    ensures told { Prints result (O.taken out.old) (O.taken out.new)
+        (fields_text (map (stream_name task.now) streams.now)) }
+    ensures cause { HasCause Failed last_count (O.faults out.old) (O.faults out.new) result }
 {
     for stream in streams {
-        push_stream(text, task, *stream)?;
+        put_stream(out, task, *stream)?;
     }
     Ok(())
 }
 
 /// Writes the name of a stream of a task, with a space before it.
-fn push_stream(text: &mut Vec<u8>, task: &Task, stream: u32) -> Result<(), AllocError>
+fn put_stream<O: Sink>(out: &mut O, task: &Task, stream: u32) -> Result<(), SinkFault>
     requires { stream < length task.now.streams }
-    ensures { OnOk result (text.new.items ≡ text.old.items ++ 32 ∷ stream_name task.now stream) }
+    ensures told { Prints result (O.taken out.old) (O.taken out.new)
+        (32 ∷ stream_name task.now stream) }
+    ensures cause { HasCause Failed last_count (O.faults out.old) (O.faults out.new) result }
 {
     let found = &task.streams.as_slice()[stream as usize];
-    push_field(text, found.name.bytes())?;
-    Ok(())
+    put_field(out, found.name.bytes())
 }

@@ -1,28 +1,34 @@
 //! How what came of a run is written.
-ghost use Rattle.std.specs.Prelude.{◌≡◌, [], ◌++◌, map, IfOk, OnOk};
-ghost use Rattle.report_text.specs.Texts.{line_text, lines_text, from_line, text_of_outcome};
+ghost use Rattle.std.specs.Prelude.{◌≡◌, ◌==◌, ◌∷◌, [], ◌++◌, codes, if◌then◌else◌, length, map};
+ghost use Rattle.std.specs.Fmt.{decimal};
+ghost use Rattle.io_world.specs.Faults.{last_count, HasCause};
+ghost use Rattle.io_world.specs.declared.sink.SinkFault.TheVariants.{Failed};
+ghost use Rattle.report_text.specs.Prints.{Prints};
+ghost use Rattle.report_text.specs.Texts.{do_line, fields_text, from_line, line, line_text, lines_text, text_of_outcome};
 ghost use Rattle.transcript_model.specs.declared.outcome.Outcome.TheVariants as outcome;
 
-use crate::lines::{push_calls, push_field, push_number, push_numbered};
-use std::alloc::{AllocError, Global};
+use crate::lines::{put, put_calls, put_field, put_number, put_numbered};
+use io_world::{Sink, SinkFault};
 use transcript_model::{Call, LimitKind, Origin, Outcome};
 
-/// The lines of an outcome, each with its line feed, as this version of reports has them: version 1
-/// does not show the tuple of an origin. Fails only where memory is wanting.
-#[tactic(auto, using(crate::proofs::TextsLemmas::lines_joined, crate::proofs::TextsLemmas::assoc))]
-pub fn outcome_text(alloc: Global, outcome: &Outcome, version: u8) -> Result<Vec<u8>, AllocError>
-    ensures { IfOk result (λ text. text.items ≡ text_of_outcome version outcome.now) }
+/// Writes the lines of an outcome, each with its line feed, as this version of reports has them:
+/// version 1 does not show the tuple of an origin. No memory is taken.
+///
+/// # Errors
+/// `Failed` where the sink took no more, and only where its count of faults rose; the first bytes
+/// may have been written.
+pub fn put_outcome<O: Sink>(out: &mut O, outcome: &Outcome, version: u8) -> Result<(), SinkFault>
+    ensures told { Prints result (O.taken out.old) (O.taken out.new)
+        (text_of_outcome version outcome.now) }
+    ensures cause { HasCause Failed last_count (O.faults out.old) (O.faults out.new) result }
 {
-    let mut text = Vec::new(alloc);
     match outcome {
         Outcome::Plan { steps, cost, from } => {
-            push_plan(alloc, &mut text, steps.as_slice(), *cost)?;
-            push_origins(alloc, &mut text, from.as_slice(), version)?;
+            put_plan(out, steps.as_slice(), *cost, from.as_slice(), version)
         }
-        Outcome::NoPlan => text.extend_from_slice(b"no plan\n")?,
-        Outcome::Limit(kind) => text.extend_from_slice(limit_line(*kind))?,
+        Outcome::NoPlan => put(out, b"no plan\n"),
+        Outcome::Limit(kind) => put(out, limit_line(*kind)),
     }
-    Ok(text)
 }
 
 /// The line of a limit.
@@ -36,51 +42,76 @@ fn limit_line(kind: LimitKind) -> &'static [u8]
     }
 }
 
-/// Writes the steps of a plan and its cost.
-#[tactic(auto, using(crate::proofs::TextsLemmas::lines_joined, crate::proofs::TextsLemmas::assoc))]
-fn push_plan(alloc: Global, text: &mut Vec<u8>, steps: &[Call], cost: u64) -> Result<(), AllocError>
-    ensures { OnOk result (text.new.items ≡ text.old.items
-        ++ text_of_outcome 1 (outcome.Plan steps.now cost [])) }
+/// Writes a plan: its steps, its cost, and where the objects came from.
+fn put_plan<O: Sink>(
+    out: &mut O,
+    steps: &[Call],
+    cost: u64,
+    from: &[Origin],
+    version: u8,
+) -> Result<(), SinkFault>
+    ensures told { Prints result (O.taken out.old) (O.taken out.new)
+        (text_of_outcome version (outcome.Plan steps.now cost from.now)) }
+    ensures cause { HasCause Failed last_count (O.faults out.old) (O.faults out.new) result }
 {
-    push_numbered(alloc, text, b"plan", steps.len() as u64)?;
-    push_calls(text, b"do", steps)?;
-    push_numbered(alloc, text, b"cost", cost)?;
-    Ok(())
+    put_steps(out, steps)?;
+    put_numbered(out, b"cost", cost)?;
+    put_origins(out, from, version)
+}
+
+/// Writes how many steps a plan has, and the steps.
+fn put_steps<O: Sink>(out: &mut O, steps: &[Call]) -> Result<(), SinkFault>
+    ensures told { Prints result (O.taken out.old) (O.taken out.new)
+        (lines_text (line (codes "plan") (decimal (length steps.now) ∷ [])
+        ∷ map do_line steps.now)) }
+    ensures cause { HasCause Failed last_count (O.faults out.old) (O.faults out.new) result }
+{
+    put_numbered(out, b"plan", steps.len())?;
+    put_calls(out, b"do", steps)
 }
 
 /// Writes where the objects came from.
-#[tactic(auto, using(lemmas::proofs::Members::flat_map_map_next))]
-fn push_origins(
-    alloc: Global,
-    text: &mut Vec<u8>,
-    from: &[Origin],
-    version: u8,
-) -> Result<(), AllocError>
-    ensures { OnOk result (text.new.items ≡ text.old.items
-        ++ lines_text (map (from_line version) from.now)) }
+fn put_origins<O: Sink>(out: &mut O, from: &[Origin], version: u8) -> Result<(), SinkFault>
+    ensures told { Prints result (O.taken out.old) (O.taken out.new)
+        (lines_text (map (from_line version) from.now)) }
+    ensures cause { HasCause Failed last_count (O.faults out.old) (O.faults out.new) result }
 {
     for origin in from {
-        push_origin(alloc, text, origin, version)?;
+        put_origin(out, origin, version)?;
     }
     Ok(())
 }
 
 /// Writes where an object came from.
-fn push_origin(
-    alloc: Global,
-    text: &mut Vec<u8>,
-    origin: &Origin,
-    version: u8,
-) -> Result<(), AllocError>
-    ensures { OnOk result (text.new.items ≡ text.old.items
-        ++ line_text (from_line version origin.now)) }
+fn put_origin<O: Sink>(out: &mut O, origin: &Origin, version: u8) -> Result<(), SinkFault>
+    ensures told { Prints result (O.taken out.old) (O.taken out.new)
+        (line_text (from_line version origin.now)) }
+    ensures cause { HasCause Failed last_count (O.faults out.old) (O.faults out.new) result }
 {
-    text.extend_from_slice(b"from")?;
-    push_field(text, origin.object.bytes())?;
-    push_number(alloc, text, u64::from(origin.number))?;
-    if version != 1 {
-        push_number(alloc, text, u64::from(origin.tuple))?;
+    put_named(out, origin)?;
+    put_tuple_number(out, origin.tuple, version)
+}
+
+/// Begins the line of an object: its name, and the number of the request that it came from.
+fn put_named<O: Sink>(out: &mut O, origin: &Origin) -> Result<(), SinkFault>
+    ensures told { Prints result (O.taken out.old) (O.taken out.new)
+        ((codes "from" ++ 32 ∷ origin.now.object) ++ 32 ∷ decimal origin.now.number) }
+    ensures cause { HasCause Failed last_count (O.faults out.old) (O.faults out.new) result }
+{
+    put(out, b"from")?;
+    put_field(out, origin.object.bytes())?;
+    put_number(out, origin.number)
+}
+
+/// Ends the line of an object, in version 1 without the number of its tuple.
+fn put_tuple_number<O: Sink>(out: &mut O, tuple: u8, version: u8) -> Result<(), SinkFault>
+    ensures told { Prints result (O.taken out.old) (O.taken out.new)
+        (fields_text (if version == 1 then [] else decimal tuple ∷ []) ++ 10 ∷ []) }
+    ensures cause { HasCause Failed last_count (O.faults out.old) (O.faults out.new) result }
+{
+    if version == 1 {
+        return put(out, b"\n");
     }
-    text.push(b'\n')?;
-    Ok(())
+    put_number(out, tuple)?;
+    put(out, b"\n")
 }

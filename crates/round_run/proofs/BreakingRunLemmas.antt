@@ -3,21 +3,19 @@ use Rattle.std.proofs.Common.{◌≡◌, true, ℕ, zero, suc, ◌+◌, ◌<◌,
 use Rattle.std.proofs.lemmas.List.{append-nil, append_cancel_left}
 use Rattle.io_world.specs.Faults.{Extends}
 use Rattle.io_world.specs.Talks.{Event, started}
-use Rattle.session_core.proofs.SessionLemmas.{count_joined}
 use Rattle.task_model.specs.declared.task.Task.{Task}
-use Rattle.transcript_model.specs.Legal.{HasNoneOpen, IsLegal, asks_of, is_ask, is_mark}
+use Rattle.transcript_model.specs.Legal.{HasNoneOpen, IsLegal, asks_of, is_mark}
 use Rattle.transcript_model.specs.declared.entry.Entry.{Entry}
 use Rattle.transcript_model.specs.declared.entry.Entry.TheVariants as entry
 use Rattle.transcript_model.specs.declared.head.Head.{Head}
 use Rattle.transcript_model.specs.declared.head.Pool.{Pool}
 use Rattle.transcript_model.proofs.LegalStepLemmas.{mark_no_ask}
 use Rattle.round_run.proofs.BreakingLemmas.{breaks_join, breaks_wider, tells_map, tells_of}
-use Rattle.round_run.proofs.CallsRunLemmas.{unasked}
 use Rattle.round_run.proofs.DialogueMarkLemmas.{asks_behind, follows_marked, mark_waits}
 use Rattle.std.proofs.lemmas.List.Elements.{All-append}
 use Rattle.io_world.proofs.TalksLemmas.{extends_more}
 use Rattle.round_run.specs.Breaking.{Breaks, LogBreaks, LogBroken, RunBreaks, Tells, Underway, Unstarted, WereStarts, starts_after}
-use Rattle.round_run.specs.Calls.{Follows, IsStop, LogRuns, LogStartsPart, LogStops, Runs, starts_before, starts_of}
+use Rattle.round_run.specs.Calls.{Follows, IsStop, LogStartsPart, LogStops, starts_before, starts_of}
 use Rattle.round_run.specs.Dialogue.{workers_in}
 use Rattle.round_run.specs.declared.fault.RunFault.{RunFault}
 use Rattle.round_run.specs.declared.fault.RunFault.TheVariants.{Write}
@@ -34,7 +32,7 @@ pub some_after : (pools : List Pool) (asked : ℕ) → 0 < asked → starts_afte
 some_after pools zero some = absurd (omega (arith, some))
 some_after pools (suc asked) some = refl
 
-none_after : (pools : List Pool) (asked : ℕ) → asked ≡ 0
+pub none_after : (pools : List Pool) (asked : ℕ) → asked ≡ 0
     → starts_after pools asked ≡ starts_of pools
 none_after pools zero none = refl
 none_after pools (suc asked) none = absurd (omega (arith, none))
@@ -211,88 +209,6 @@ marked_breaks task head Front e mark before mid front fault old new marked pushe
             starts u.breaks);
       }),
     )
-
--- whole levels stand before
-pub levels_broken : (task : Task) (head : Head) (Front : List Entry → Type 0) (a front : List Entry) (fault : RunFault)
-    (old mid new : Option (List Event))
-    → Runs task head [] a old mid → a ≡ front → (more : List Entry) → RunBreaks task head a fault mid new Front more
-    → RunBreaks task head [] fault old new Front (front ++ more)
-levels_broken task head Front a front fault old mid new runs pushed more broken =
-    by mid new (subst (λ es. LogRuns task head [] es old mid) (sym runs.pushed ∙ pushed) runs.log)
-    (subst (λ es. RunBreaks task head es fault mid new Front more) pushed broken)
-  where
-    all : asks_of (front ++ more) ≡ asks_of front + asks_of more
-    all = count_joined is_ask front more
-
-    by : (middle log : Option (List Event)) → LogRuns task head [] front old middle
-        → RunBreaks task head front fault middle log Front more
-        → RunBreaks task head [] fault old log Front (front ++ more)
-    by middle None f x = tt
-    by None (Some after) f (reached, events, was, came, x) = absurd (cc)
-    by (Some now) (Some after) (past, es, was, came, follows) (reached, events, told, grown, x) =
-        let both : now ≡ reached = cc in
-        of (asks_of front) refl follows (sym both ∙ came) x
-      where
-        of : (n : ℕ) → asks_of front ≡ n
-            → Follows task (workers_in head) (past ++ starts_before head.pools 0 n) [] front es
-            → reached ≡ past ++ starts_before head.pools 0 n ++ es
-            → Unstarted head front more fault events ⊎ Underway task head reached front more fault events Front
-            → RunBreaks task head [] fault old (Some after) Front (front ++ more)
-        of zero n f here (inl u) =
-            let quiet = unasked task (workers_in head) (past ++ []) [] front es refl n f in
-            let still : reached ≡ past = here ∙ ap (λ xs. past ++ [] ++ xs) quiet.0 ∙ append-nil (past ++ []) ∙ append-nil past in (
-              past,
-              events,
-              was,
-              grown ∙ ap (λ xs. xs ++ events) still,
-              inl (record { first = refl; none = omega (arith, all, n, u.none); were = u.were }),
-            )
-        of (suc k) n f here (inl u) = absurd (omega (arith, n, u.first))
-        of zero n f here (inr u) =
-            let quiet = unasked task (workers_in head) (past ++ []) [] front es refl n f in
-            let still : reached ≡ past = here ∙ ap (λ xs. past ++ [] ++ xs) quiet.0 ∙ append-nil (past ++ []) ∙ append-nil past in
-            let starts : starts_after head.pools (asks_of front) ≡ starts_of head.pools = none_after head.pools (asks_of front) n in
-            let front_b = subst (λ xs. Breaks task head.version (workers_in head) (reached ++ xs) front more fault u.later Front)
-            starts u.breaks in
-            let here_b =
-            subst (λ p. Breaks task head.version (workers_in head) (p ++ starts_of head.pools) front more fault u.later Front)
-            still front_b in (
-              past,
-              events,
-              was,
-              grown ∙ ap (λ xs. xs ++ events) still,
-              inr (record {
-                later = u.later;
-                cut = u.cut ∙ ap (λ xs. xs ++ u.later) starts;
-                needed = u.needed;
-                breaks = breaks_join task head.version (workers_in head) Front
-                    (past ++ starts_of head.pools) [] front more [] u.later fault
-                    (quiet.1 (past ++ starts_of head.pools))
-                    (subst (λ p. Breaks task head.version (workers_in head) p front more fault u.later Front)
-                    (sym (append-nil (past ++ starts_of head.pools))) here_b);
-              }),
-            )
-        of (suc k) n f here (inr u) =
-            let none : starts_after head.pools (asks_of front) ≡ [] = some_after head.pools (asks_of front) (omega (arith, n)) in
-            let events_are : events ≡ u.later = u.cut ∙ ap (λ xs. xs ++ u.later) none in
-            let front_b = subst (λ xs. Breaks task head.version (workers_in head) (reached ++ xs) front more fault u.later Front)
-            none u.breaks in
-            let here_b =
-            subst (λ p. Breaks task head.version (workers_in head) p front more fault u.later Front)
-            (append-nil reached ∙ here) front_b in (
-              past,
-              starts_of head.pools ++ (es ++ u.later),
-              was,
-              grown ∙ ap (λ xs. xs ++ events) here ∙ ap (λ xs. past ++ starts_of head.pools ++ es ++ xs) events_are
-                  ∙ append_assoc (past ++ starts_of head.pools) es u.later ∙ append_assoc past (starts_of head.pools) (es ++ u.later),
-              inr (record {
-                later = es ++ u.later;
-                cut = refl;
-                needed = u.needed;
-                breaks = breaks_join task head.version (workers_in head) Front
-                    (past ++ starts_of head.pools) [] front more es u.later fault f here_b;
-              }),
-            )
 
 -- the front of one is the front of another
 pub run_breaks_as : (task : Task) (head : Head) (Other Front : List Entry → Type 0)

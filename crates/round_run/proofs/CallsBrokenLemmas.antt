@@ -10,10 +10,10 @@ use Rattle.transcript_model.specs.Rounds.{IsRound}
 use Rattle.transcript_model.specs.declared.entry.Entry.{Entry}
 use Rattle.round_run.proofs.BreakingLemmas.{breaks_hearing, breaks_writing}
 use Rattle.round_run.proofs.CallsRoundLemmas.{sent_next}
-use Rattle.round_run.proofs.TalkingRoundLemmas.{front_each, next_front, next_legal, replies_heard, request_at, requests_heard, round_asks, round_replies, talks_at_heard}
-use Rattle.round_run.proofs.TalkingHeardLemmas.{next_is}
+use Rattle.round_run.proofs.TalkingRoundLemmas.{next_front, next_legal, request_at, talks_at_heard}
+use Rattle.round_run.proofs.TalkingHeardLemmas.{next_asked}
 use Rattle.round_run.specs.Breaking.{LogBreaks, LogHears}
-use Rattle.round_run.specs.Dialogue.{replies_of, requests_of, text_of_request}
+use Rattle.round_run.specs.Dialogue.{text_of_request}
 use Rattle.round_run.specs.Rolling.{IsFrontPart, IsHostFault, IsRolling, finished}
 use Rattle.round_run.specs.Stops.{MayHear, MayListen}
 use Rattle.round_run.specs.Talking.{IsTalking}
@@ -39,17 +39,6 @@ module _ (task : Task) (s : State) (place : ℕ) (kept : ℕ → List ℕ) (spok
 module _ (task : Task) (s : State) (running : ℕ → Bool) (place : ℕ) (rolling : IsRolling s running (length s.slots) place)
     (within : place < length s.slots) (t : Slot) (at : slice_get s.slots place ≡ Some t) (kept : ℕ → List ℕ) (old : ℕ → Option Talk)
     (h : IsSession task s) (k : IsTalking task s (length s.slots) place kept old) where
-  next_asked : slice_get (requests_of task s.pools (s.entries ++ s.asks ++ take place (finished s.slots)))
-      (length (replies_of (s.entries ++ s.asks ++ take place (finished s.slots))))
-      ≡ Some (request_at task s place kept old old t at k.slots).0
-  next_asked =
-      let asks = round_asks task s rolling.begun h in
-      let each = front_each (finished s.slots) place (round_replies task s rolling.begun h) in
-      let q = request_at task s place kept old old t at k.slots in
-      (λ i. slice_get (requests_heard task s.pools s.entries s.asks k.closed asks (take place (finished s.slots)) each i)
-      (length (replies_heard task s.pools s.entries s.asks k.closed asks (take place (finished s.slots)) each i)))
-      ∙ next_is task s running place rolling within t at (requests_of task s.pools s.entries) (replies_of s.entries) q.0 k.even q.1
-
   -- no answer was taken
   pub heard_off : (Front : List Entry → Type 0) (child : ℕ) (fault : RunFault) (was now : Option (List Event)) → MayListen fault
       → child ≡ t.child → Spells was child (old child)
@@ -58,6 +47,7 @@ module _ (task : Task) (s : State) (running : ℕ → Bool) (place : ℕ) (rolli
   heard_off Front child fault was now may own spells log =
       let r = request_at task s place kept old old t at k.slots in
       let same = own ∙ r.2.child in
-      breaks_hearing task s.version s.pools Front (s.entries ++ s.asks ++ take place (finished s.slots)) r.0 next_asked r.2.one kept old
+      breaks_hearing task s.version s.pools Front (s.entries ++ s.asks ++ take place (finished s.slots)) r.0
+      (next_asked task s running place rolling within t at kept old h k) r.2.one kept old
       (talks_at_heard task s place kept old rolling.begun h k) was now
       (subst (λ c. Spells was c (old c)) same spells) fault may (subst (λ c. LogHears c (kept c) fault was now) same log)

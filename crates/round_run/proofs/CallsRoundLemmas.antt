@@ -23,7 +23,7 @@ use Rattle.round_run.proofs.CallsLemmas.{answer_calls, ask_calls, calls_then, lo
 use Rattle.round_run.proofs.DialogueRequestLemmas.{AreAsks, AreReplies}
 use Rattle.round_run.proofs.DialogueLemmas.{all_lines, count_own}
 use Rattle.round_run.proofs.TalkingRoundLemmas.{front_each, replies_heard, request_at, requests_heard, requests_sent, round_asks, round_replies, talks_at_heard}
-use Rattle.round_run.proofs.TalkingHeardLemmas.{next_is}
+use Rattle.round_run.proofs.TalkingHeardLemmas.{next_asked}
 use Rattle.instance_queue.specs.declared.due.Due.{Due}
 use Rattle.round_run.specs.Calls.{Calls, LogFollows, LogReads, lines_read}
 use Rattle.round_run.specs.Dialogue.{IsOneOf, Request, count_to, replies_of, requests_of, text_of_request}
@@ -90,16 +90,13 @@ told_talk {task} {version} {rs} {replies} {child} {kept} talk events is told =
     subst (λ o. IfSome o (IsTalk task version rs replies child kept)) is told
 
 module _ (task : Task) (version : ℕ) (pools : List Workers) (rs : List Request) (replies : List Entry)
-    (r : Request) (next : slice_get rs (length replies) ≡ Some r) (kept left : List ℕ) (past events : List Event) where
-  answered : ℕ
-  answered = count_to r.child (take (length replies) rs)
-
+    (r : Request) (next : slice_get rs (length replies) ≡ Some r) (kept left : List ℕ) (past : List Event) where
   -- while the bytes kept and those that came make no line, no more lines were read than were taken
-  pub reads_quiet : IsTalk task version rs replies r.child kept (spelled r.child silence past)
+  pub reads_quiet : (events : List Event) → IsTalk task version rs replies r.child kept (spelled r.child silence past)
       → All (IsGiven r.child) events
       → lines_of (kept ++ (spelled r.child silence events).heard) ≡ []
       → lines_read r.child (past ++ events) ≤ count_to r.child (take (length replies) rs)
-  reads_quiet t each none =
+  reads_quiet events t each none =
       let piece = (spelled r.child silence events).heard in
       let spells : spelled r.child silence (past ++ events) ≡ heard_more piece (spelled r.child silence past) =
       spelled_join r.child silence past events ∙ spelled_reads r.child (spelled r.child silence past) events each in
@@ -109,25 +106,17 @@ module _ (task : Task) (version : ℕ) (pools : List Workers) (rs : List Request
       ap (λ (x : Talk). length (lines_of x.heard)) spells ∙ ap length lines in
       omega (arith, count, length-append t.taken (lines_of (kept ++ piece)), ap length none, t.many)
 
-  pub reads_early : IsTalk task version rs replies r.child kept (spelled r.child silence past)
+  pub reads_early : (events : List Event) → IsTalk task version rs replies r.child kept (spelled r.child silence past)
       → All (IsGiven r.child) events
       → ((k : ℕ) → k < length events → lines_of (kept ++ (spelled r.child silence (take k events)).heard) ≡ []) → (k : ℕ)
       → k < length events → lines_read r.child (past ++ take k events) ≤ count_to r.child (take (length replies) rs)
-  reads_early t each early k below =
-      let piece = (spelled r.child silence (take k events)).heard in
-      let spells : spelled r.child silence (past ++ take k events) ≡ heard_more piece (spelled r.child silence past) =
-      spelled_join r.child silence past (take k events)
-      ∙ spelled_reads r.child (spelled r.child silence past) (take k events) (All-take (IsGiven r.child) k events each) in
-      let lines : lines_of ((spelled r.child silence past).heard ++ piece) ≡ t.taken ++ lines_of (kept ++ piece) =
-      (whole (spelled r.child silence past).heard t.taken kept t.cut).lines piece in
-      let count : lines_read r.child (past ++ take k events) ≡ length (t.taken ++ lines_of (kept ++ piece)) =
-      ap (λ (x : Talk). length (lines_of x.heard)) spells ∙ ap length lines in
-      omega (arith, count, length-append t.taken (lines_of (kept ++ piece)), ap length (early k below), t.many)
+  reads_early events t each early k below =
+      reads_quiet (take k events) t (All-take (IsGiven r.child) k events each) (early k below)
 
-  reads_line : (e : Entry)
+  reads_line : (events : List Event) (e : Entry)
       → IsTalk task version rs (replies ++ e ∷ []) r.child left (spelled r.child silence (past ++ events))
       → count_to r.child (take (length replies) rs) < lines_read r.child (past ++ events)
-  reads_line e t =
+  reads_line events e t =
       let longer : length (replies ++ e ∷ []) ≡ length replies + 1 = length-append replies (e ∷ []) in
       let one : count_to r.child (take (length (replies ++ e ∷ [])) rs) ≡ count_to r.child (take (length replies) rs) + 1 =
       ap (λ n. count_to r.child (take n rs)) longer ∙ ap (count_to r.child) (next_taken rs (length replies) r next)
@@ -243,10 +232,7 @@ module _ (task : Task) (s : State) (running : ℕ → Bool) (place : ℕ) (rolli
       each_new = round_replies task new open_new h_new
 
       next : slice_get (requests_of task s.pools before) (length (replies_of before)) ≡ Some r.0
-      next =
-          (λ i. slice_get (requests_heard task s.pools s.entries s.asks k.closed asks (take place (finished s.slots)) each i)
-          (length (replies_heard task s.pools s.entries s.asks k.closed asks (take place (finished s.slots)) each i)))
-          ∙ next_is task s running place rolling within t at (requests_of task s.pools s.entries) (replies_of s.entries) r.0 k.even r.1
+      next = next_asked task s running place rolling within t at kept old h k
 
       talks : Talks task s.version s.pools (requests_of task s.pools before) (replies_of before) kept old
       talks = talks_at_heard task s place kept old rolling.begun h k

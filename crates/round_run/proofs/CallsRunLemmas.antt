@@ -21,7 +21,6 @@ use Rattle.transcript_model.specs.declared.head.Head.{Head}
 use Rattle.transcript_model.specs.declared.head.Pool.{Pool}
 use Rattle.pools.specs.Pools.{Workers}
 use Rattle.transcript_model.proofs.LegalStepLemmas.{mark_no_ask}
-use Rattle.round_run.proofs.CallsLemmas.{follows_join}
 use Rattle.round_run.proofs.DialogueMarkLemmas.{asks_behind, calls_marked}
 use Rattle.round_run.proofs.StartsLemmas.{starts_cut, starts_more}
 use Rattle.round_run.proofs.TalkingLemmas.{none_asked}
@@ -100,12 +99,6 @@ child_refused pools child pool fault old mid new below found before (cause, is, 
 pub starts_idle : (pools : List Pool) (before : ℕ) → starts_before pools before 0 ≡ []
 starts_idle pools zero = refl
 starts_idle pools (suc before) = refl
-
-pub starts_at_once : (pools : List Pool) (before more : ℕ) → before ≡ 0 → 0 < more
-    → starts_before pools before more ≡ starts_of pools
-starts_at_once pools zero zero none some = absurd (omega (arith, some))
-starts_at_once pools zero (suc more) none some = refl
-starts_at_once pools (suc before) more none some = absurd (omega (arith, none))
 
 pub starts_first : (pools : List Pool) (before more : ℕ) → before ≡ 0 → 0 < more
     → starts_before pools before more ≡ starts_of pools
@@ -212,36 +205,30 @@ runs_marked task head e mark before mid after old new marked runs = record {
           ),
         )
 
+-- no entry came
+pub runs_still : (task : Task) (head : Head) (before : List Entry) (log : Option (List Event))
+    → Runs task head before before log log
+runs_still task head before log = record { more = []; pushed = sym (append-nil before); log = by log }
+  where
+    still : (es : List Event) → es ≡ es ++ starts_before head.pools (asks_of before) 0 ++ []
+    still es = sym (ap (λ xs. es ++ xs ++ []) (starts_idle head.pools (asks_of before)) ∙ append-nil (es ++ []) ∙ append-nil es)
+
+    by : (o : Option (List Event)) → LogRuns task head before [] o o
+    by None = tt
+    by (Some events) = (events, [], refl, still events, refl)
+
 -- a mark alone
 pub runs_mark : (task : Task) (head : Head) (e : Entry) → is_mark e ≡ true → (before after : List Entry)
     (log : Option (List Event))
     → after ≡ before ++ e ∷ [] → Runs task head before after log log
 runs_mark task head e mark before after log marked =
-    runs_marked task head e mark before after after log log marked (record {
-      more = [];
-      pushed = sym (append-nil after);
-      log = by log;
-    })
-  where
-    by : (o : Option (List Event)) → LogRuns task head after [] o o
-    by None = tt
-    by (Some events) = (events, [], refl, still events, refl)
-      where
-        still : (es : List Event) → es ≡ es ++ starts_before head.pools (asks_of after) 0 ++ []
-        still es = sym (ap (λ xs. es ++ xs ++ []) (starts_idle head.pools (asks_of after)) ∙ append-nil (es ++ []) ∙ append-nil es)
+    runs_marked task head e mark before after after log log marked (runs_still task head after log)
 
--- ---- levels, one after another
-
+-- the empty transcript
 pub runs_none : (task : Task) (head : Head) (before : List Entry) (log : Option (List Event))
     → before ≡ []
     → Runs task head [] before log log
-runs_none task head before log is =
-    record { more = before; pushed = refl; log = subst (λ es. LogRuns task head [] es log log) (sym is) (by log) }
-  where
-    by : (o : Option (List Event)) → LogRuns task head [] [] o o
-    by None = tt
-    by (Some events) =
-        (events, [], refl, sym (append-nil events) ∙ sym (append-nil (events ++ [])), refl)
+runs_none task head before log is = subst (λ es. Runs task head [] es log log) (sym is) (runs_still task head [] log)
 
 -- entries without a request need no call
 pub unasked : (task : Task) (pools : List Workers) (past : List Event) (before es : List Entry) (events : List Event)
@@ -292,76 +279,3 @@ stops_more child answer old mid new (stops, each, grows) log = (
   All-append IsStop stops (stopped child answer ∷ []) each (all_one IsStop (stopped child answer) tt),
   extends_more old mid new stops (stopped child answer ∷ []) grows log,
 )
-
--- two batches, one after the other
-pub runs_then : (task : Task) (head : Head) (a b : List Entry) (old mid new : Option (List Event))
-    → Runs task head [] a old mid
-    → Runs task head a b mid new → Runs task head [] b old new
-runs_then task head a b old mid new first second = record {
-  more = first.more ++ second.more;
-  pushed = second.pushed ∙ ap (λ es. es ++ second.more) first.pushed;
-  log = by mid new first.log (subst (λ es. LogRuns task head es second.more mid new) first.pushed second.log);
-}
-  where
-    pools : List Pool
-    pools = head.pools
-
-    many : asks_of (first.more ++ second.more) ≡ asks_of first.more + asks_of second.more
-    many = count_joined is_ask first.more second.more
-
-    -- the first request comes in the second
-    later : (past es fs : List Event) (n : ℕ) → asks_of first.more ≡ n → n ≡ 0
-        → Follows task (workers_in head) (past ++ starts_before pools 0 n) [] first.more es
-        → Follows task (workers_in head) ((past ++ starts_before pools 0 n) ++ es ++ starts_before pools n (asks_of second.more)) first.more
-        second.more fs
-        → Follows task (workers_in head) (past ++ starts_before pools 0 (asks_of (first.more ++ second.more))) []
-        (first.more ++ second.more) fs
-        × ((past ++ starts_before pools 0 n) ++ es ++ starts_before pools n (asks_of second.more) ++ fs
-        ≡ past ++ starts_before pools 0 (asks_of (first.more ++ second.more)) ++ fs)
-    later past es fs (suc n) is none begins goes = absurd (omega (arith, none))
-    later past es fs zero is none begins goes =
-        let quiet = unasked task (workers_in head) (past ++ []) [] first.more es refl is begins in
-        let total : asks_of second.more ≡ asks_of (first.more ++ second.more) = omega (arith, many, is) in
-        let start = starts_before pools 0 (asks_of (first.more ++ second.more)) in
-        let front : (past ++ []) ++ es ++ starts_before pools 0 (asks_of second.more) ≡ past ++ start =
-        (λ i. ((append-nil past i) ++ quiet.0 i) ++ starts_before pools 0 (total i)) ∙ ap (λ xs. xs ++ start) (append-nil past) in (
-          follows_join task (workers_in head) (past ++ start) [] first.more second.more [] fs (quiet.1 (past ++ start))
-              (subst (λ xs. Follows task (workers_in head) xs first.more second.more fs) (front ∙ sym (append-nil (past ++ start))) goes),
-          ap (λ xs. xs ++ fs) front,
-        )
-
-    by : (middle log : Option (List Event)) → LogRuns task head [] first.more old middle
-        → LogRuns task head first.more second.more middle log → LogRuns task head [] (first.more ++ second.more) old log
-    by middle None f s = tt
-    by None (Some after) f (reached, fs, was, came, goes) = absurd (cc)
-    by (Some now) (Some after) (past, es, was, came, begins) (reached, fs, told, grown, goes) =
-        let same : now ≡ reached = cc in
-        let here : reached ≡ past ++ starts_before pools 0 (asks_of first.more) ++ es = sym same ∙ came in
-        let goes_here =
-        subst (λ xs. Follows task (workers_in head)
-        (xs ++ starts_before pools (asks_of first.more) (asks_of second.more)) first.more second.more fs) here goes in
-        let grown_here = grown ∙ ap (λ xs. xs ++ starts_before pools (asks_of first.more) (asks_of second.more) ++ fs) here in
-        of (asks_of first.more) refl begins goes_here grown_here
-      where
-        of : (n : ℕ) → asks_of first.more ≡ n
-            → Follows task (workers_in head) (past ++ starts_before pools 0 n) [] first.more es
-            → Follows task (workers_in head) (past ++ starts_before pools 0 n ++ es ++ starts_before pools n (asks_of second.more))
-            first.more second.more fs
-            → after ≡ past ++ starts_before pools 0 n ++ es ++ starts_before pools n (asks_of second.more) ++ fs
-            → LogRuns task head [] (first.more ++ second.more) old (Some after)
-        of zero is b g e =
-            let l = later past es fs 0 is refl b g in
-            (past, fs, was, e ∙ l.1, l.0)
-        of (suc n) is b g e =
-            let start : starts_of pools ≡ starts_before pools 0 (asks_of (first.more ++ second.more)) =
-            sym (starts_first pools 0 (asks_of (first.more ++ second.more)) refl (omega (arith, many, is))) in (
-              past,
-              es ++ fs,
-              was,
-              e ∙ ap (λ xs. xs ++ fs) (append-nil (past ++ starts_of pools ++ es)) ∙ append_assoc (past ++ starts_of pools) es fs
-                  ∙ ap (λ xs. past ++ xs ++ (es ++ fs)) start,
-              subst (λ xs. Follows task (workers_in head) (past ++ xs) [] (first.more ++ second.more) (es ++ fs)) start
-                  (follows_join task (workers_in head) (past ++ starts_of pools) [] first.more second.more es fs b
-                  (subst (λ xs. Follows task (workers_in head) xs first.more second.more fs)
-                  (append-nil (past ++ starts_of pools ++ es)) g)),
-            )

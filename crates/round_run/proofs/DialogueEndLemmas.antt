@@ -1,6 +1,7 @@
 -- What a run leaves behind.
-use Rattle.std.proofs.Common.{◌≡◌, ◌≢◌, ℕ, zero, suc, ◌+◌, arith, List, [], ◌∷◌, ◌++◌, length, take, drop, Option, Some, refl, sym, subst, ap, ◌∙◌, inl, inr, ◌⊎◌, slice_get, option_map, IfSome}
+use Rattle.std.proofs.Common.{◌≡◌, ◌≢◌, ℕ, zero, suc, ◌+◌, arith, List, [], ◌∷◌, ◌++◌, length, take, Option, Some, refl, sym, subst, ap, ◌∙◌, inl, inr, ◌⊎◌, slice_get, option_map, IfSome}
 use Rattle.std.proofs.lemmas.List.{append-nil}
+use Rattle.std.proofs.lemmas.List.Prefix.{front_rest}
 use Rattle.std.specs.List.{after_first}
 use Rattle.gen_lines.specs.Lines.{is_feed, lines_of}
 use Rattle.gen_lines.specs.Reply as reply
@@ -16,7 +17,7 @@ use Rattle.round_run.specs.Dialogue.{BrokenOff, Dialogue, HasBadLine, IsBadLine,
 use Rattle.round_run.specs.Stops.{MayHear}
 use Rattle.round_run.specs.Talking.{Talks}
 use Rattle.round_run.specs.declared.fault.RunFault.{RunFault}
-use Rattle.round_run.proofs.DialogueLemmas.{drop_front, is_same, mapped, other_bytes, own_bytes, talk_bad, talk_more, talk_said, told_map}
+use Rattle.round_run.proofs.DialogueLemmas.{is_same, mapped, other_bytes, own_bytes, talk_bad, talk_more, talk_said, told_map}
 
 -- ---- what a run leaves behind
 
@@ -48,8 +49,7 @@ broken_one task version pools Front fault entries e r n kept old new may legal f
   where
     further : further_requests task pools entries (e ∷ []) ≡ r ∷ []
     further =
-        ap (drop (length (requests_of task pools entries))) grown
-        ∙ drop_front (requests_of task pools entries) (r ∷ [])
+        front_rest (requests_of task pools (entries ++ e ∷ [])) (requests_of task pools entries) (r ∷ []) grown
 
     nothing : (m : ℕ) → take m (let none : List ℕ = [] in none) ≡ []
     nothing zero = refl

@@ -11,13 +11,13 @@ pub mod DialogueLemmas
 pub mod DialogueEndLemmas
 pub mod DialogueMarkLemmas
 pub mod DialogueRequestLemmas
-pub mod PiecesLemmas
 pub mod RollingLemmas
 pub mod RollingEndLemmas
 pub mod RollingFrontLemmas
 pub mod RollingPrintLemmas
 pub mod StartsLemmas
 pub mod StoppedLemmas
+pub mod StretchLemmas
 pub mod TalkingLemmas
 pub mod TalkingLineLemmas
 pub mod TalkingRoundLemmas

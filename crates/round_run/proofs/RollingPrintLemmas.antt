@@ -150,7 +150,8 @@ asks_are task before n (d ∷ ds) turns =
     (call_of_instance task (names_of task before) d.instance)
     ∷ asks_are task before (n + 1) ds (All-tail (λ (u : Due). u.turn ≡ yields_of (notes_of task before) u.instance) d ds turns) i
 
-answers_number : (n : ℕ) (r : Reply) (e : Entry) → replied_entry n r ≡ Some e → is_answer_to n e ≡ true
+-- an entry that a reply to a request makes answers it
+pub answers_number : (n : ℕ) (r : Reply) (e : Entry) → replied_entry n r ≡ Some e → is_answer_to n e ≡ true
 answers_number n (reply.yields tuples values) e is =
     let same : entry.Got n tuples values ≡ e = cc in ap (is_answer_to n) (sym same) ∙ eq-eqb n n refl
 answers_number n (reply.number value) e is =

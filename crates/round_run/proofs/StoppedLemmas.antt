@@ -1,5 +1,5 @@
 -- How runs go on and stop, one entry after another.
-use Rattle.std.proofs.Common.{◌≡◌, ℕ, ◌+◌, ◌<◌, ◌≤◌, arith, true, Result, Ok, Err, List, [], ◌∷◌, ◌++◌, length, take, Option, Some, None, sym, subst, ap, refl, ◌∙◌, append_assoc, inl}
+use Rattle.std.proofs.Common.{◌≡◌, ℕ, ◌+◌, ◌<◌, ◌≤◌, arith, true, Result, Ok, Err, List, [], ◌∷◌, ◌++◌, length, take, Option, sym, subst, ap, refl, ◌∙◌, append_assoc, inl}
 use Rattle.std.proofs.lemmas.List.{append-nil}
 use Rattle.std.proofs.lemmas.Grind.{flat_map-append}
 use Rattle.std.proofs.lemmas.Result.{err_from_is_err_and}
@@ -9,32 +9,26 @@ use Rattle.std.specs.Result.{IsErrAnd, IfErr, IfOk, OnOk}
 use Rattle.io_world.specs.Faults.{Rose, HasCause}
 use Rattle.task_model.specs.declared.task.Task.{Task}
 use Rattle.transcript_model.specs.Legal.{IsLegal, is_open}
+use Rattle.report_text.proofs.PrintsLemmas.{appends_none, appends_then}
+use Rattle.report_text.specs.Prints.{CutOff, Prints}
 use Rattle.report_text.specs.Texts.{text_of_entry}
 use Rattle.transcript_model.specs.declared.entry.Entry.{Entry}
 use Rattle.io_world.specs.Talks.{Talk}
 use Rattle.session_core.specs.Slots.{Slot}
 use Rattle.pools.specs.Pools.{Workers}
 use Rattle.round_run.specs.Dialogue.{BrokenOff, Dialogue, HasBadLine, requests_of}
-use Rattle.round_run.specs.Pieces.{CutOff}
 use Rattle.round_run.specs.Rolling.{Goes, Stopped, Blames}
 use Rattle.round_run.specs.Talking.{IsBlamed}
 use Rattle.round_run.specs.Stops.{MayHear, MayListen, MayWrite, StopsAt}
 use Rattle.round_run.specs.declared.fault.RunFault.{RunFault}
 use Rattle.round_run.specs.declared.fault.RunFault.TheVariants.{Answer, Generator, Write, Memory}
 
--- ---- bytes
-
-pub appends_none : (old : Option (List ℕ)) → Appends old old []
-appends_none None = tt
-appends_none (Some xs) = sym (append-nil xs)
-
-pub appends_then : (old mid new : Option (List ℕ)) (xs ys : List ℕ) → Appends old mid xs
-    → Appends mid new ys → Appends old new (xs ++ ys)
-appends_then None mid new xs ys first second = tt
-appends_then (Some a) None new xs ys first second = absurd first
-appends_then (Some a) (Some b) None xs ys first second = absurd second
-appends_then (Some a) (Some b) (Some c) xs ys first second =
-    second ∙ ap (λ front. front ++ ys) first ∙ append_assoc a xs ys
+-- where not all was printed it is that the sink failed, and took a part
+pub write_part : {T : Type 0} (r : Result T RunFault) (old new : Option (List ℕ)) (bytes : List ℕ)
+    → Prints r old new bytes → IfErr r (λ fault. fault ≡ Write)
+    → IfErr r (λ fault. (fault ≡ Write) × CutOff old new bytes)
+write_part (Ok x) old new bytes told only = tt
+write_part (Err fault) old new bytes told only = (only, told)
 
 -- the lines of one entry
 pub lines_of_one : (e : Entry) → flat_map text_of_entry (e ∷ []) ≡ text_of_entry e

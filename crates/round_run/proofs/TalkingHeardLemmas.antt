@@ -20,7 +20,6 @@ use Rattle.task_model.specs.declared.task.Task.{Task}
 use Rattle.transcript_model.specs.Legal.{IsLegal, is_open}
 use Rattle.transcript_model.specs.declared.entry.Entry.{Entry}
 use Rattle.transcript_model.specs.declared.entry.Entry.TheVariants as entry
-use Rattle.round_run.proofs.DialogueRequestLemmas.{AreAsks, AreReplies}
 use Rattle.round_run.proofs.RollingLemmas.{answered_now, blamed_there, front_same, number_is, printed_there, was_some}
 use Rattle.round_run.proofs.DialogueLemmas.{talks_heard, talks_more, with_more}
 use Rattle.round_run.proofs.DialogueEndLemmas.{bad_line, dialogue_of}
@@ -43,13 +42,27 @@ printed_many slots place within =
 module _ (task : Task) (s : State) (running : ℕ → Bool) (place : ℕ) (r : IsRolling s running (length s.slots) place)
     (within : place < length s.slots) (t : Slot) (at : slice_get s.slots place ≡ Some t) where
   -- the request that is answered next
-  pub next_is : (a : List Request) (b : List Entry) (q : Request) → length b ≡ length a
+  next_is : (a : List Request) (b : List Entry) (q : Request) → length b ≡ length a
       → slice_get (requests_of task s.pools s.asks) place ≡ Some q
       → slice_get (a ++ requests_of task s.pools s.asks) (length (b ++ take place (finished s.slots))) ≡ Some q
   next_is a b q even at_q =
       ap (slice_get (a ++ requests_of task s.pools s.asks))
       (length-append b (take place (finished s.slots)) ∙ (λ i. even i + printed_many s.slots place within i))
       ∙ get_behind a (requests_of task s.pools s.asks) place q at_q
+
+  -- it stands behind the answers that are printed
+  pub next_asked : (kept : ℕ → List ℕ) (old : ℕ → Option Talk) → IsSession task s
+      → (k : IsTalking task s (length s.slots) place kept old)
+      → slice_get (requests_of task s.pools (s.entries ++ s.asks ++ take place (finished s.slots)))
+      (length (replies_of (s.entries ++ s.asks ++ take place (finished s.slots))))
+      ≡ Some (request_at task s place kept old old t at k.slots).0
+  next_asked kept old h k =
+      let asks = round_asks task s r.begun h in
+      let each = front_each (finished s.slots) place (round_replies task s r.begun h) in
+      let q = request_at task s place kept old old t at k.slots in
+      (λ i. slice_get (requests_heard task s.pools s.entries s.asks k.closed asks (take place (finished s.slots)) each i)
+      (length (replies_heard task s.pools s.entries s.asks k.closed asks (take place (finished s.slots)) each i)))
+      ∙ next_is (requests_of task s.pools s.entries) (replies_of s.entries) q.0 k.even q.1
 
   module _ (line : List ℕ) (good : is_bad_at s.slots t.child line ≡ false) where
     answer_is : (e : Entry) × (replied_entry t.number (reply_to line t) ≡ Some e)
@@ -138,27 +151,17 @@ module _ (task : Task) (s : State) (running : ℕ → Bool) (place : ℕ) (r : I
       → MayBlame s.version task s.pools new fault (s.entries ++ s.asks ++ take place (finished s.slots))
   may_blame kept old new fault opened h legal k m = by fault m.blamed
     where
-      asks : AreAsks s.asks
-      asks = round_asks task s opened h
-
-      each : AreReplies (take place (finished s.slots))
-      each = front_each (finished s.slots) place (round_replies task s opened h)
-
       by : (f : RunFault) → IsBlamed s.slots t.child (kept t.child ++ m.more) f
           → MayBlame s.version task s.pools new f (s.entries ++ s.asks ++ take place (finished s.slots))
       by Generator b = tt
       by Memory b = tt
       by Write b = absurd b
       by (Answer number why) b =
-          let q = request_at task s place kept old new t at k.slots in
+          let q = request_at task s place kept old old t at k.slots in
           let numbered : number_at s.slots t.child ≡ t.number = number_is s.slots t.child t (own_slot s.slots place t r.apart at) in
-          let next : slice_get (requests_of task s.pools (s.entries ++ s.asks ++ take place (finished s.slots)))
-          (length (replies_of (s.entries ++ s.asks ++ take place (finished s.slots)))) ≡ Some q.0 =
-          (λ i. slice_get (requests_heard task s.pools s.entries s.asks k.closed asks (take place (finished s.slots)) each i)
-          (length (replies_heard task s.pools s.entries s.asks k.closed asks (take place (finished s.slots)) each i)))
-          ∙ next_is (requests_of task s.pools s.entries) (replies_of s.entries) q.0 k.even q.1 in
           let bad : HasBadLine task s.version s.pools (s.entries ++ s.asks ++ take place (finished s.slots)) new q.0.number why =
-          bad_line task s.version s.pools (s.entries ++ s.asks ++ take place (finished s.slots)) q.0 m.more why kept old new q.2.one next
+          bad_line task s.version s.pools (s.entries ++ s.asks ++ take place (finished s.slots)) q.0 m.more why kept old new q.2.one
+          (next_asked kept old h k)
           (subst (λ d. Hears d m.more old new) q.2.child m.heard) (first q.0 q.2 number why b.1)
           (talks_at_heard task s place kept old opened h k) in (
             ap (is_open (s.entries ++ s.asks ++ take place (finished s.slots))) b.0

@@ -3,7 +3,6 @@ pub mod Breaking
 pub mod Calls
 pub mod Dialogue
 pub mod Held
-pub mod Pieces
 pub mod Resting
 pub mod Rolling
 pub mod Starts

@@ -23,13 +23,6 @@ StopsAt Generator old new entries = Appends old new (flat_map text_of_entry entr
 StopsAt Memory old new entries = Appends old new (flat_map text_of_entry entries)
 StopsAt (Answer number why) old new entries = Appends old new (flat_map text_of_entry entries)
 
--- Of these bytes the sink took none, for want of memory; or it failed, and took the first of them.
-abbrev pub Misses : RunFault → Option (List ℕ) → Option (List ℕ) → List ℕ → Type 0
-Misses Write old new bytes = (n : ℕ) × (n < length bytes) × Appends old new (take n bytes)
-Misses Generator old new bytes = ⊥
-Misses Memory old new bytes = Appends old new []
-Misses (Answer number why) old new bytes = ⊥
-
 -- a fault that writing may have
 abbrev pub MayWrite : RunFault → Type 0
 MayWrite Generator = ⊥

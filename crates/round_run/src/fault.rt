@@ -1,8 +1,9 @@
 //! Why a run stops before it has an outcome.
 ghost use Rattle.std.specs.Prelude.{◌≡◌};
-ghost use Rattle.round_run.specs.declared.fault.RunFault.TheVariants.{Memory};
+ghost use Rattle.round_run.specs.declared.fault.RunFault.TheVariants.{Memory, Write};
 
 use gen_lines::Why;
+use io_world::SinkFault;
 use std::alloc::{AllocError, AllocFailed};
 use thiserror::Error;
 
@@ -41,5 +42,13 @@ impl<T: Drop> From<AllocFailed<T>> for RunFault {
 
     fn from(_error: AllocFailed<T>) -> RunFault {
         RunFault::Memory
+    }
+}
+
+impl From<SinkFault> for RunFault {
+    ghost from_gives = { λ _ fault. fault ≡ Write };
+
+    fn from(_error: SinkFault) -> RunFault {
+        RunFault::Write
     }
 }

@@ -5,13 +5,13 @@
 mod batches;
 mod child;
 mod ending;
-mod entry_line;
+mod entry_print;
 mod fault;
 mod lines;
 mod round;
 
 pub use batches::batch;
 pub use ending::Batch;
-pub use entry_line::print_entry;
+pub use entry_print::print_entry;
 pub use fault::RunFault;
 pub use lines::Lines;

@@ -17,7 +17,7 @@ ghost use Rattle.task_model.specs.declared.task.Task.{Task as AnyTask};
 ghost use Rattle.transcript_model.specs.Rounds.{IsRound};
 
 use crate::child::{hear, send};
-use crate::entry_line::print_entry;
+use crate::entry_print::print_entry;
 use crate::fault::RunFault;
 use crate::lines::Lines;
 use instance_queue::Due;

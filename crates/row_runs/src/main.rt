@@ -11,7 +11,7 @@ use std::io;
 use std::process::ExitCode;
 
 /// The files of rows, in the order in which they are run.
-const SUBJECTS: [&str; 15] = [
+const SUBJECTS: [&str; 17] = [
     "outcomes.rows",
     "limits.rows",
     "faults.rows",
@@ -19,6 +19,7 @@ const SUBJECTS: [&str; 15] = [
     "lengths.rows",
     "workers.rows",
     "joins.rows",
+    "plain.rows",
     "maps.rows",
     "replays.rows",
     "made.rows",
@@ -27,6 +28,7 @@ const SUBJECTS: [&str; 15] = [
     "focused.rows",
     "binding.rows",
     "adaptive.rows",
+    "picks.rows",
 ];
 
 /// The most bytes of a file of rows.

@@ -26,7 +26,8 @@ use Rattle.transcript_model.specs.Transcript.{names_of}
 use Rattle.transcript_model.specs.declared.entry.Call.{Call}
 use Rattle.transcript_model.specs.declared.entry.Entry.{Entry}
 use Rattle.transcript_model.specs.declared.entry.Entry.TheVariants as entry
-use Rattle.run_laws.proofs.PlainEntryLemmas.{is_plain, yields_few}
+use Rattle.run_laws.proofs.PlainEntryLemmas.{is_plain}
+use Rattle.table_runs.proofs.YieldsLemmas.{yields_few}
 use Rattle.std.proofs.lemmas.Map.Keys.{any_passes_from_place}
 use Rattle.lemmas.proofs.ListTests.{all_at, any_append_left}
 use Rattle.report_text.proofs.FormsNameLemmas.{names_formed}

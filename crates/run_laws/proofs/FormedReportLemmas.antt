@@ -1,6 +1,6 @@
 -- The report of a run has the stated forms.
-use Rattle.std.proofs.Common.{◌≡◌, ℕ, zero, suc, ◌<◌, ◌≤◌, ◌⊎◌, inl, inr, List, [], length, take, drop, All, refl, sym, ◌∙◌, Some, slice_get, arith, ap}
-use Rattle.std.proofs.lemmas.List.{length-map, take-append-drop}
+use Rattle.std.proofs.Common.{◌≡◌, ℕ, zero, suc, ◌<◌, ◌≤◌, ◌⊎◌, inl, inr, List, [], length, take, All, refl, sym, ◌∙◌, Some, slice_get, arith, ap}
+use Rattle.std.proofs.lemmas.List.{length-map}
 use Rattle.std.proofs.lemmas.List.Elements.{All-contains, All-map, All-weaker}
 use Rattle.level_run.specs.Reports.{IsRun, report_of}
 use Rattle.mode_turns.proofs.CountsLemmas.{turn_keeps, turns_keep}
@@ -8,14 +8,14 @@ use Rattle.mode_turns.proofs.ModesLemmas.{as_family}
 use Rattle.mode_turns.specs.Modes.{TurnOf, nothing_kept}
 use Rattle.lemmas.proofs.Members.{member_at}
 use Rattle.lemmas.proofs.ListTests.{all_by_place}
+use Rattle.table_runs.proofs.AgreeLemmas.{asks_front}
 use Rattle.task_model.specs.Fit.{IsFit}
 use Rattle.task_model.specs.declared.task.Task.{Task}
 use Rattle.report_text.specs.Forms.{IsFormed, IsFormedEntry, IsFormedPool, IsName}
-use Rattle.transcript_model.specs.Outcomes.{MayStand}
 use Rattle.transcript_model.specs.Rounds.{Limits, limits_of}
 use Rattle.report_text.specs.Texts.{shown_pool}
 use Rattle.gen_lines.specs.Request.{stream_name}
-use Rattle.transcript_model.specs.Turns.{AreTurns, Stage, between, after_cut, inside}
+use Rattle.transcript_model.specs.Turns.{AreTurns}
 use Rattle.transcript_model.specs.declared.entry.Entry.{Entry}
 use Rattle.transcript_model.specs.declared.entry.Entry.TheVariants as entry
 use Rattle.transcript_model.specs.declared.head.Head.{Head}
@@ -28,21 +28,13 @@ use Rattle.run_laws.proofs.FormedDreamLemmas.{dream_formed}
 use Rattle.run_laws.proofs.TurnMarkLemmas.{AreRight, IsRightMark, turns_right}
 use Rattle.run_laws.specs.Reports.{HasCountedSteps, IsHeadOfReports, TextsNameRuns}
 use Rattle.run_laws.proofs.SkeletonLemmas.{none_carried}
-use Rattle.transcript_model.proofs.LegalNumberLemmas.{asks_more}
-use Rattle.transcript_model.specs.Legal.{asks_of}
 use Rattle.transcript_model.proofs.LegalPrefixLemmas.{legal_take}
 use Rattle.level_run.proofs.ReportsLemmas.{whole_is}
+use Rattle.level_run.proofs.TabledLemmas.{resting}
 use Rattle.report_text.proofs.LineTextLemmas.{lines_read, read_lines}
 use Rattle.report_text.proofs.FormsLemmas.{report_clear, report_lines, report_text}
 use Rattle.report_text.proofs.ReportsReadBack.{lines_determine}
 use Rattle.transcript_model.specs.declared.report.Report.{Report}
-
--- an outcome stands nowhere inside a turn
-resting : (stage : Stage) (o : Outcome) → MayStand stage o → ¬ (stage ≡ inside)
-resting stage o (inl rests) stopped_there =
-    let no : between ≡ inside = sym rests ∙ stopped_there in absurd (cc)
-resting stage o (inr cut) stopped_there =
-    let no : after_cut ≡ inside = sym cut.0 ∙ stopped_there in absurd (cc)
 
 module _ (task : Task) (head : Head) (entries : List Entry) (o : Outcome) (fit : IsFit task)
     (can : IsHeadOfReports task head) (run : IsRun task head entries o) (counted : HasCountedSteps head entries) where
@@ -64,18 +56,13 @@ module _ (task : Task) (head : Head) (entries : List Entry) (o : Outcome) (fit :
       let calls = can.runnable.fit.calls in
       record { asks = omega (arith, asks, calls); answers = omega (arith, asks, calls, right.answers) }
 
-  -- the requests before an entry
-  asks_before : (k : ℕ) → asks_of (take k entries) ≤ asks_of entries
-  asks_before k =
-      omega (arith, ap asks_of (take-append-drop k entries), asks_more (take k entries) (drop k entries))
-
   one_formed : (k : ℕ) (e : Entry) → slice_get entries k ≡ Some e → IsRightMark head.mode limits task (take k entries) e
       → IsFormedEntry head.version e
   one_formed k (entry.Dream uses steps) at (other, tried, dreamt, dream) =
       dream_formed limits task fit (take k entries) (legal_take head.version task entries k run.legal) tried uses steps dreamt dream
       (counted other k uses steps at)
-  one_formed k (entry.Pick number) at (other, few_asks) = omega (arith, few_asks, asks_before k, few.asks)
-  one_formed k (entry.Retire number) at (other, few_asks) = omega (arith, few_asks, asks_before k, few.asks)
+  one_formed k (entry.Pick number) at (other, few_asks) = omega (arith, few_asks, asks_front entries k, few.asks)
+  one_formed k (entry.Retire number) at (other, few_asks) = omega (arith, few_asks, asks_front entries k, few.asks)
   one_formed k entry.Nothing at mark = tt
   one_formed k entry.Reset at mark = tt
   one_formed k e at mark = entry_formed head.version task fit entries run.legal few k e at refl

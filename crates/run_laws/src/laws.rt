@@ -1,6 +1,7 @@
 //! Laws of whole runs, each the contract of a function that does nothing.
 ghost use Rattle.run_laws.specs.Reports.{ReportsOfRunsAreFormed, ShortReportsCountSteps};
 ghost use Rattle.run_laws.specs.Reports.{TextsNameRuns};
+ghost use Rattle.run_laws.specs.Tables.{TablesNameRuns};
 
 /// The report of a run of any mode has the forms of a report, where the steps of its dreams are
 /// counted.
@@ -17,4 +18,12 @@ pub fn texts_name_runs()
 /// In a report of fewer than 2^32 bytes the steps of each dream are counted.
 pub fn short_reports_count_steps()
     ensures { ShortReportsCountSteps }
+{}
+
+/// Two runs in incremental mode whose children answer by one table, with the same limit of calls,
+/// make the same requests and hear the same answers, each in one order, know the same in the end
+/// and end in the same way, whatever their pools and their workers, unless one of them ends with
+/// the limit of states.
+pub fn tables_name_runs()
+    ensures { TablesNameRuns }
 {}

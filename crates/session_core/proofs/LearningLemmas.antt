@@ -1,5 +1,5 @@
 -- What the entries of a transcript add, one after another, and that it stays little.
-use Rattle.std.proofs.Common.{◌≡◌, ℕ, zero, suc, ◌+◌, ◌*◌, ◌-◌, ◌<◌, ◌≤◌, arith, true, cond, List, [], ◌∷◌, take, drop, length, replicate, refl, sym, ap, ◌∙◌, Option, Some, None, slice_get, get_or, count_by, eq-eqb, eqb-true, mul-add, mul-le-mul}
+use Rattle.std.proofs.Common.{◌≡◌, ℕ, zero, suc, ◌+◌, ◌*◌, ◌-◌, ◌<◌, ◌≤◌, arith, true, cond, List, [], ◌∷◌, take, drop, length, replicate, refl, sym, ap, subst, ◌∙◌, take_all, Option, Some, None, slice_get, get_or, count_by, eq-eqb, eqb-true, mul-add, mul-le-mul}
 use Rattle.std.proofs.Math.ListN.{take-append-drop}
 use Rattle.std.proofs.lemmas.Bool.{leb-true}
 use Rattle.std.proofs.lemmas.List.{length-append, length-map, length-replicate}
@@ -9,7 +9,8 @@ use Rattle.std.specs.List.{flat_map, list_any}
 use Rattle.std.specs.Option.{option_map_or}
 use Rattle.certify.proofs.FitStreamLemmas.{fit_parts}
 use Rattle.task_model.specs.Initial.{declared_names}
-use Rattle.task_model.specs.Streams.{Yielded, Ended}
+use Rattle.task_model.specs.Streams.{Note, Yielded, Ended}
+use Rattle.task_model.specs.Known.{Known}
 use Rattle.task_model.specs.declared.domain.Declared.{Declared}
 use Rattle.task_model.specs.declared.stream.Instance.{Instance}
 use Rattle.task_model.specs.declared.stream.Stream.{Stream}
@@ -24,6 +25,9 @@ use Rattle.transcript_model.specs.Names.{generated}
 use Rattle.transcript_model.specs.Transcript.{Asked, asked, objects_in, names_of, known_of, notes_of, note_of, known_with, notes_with}
 use Rattle.transcript_model.specs.declared.entry.Entry.{Entry}
 use Rattle.transcript_model.specs.declared.entry.Entry.TheVariants as entry
+use Rattle.fact_store.proofs.GrowthLemmas.{front_itself, front_same, front_then, grows_itself, grows_then}
+use Rattle.fact_store.specs.Growth.{Grows, IsFrontOf}
+use Rattle.session_core.proofs.LearningTupleLemmas.{known_with_grows, notes_with_front}
 use Rattle.session_core.proofs.SessionLemmas.{count_joined, count_one}
 use Rattle.session_core.specs.Learning.{CanLearn, MayLearn, IsRoomAfter}
 use Rattle.lemmas.proofs.Options.{same_some}
@@ -258,6 +262,73 @@ module _ (task : Task) (asked_all : List Instance) (entries : List Entry) (can :
   other_at place entry.Reset at none = mark_at place entry.Reset at refl
   other_at place (entry.Pick n) at none = mark_at place (entry.Pick n) at refl
   other_at place (entry.Retire n) at none = mark_at place (entry.Retire n) at refl
+
+  -- ---- more entries
+
+  -- what is known and noted stands behind more entries
+  pub record StandsIn (fewer more : List Entry) : Type 0 where
+    pub known : Grows (known_of task fewer) (known_of task more)
+    pub notes : IsFrontOf (notes_of task fewer) (notes_of task more)
+
+  stands_next : (place : ℕ) (e : Entry) → slice_get entries place ≡ Some e
+      → StandsIn (take place entries) (take (place + 1) entries)
+  stands_next place e at = next (answered_number e) refl
+    where
+      next : (o : Option ℕ) → answered_number e ≡ o
+          → StandsIn (take place entries) (take (place + 1) entries)
+      next None is =
+          let h = other_at place e at is in
+          let known = known_of task (take place entries) in
+          record {
+            known = subst (Grows known) (sym h.known) (grows_itself known);
+            notes = front_same (notes_of task (take place entries)) (notes_of task (take (place + 1) entries)) h.notes;
+          }
+      next (Some n) is =
+          let h = answer_at place n e at is in
+          let known = known_of task (take place entries) in
+          let notes = notes_of task (take place entries) in
+          record {
+            known = subst (Grows known) (sym h.known) (known_with_grows task known h.request e);
+            notes = subst (IsFrontOf notes) (sym h.notes) (notes_with_front notes h.request e);
+          }
+
+  pub grown_on : (place : ℕ) (e : Entry) → slice_get entries place ≡ Some e → (first now next : Known)
+      → Grows first now → now ≡ known_of task (take place entries)
+      → next ≡ known_of task (take (place + 1) entries) → Grows first next
+  grown_on place e at first now next more now_is next_is =
+      grows_then first now next more
+      (subst (Grows now) (sym next_is)
+      (subst (λ (k : Known). Grows k (known_of task (take (place + 1) entries))) (sym now_is) (stands_next place e at).known))
+
+  pub noted_on : (place : ℕ) (e : Entry) → slice_get entries place ≡ Some e → (first now next : List Note)
+      → IsFrontOf first now → now ≡ notes_of task (take place entries)
+      → next ≡ notes_of task (take (place + 1) entries) → IsFrontOf first next
+  noted_on place e at first now next more now_is next_is =
+      front_then first now next more
+      (subst (IsFrontOf now) (sym next_is)
+      (subst (λ (ns : List Note). IsFrontOf ns (notes_of task (take (place + 1) entries))) (sym now_is) (stands_next place e at).notes))
+
+  -- behind all of them
+  stands_after : (left place : ℕ) → place + left ≡ length entries
+      → StandsIn (take place entries) entries
+  stands_after zero place is =
+      let all : take place entries ≡ entries = take_all place entries (omega (arith, is)) in
+      subst (λ es. StandsIn es entries) (sym all)
+      (record { known = grows_itself (known_of task entries); notes = front_itself (notes_of task entries) })
+  stands_after (suc left) place is =
+      let there = get_there entries place (omega (arith, is)) in
+      let one = stands_next place there.0 there.1 in
+      let rest = stands_after left (place + 1) (omega (arith, is)) in
+      record {
+        known = grows_then (known_of task (take place entries)) (known_of task (take (place + 1) entries)) (known_of task entries)
+            one.known rest.known;
+        notes = front_then (notes_of task (take place entries)) (notes_of task (take (place + 1) entries)) (notes_of task entries)
+            one.notes rest.notes;
+      }
+
+  pub stands_in_all : (place : ℕ) → place ≤ length entries → StandsIn (take place entries) entries
+  stands_in_all place within =
+      stands_after (length entries - place) place (omega (arith, within))
 
   -- what was asked, as it is read
   pub request_read : (place n : ℕ) (e : Entry) (h : IsAnswerAt place n e) (i : Instance) (s : Stream)

@@ -1,5 +1,6 @@
 //! What answers certify, put behind what is known, and what they tell, put behind the notes.
-ghost use Rattle.std.specs.Prelude.{◌≡◌, ◌≤◌, ◌+◌, ◌<◌, ◌++◌, [], length, take, replicate, OnOk};
+ghost use Rattle.std.specs.Prelude.{◌≡◌, ◌≤◌, ◌+◌, ◌<◌, ◌++◌, [], length, take, replicate, OnOk, OnErr};
+ghost use Rattle.fact_store.specs.Growth.{IsBetween, LiesBetween};
 ghost use Rattle.task_model.specs.Streams.{Yielded};
 ghost use Rattle.transcript_model.specs.Transcript.{known_of, notes_of, known_with, notes_with};
 ghost use Rattle.transcript_model.specs.declared.entry.Entry.TheVariants as entry;
@@ -25,7 +26,8 @@ fn answered(entry: &Entry) -> Option<u32>
     }
 }
 
-/// What so many tuples of an instance certify.
+/// What so many tuples of an instance certify. Fails only where memory is wanting; then a part of
+/// it may be known, and nothing else.
 fn learn_tuples(
     alloc: Global,
     task: &Task,
@@ -40,6 +42,10 @@ fn learn_tuples(
     ensures known { OnOk result (facts.new.known
         ≡ known_with task.now facts.old.known
         (record { stream = stream.now; instance = instance.now }) (entry.Got 0 tuples values.now)) }
+    ensures part { OnErr result (LiesBetween facts.old.known facts.new.known
+        (known_with task.now facts.old.known
+        (record { stream = stream.now; instance = instance.now })
+        (entry.Got 0 tuples values.now))) }
 {
     let mut rest = values;
     for _ in 0..tuples {
@@ -57,10 +63,13 @@ fn learn_tuples(
     Ok(())
 }
 
-/// Notes that the instance gave so many tuples.
+/// Notes that the instance gave so many tuples. Fails only where memory is wanting; then the first
+/// of them may be noted.
 fn note_tuples(queue: &mut Queue, instance: &Instance, tuples: u8) -> Result<(), AllocError>
     requires { length queue.old + tuples < 4294967295 }
-    ensures { OnOk result (queue.new ≡ queue.old ++ replicate tuples (Yielded instance.now)) }
+    ensures notes { OnOk result (queue.new ≡ queue.old ++ replicate tuples (Yielded instance.now)) }
+    ensures part { OnErr result (IsBetween queue.old queue.new
+        (queue.old ++ replicate tuples (Yielded instance.now))) }
 {
     for _ in 0..tuples {
         queue.note_got(instance)?;
@@ -68,7 +77,8 @@ fn note_tuples(queue: &mut Queue, instance: &Instance, tuples: u8) -> Result<(),
     Ok(())
 }
 
-/// What an answer of an instance certifies and tells.
+/// What an answer of an instance certifies and tells. Fails only where memory is wanting; then a
+/// part of it may be known and noted, and nothing else.
 fn learn_answer(
     alloc: Global,
     task: &Task,
@@ -86,6 +96,12 @@ fn learn_answer(
     ensures notes { OnOk result (queue.new
         ≡ notes_with queue.old (record { stream = stream.now; instance = instance.now })
         entry.now) }
+    ensures part { OnErr result (LiesBetween facts.old.known facts.new.known
+        (known_with task.now facts.old.known
+        (record { stream = stream.now; instance = instance.now }) entry.now)) }
+    ensures noted { OnErr result (IsBetween queue.old queue.new
+        (notes_with queue.old (record { stream = stream.now; instance = instance.now })
+        entry.now)) }
 {
     match entry {
         Entry::Got { tuples, values, .. } => {
@@ -112,7 +128,7 @@ fn learn_answer(
 
 /// What the entries from a place on certify and tell, where these instances were asked: it is put
 /// behind what is known and noted after the entries before that place. The transcript is legal.
-/// Fails only where memory is wanting; then some of it may be known.
+/// Fails only where memory is wanting; then a part of it may be known and noted, and nothing else.
 pub fn learn_from(
     alloc: Global,
     task: &Task,
@@ -128,6 +144,9 @@ pub fn learn_from(
     requires notes { queue.old ≡ notes_of task.now (take from entries.now) }
     ensures known { OnOk result (facts.new.known ≡ known_of task.now entries.now) }
     ensures notes { OnOk result (queue.new ≡ notes_of task.now entries.now) }
+    ensures part { OnErr result (LiesBetween facts.old.known facts.new.known
+        (known_of task.now entries.now)) }
+    ensures noted { OnErr result (IsBetween queue.old queue.new (notes_of task.now entries.now)) }
 {
     for place in from..entries.len() {
         let entry = &entries[place];

@@ -49,6 +49,7 @@ impl Model for Session {
 
 impl Session {
     ghost use Rattle.std.specs.Prelude.{◌≡◌, ◌+◌, ◌<◌, ◌≤◌, ◌==◌, ℕ, List, true, false, length, take, drop, slice_get, Some, option_copied, IfSome, IfOk, IfErr, OnOk, OnErr, if◌then◌else◌};
+    ghost use Rattle.fact_store.specs.Growth.{IsBetween, LiesBetween};
     ghost use Rattle.instance_queue.specs.Level as level;
     ghost use Rattle.instance_queue.specs.Level.{instances_of};
     ghost use Rattle.instance_queue.specs.declared.due.Due.{Due as AnyDue};
@@ -283,14 +284,18 @@ impl Session {
 
     /// Learns what the answers of the closed rounds certify and tell: what is known and noted is
     /// then what the whole transcript certifies and tells. Fails where the session has failed, and
-    /// leaves all as it was then, and where memory is wanting: then the session has failed, and
-    /// some of what the answers certify may be known.
+    /// leaves all as it was then, and where memory is wanting: then the session has failed, and a
+    /// part of what the answers certify and tell may be known and noted, and nothing else.
     pub fn learn(&mut self, task: &Task) -> Result<(), CoreFault>
         requires session { IsSession task.now self.old }
         ensures learnt { OnOk result (self.new ≡ after_learn task.now self.old) }
         ensures working { OnOk result (self.old.failed ≡ false) }
         ensures err { OnErr result (self.new
             ≡ with_learnt self.old self.new.known self.new.notes self.old.learnt true) }
+        ensures part { OnErr result (self.old.failed ≡ false → LiesBetween self.old.known
+            self.new.known (known_of task.now self.old.entries)) }
+        ensures notes { OnErr result (self.old.failed ≡ false → IsBetween self.old.notes
+            self.new.notes (notes_of task.now self.old.entries)) }
         ensures failed { IfErr result (λ fault. fault ≡ Failed → self.new ≡ self.old) }
         ensures fault { IfErr result (ComesOf self.old) }
         ensures kept { IsSession task.now self.new }

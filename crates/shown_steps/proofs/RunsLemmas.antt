@@ -1,5 +1,5 @@
 -- The steps that calls stand for, taken one after another.
-use Rattle.std.proofs.Common.{◌≡◌, ℕ, ◌+◌, ◌<◌, List, [], ◌∷◌, ◌++◌, map, length, take, refl, sym, ap, subst, ◌∙◌, Option, Some, None, slice_get, arith, get_or, All, Bool, true, false, option_map, unwrap_or}
+use Rattle.std.proofs.Common.{◌≡◌, ℕ, ◌+◌, ◌<◌, List, [], ◌∷◌, ◌++◌, map, length, take, refl, sym, ap, subst, ◌∙◌, Option, Some, None, slice_get, arith, get_or, All, option_map, unwrap_or}
 use Rattle.std.proofs.lemmas.List.{map-append, take_more}
 use Rattle.std.proofs.lemmas.List.Elements.{All-head, All-tail}
 use Rattle.std.proofs.lemmas.Option.{slice_get-map, same_Some, none-some}
@@ -32,6 +32,7 @@ use Rattle.shown_steps.specs.Runs.{IsRunOf, IsSum, StopsAtStep}
 use Rattle.shown_steps.specs.declared.steps.Run.{Run}
 use Rattle.shown_steps.specs.Steps.{action_named, step_named}
 use Rattle.shown_plan.specs.Shown.{AreNamedSteps}
+use Rattle.lemmas.proofs.Bools.{not_both}
 use Rattle.lemmas.proofs.Members.{some_within}
 use Rattle.lemmas.proofs.Options.{and_then_some}
 
@@ -152,6 +153,23 @@ ends f (x ∷ xs) c (s ∷ steps) e =
     let r = ends f xs c steps rest in
     (s ∷ r.0, r.1, ap (λ z. s ∷ z) r.2, (λ i. first i ∷ r.3 i), r.4)
 
+-- ---- steps that fail
+
+-- a step isn't both taken and refused
+pub step_fails_not : (task : Task) (known : Known) (state after : Atoms) (step : GroundAction) (cost : ℕ) (fault : StepFault)
+    → ¬ (fault ≡ Memory) → IsStep task known state step after cost → StepFails task known state step fault → ⊥
+step_fails_not task known state after step cost NoAction other s fails = none-some s.action (sym fails ∙ s.named)
+step_fails_not task known state after step cost Args other s (a, named, wrong) =
+    let same = same_Some s.action a (sym s.named ∙ named) in
+    not_both _ (sym (ap (λ (b : Action). have_types known step.args b.params) same) ∙ s.typed) wrong
+step_fails_not task known state after step cost Condition other s (a, named, typed, wrong) =
+    let same = same_Some s.action a (sym s.named ∙ named) in
+    not_both _ (sym (ap (λ (b : Action). is_true task.domain known state b.condition (slots_of step.args)) same) ∙ s.condition) wrong
+step_fails_not task known state after step cost NoCost other s (a, named, typed, holds, wrong) =
+    let same = same_Some s.action a (sym s.named ∙ named) in
+    none-some cost (sym wrong ∙ ap (λ (b : Action). cost_of task known b step.args) (sym same) ∙ s.costs)
+step_fails_not task known state after step cost Memory other s fails = other refl
+
 module _ (task : Task) (fit : IsFit task) (known : Known) (coherent : IsCoherent known) where
   abbrev cs : GroundAction → Call
   cs = call_of_step task known.names
@@ -226,29 +244,6 @@ module _ (task : Task) (fit : IsFit task) (known : Known) (coherent : IsCoherent
       let l = last_of calls call can in
       none-some l.last (sym none ∙ ap found_in l.is ∙ found l.state l.after l.last l.more l.step)
 
-  fails_not : (state after : Atoms) (step : GroundAction) (cost : ℕ) (fault : StepFault)
-      → ¬ (fault ≡ Memory)
-      → IsStep task known state step after cost → StepFails task known state step fault → ⊥
-  fails_not state after step cost NoAction other s fails = none-some s.action (sym fails ∙ s.named)
-  fails_not state after step cost Args other s (a, named, wrong) =
-      let same = same_Some s.action a (sym s.named ∙ named) in
-      let right = s.typed in
-      no (ap (λ (b : Action). have_types known step.args b.params) same) right wrong
-    where
-      no : {x y : Bool} → x ≡ y → x ≡ true → y ≡ false → ⊥
-      no e f g = absurd (cc)
-  fails_not state after step cost Condition other s (a, named, typed, wrong) =
-      let same = same_Some s.action a (sym s.named ∙ named) in
-      let right = s.condition in
-      no (ap (λ (b : Action). is_true task.domain known state b.condition (slots_of step.args)) same) right wrong
-    where
-      no : {x y : Bool} → x ≡ y → x ≡ true → y ≡ false → ⊥
-      no e f g = absurd (cc)
-  fails_not state after step cost NoCost other s (a, named, typed, holds, wrong) =
-      let same = same_Some s.action a (sym s.named ∙ named) in
-      none-some cost (sym wrong ∙ ap (λ (b : Action). cost_of task known b step.args) (sym same) ∙ s.costs)
-  fails_not state after step cost Memory other s fails = other refl
-
   -- a step that isn't applicable can't be taken
   pub step_stuck : (calls : List Call) (call : Call) (run : Run) (step : GroundAction) (fault : StepFault)
       → ¬ (fault ≡ Memory)
@@ -263,7 +258,7 @@ module _ (task : Task) (fit : IsFit task) (known : Known) (coherent : IsCoherent
       (execution_determined task known (initial_state task) r.steps l.state run.state l.cost r.total ran r.runs).0 in
       let there = subst (λ s. IsStep task known s l.last l.after l.more) states l.step in
       let taken = subst (λ s. IsStep task known run.state s l.after l.more) same there in
-      fails_not run.state l.after step l.more fault other taken fails
+      step_fails_not task known run.state l.after step l.more fault other taken fails
 
   -- one step more
   pub step_more : (calls : List Call) (call : Call) (run next : Run) (step : GroundAction) (cost : ℕ)

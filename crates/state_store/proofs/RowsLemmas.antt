@@ -9,16 +9,12 @@ use Rattle.std.specs.Cmp.Lexicographic.{pointwise, lists_equiv}
 use Rattle.std.specs.Cmp.{nat_eq_equiv, eq_by_cmp_equiv}
 use Rattle.std.specs.FinMap as finite
 use Rattle.std.specs.List.{list_any, AllByRecursion, IsDistinct}
-use Rattle.task_model.proofs.StateLemmas.{atoms_total, atoms_tied, same_atoms, contains-from_list}
+use Rattle.task_model.proofs.StateLemmas.{atoms_total, same_atoms, contains-from_list}
 use Rattle.std.proofs.lemmas.List.Quantifiers.{position-Some}
-use Rattle.task_model.proofs.StateOrderLemmas.{same_atom, ties}
+use Rattle.task_model.proofs.StateOrderLemmas.{same_atom, same_is, ties}
 use Rattle.task_model.proofs.KnownLemmas.{numbers_decided}
 use Rattle.lemmas.proofs.Members.{member_at, place_of, distinct_push, push_cases}
 use Rattle.lemmas.specs.Lists.{AreDistinct}
-use Rattle.std.specs.Ordering.{is_eq}
-use Rattle.std.specs.declared.cmp.Ordering.{Ordering}
-use Rattle.std.specs.declared.cmp.Ordering.TheVariants.{Less, Equal, Greater}
-use Rattle.task_model.specs.AtomOrder.{atom_cmp}
 use Rattle.task_model.specs.State.{Atoms, from_list, items}
 use Rattle.task_model.specs.declared.fact.Atom.{Atom}
 use Rattle.state_store.specs.Kept.{AreKept}
@@ -245,14 +241,6 @@ pub row_at : {V : Type 0} (row_in : V → List ℕ) (atoms : List Atom) (keys : 
 row_at row_in atoms keys key place within is =
     let inside : place < length keys = omega (arith, length-map (map row_in keys) (state_of atoms), length-map keys row_in) in
     slice_get-map row_in keys place ∙ ap (option_map row_in) (slice_get-get_or keys place key inside ∙ ap Some (sym is))
-
-same_is : (x y : Atom) → same_atom x y ≡ true → x ≡ y
-same_is x y e = atoms_tied x y (is_equal (atom_cmp x y) (sym (ties x y) ∙ e))
-  where
-    is_equal : (o : Ordering) → is_eq o ≡ true → o ≡ Equal
-    is_equal Less e = absurd (cc)
-    is_equal Equal e = refl
-    is_equal Greater e = absurd (cc)
 
 -- an atom that was looked for stands at the place that was found
 pub place_is : (atoms : List Atom) (atom : Atom) (place : ℕ) → position (same_atom atom) atoms ≡ Some place

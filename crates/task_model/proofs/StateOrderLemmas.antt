@@ -218,7 +218,7 @@ ties = (then_tied (on_tied (λ (a : Atom). a.pred) (tie nat_cmp unsigned_ties))
 abbrev pub same_atom : Atom → Atom → Bool
 same_atom x y = (x.pred == y.pred) && pointwise nat_eq x.args y.args
 
-same_is : (x y : Atom) → same_atom x y ≡ true → x ≡ y
+pub same_is : (x y : Atom) → same_atom x y ≡ true → x ≡ y
 same_is x y e = tied x y (sym (ties x y) ∙ e)
 
 pub sorted_of : (sorted : List Atom) → IsSorted atom_cmp sorted

@@ -1,13 +1,15 @@
 use Rattle.std.proofs.Common.{◌≡◌, ◌∙◌, ◌++◌, ◌+◌, [], drop, length, sym, subst, ap, refl, arith}
 use Rattle.std.proofs.lemmas.Bool.{eqb-false, eqb-true}
 use Rattle.std.proofs.lemmas.List.{length-append, nil_from_length}
-use Rattle.binding_run.proofs.BatchesLemmas.{IsChosen, asks_next, front_done, front_here, front_next, none_next, noted_next, ran_next, ready_next, some_from}
+use Rattle.binding_run.proofs.BatchesLemmas.{IsChosen, asks_next, front_done, front_here, front_next, none_next, noted_next, ran_next, ready_next}
 use Rattle.binding_run.proofs.StoppingLemmas.{memory_between, stopped_on, stopped_wider}
-use Rattle.binding_run.proofs.StretchLemmas.{runs_still}
 use Rattle.binding_run.specs.Batching.{IsFrontOfBatches}
-use Rattle.dream_asks.specs.Next.{AreDuesOf, asked_instances}
+use Rattle.dream_asks.specs.Next.{AreDuesOf}
 use Rattle.dream_asks.specs.Noting.{NotesAnswers}
+use Rattle.focused_run.proofs.FocusingLemmas.{some_from}
+use Rattle.instance_queue.specs.Level.{instances_of}
 use Rattle.level_run.proofs.TurnsOutcomeLemmas.{names_known, spent_sure}
+use Rattle.round_run.proofs.CallsRunLemmas.{runs_still}
 use Rattle.round_run.proofs.RollingFrontLemmas.{all_work}
 use Rattle.round_run.proofs.StoppedLemmas.{goes_none, handed}
 use Rattle.round_run.specs.Resting.{IsFrontOfBatch, RanBatch}
@@ -67,8 +69,11 @@ returns-then-is_empty-clause-adds g c = record {
   order = runs_still c.args.task.now c.args.head.now c.args.session.now.entries (g.H.Host.log c.args.host.now);
 }
 
+pub returns-then-is_empty-clause-asks : goal.returns-then-is_empty-clause-asks
+returns-then-is_empty-clause-asks g c = (refl, refl)
+
 pub overflow_add-first : goal.overflow_add-first
-overflow_add-first g c = omega (arith, c.asks-first.ensures, c.requires.within, c.requires.runnable.fit.calls)
+overflow_add-first g c = omega (arith, c.asks-first.ensures, c.requires.may.within, c.requires.runnable.fit.calls)
 
 pub batch-requires-clause-ready : goal.batch-requires-clause-ready
 batch-requires-clause-ready g c =
@@ -84,7 +89,7 @@ batch-requires-clause-ready g c =
     }) c.queue-2.result.now c.as_slice-3.result.now c.queue-2.ensures
     (subst (λ asks. AreDuesOf c.queue-2.result.now asks c.as_slice-3.result.now) c.as_slice-2.ensures.value
     (subst (AreDuesOf c.queue-2.result.now c.as_slice-2.result.now) (sym c.as_slice-3.ensures.value) c.in_ok-dues.ensures))
-    c.requires.progress
+    c.requires.may.progress
 
 pub returns-in_err-batch-clause-stopped : goal.returns-in_err-batch-clause-stopped
 returns-in_err-batch-clause-stopped g c =
@@ -135,7 +140,7 @@ returns-in-CallsSpent-clause-ran g c = λ sent is.
     (some_from (length c.in_ok-asks.asks.items) (λ none. eqb-false (length c.as_slice.result.now) 0
     (sym c.is_empty.ensures ∙ c.if-is_empty.false) (ap length c.as_slice.ensures.value ∙ none)))
     sent is new c.args.gone.now c.args.tried.now c.args.tried.now CallsSpent
-    (subst (RanBatch task head dues s new) c.in-CallsSpent.is c.in_ok-batch.ensures.ran) c.requires.within
+    (subst (RanBatch task head dues s new) c.in-CallsSpent.is c.in_ok-batch.ensures.ran) c.requires.may.within refl
     (λ e. absurd (let bad : CallsSpent ≡ Done = e in cc)) (λ e. absurd (let bad : CallsSpent ≡ Done = e in cc))
 
 pub returns-in-CallsSpent-clause-asks : goal.returns-in-CallsSpent-clause-asks
@@ -161,7 +166,8 @@ returns-in-CallsSpent-clause-asks g c =
     head
     (some_from (length c.in_ok-asks.asks.items) (λ none. eqb-false (length c.as_slice.result.now) 0
     (sym c.is_empty.ensures ∙ c.if-is_empty.false) (ap length c.as_slice.ensures.value ∙ none)))
-    c.requires.progress.0 c.requires.progress.1 new CallsSpent ran c.requires.within
+    c.requires.may.progress.0 c.requires.may.progress.1 new (g.H.Host.log c.args.host.now) (g.H.Host.log c.batch.new.host) CallsSpent ran
+    c.requires.may.within
     (λ spent. spent_sure head task new (length s.asked) (length dues) CallsSpent e.rests.works.listens.working e.rests.works.learnt
     e.rests.works.listens.session e.rests.works.of refl ran.ends)
 
@@ -208,7 +214,7 @@ returns-in_err-note-in-Done-clause-stopped g c =
     (some_from (length c.in_ok-asks.asks.items) (λ none. eqb-false (length c.as_slice.result.now) 0
     (sym c.is_empty.ensures ∙ c.if-is_empty.false) (ap length c.as_slice.ensures.value ∙ none)))
     sent is new c.args.gone.now c.args.tried.now c.args.tried.now Done ran (all_work head.pools c.requires.runnable.fit.pools.some)
-    c.requires.within refl)))
+    c.requires.may.within refl)))
 
 pub returns-clause-ran : goal.returns-clause-ran
 returns-clause-ran g c = λ sent is.
@@ -237,7 +243,7 @@ returns-clause-ran g c = λ sent is.
     let noted = c.in_ok-note-in-Done.ensures in
     ran_next task s works.listens.working works.learnt works.listens.session c.args.gone.now entries asks chosen
     c.queue-2.result.now dues c.queue-2.ensures of head some sent is new c.note.new.gone c.args.tried.now c.note.new.tried Done ran
-    c.requires.within
+    c.requires.may.within c.note.ensures.real
     (λ done. noted_next task s works.listens.working works.learnt works.listens.session c.args.gone.now entries asks chosen
     c.queue-2.result.now dues c.queue-2.ensures of head some sent is new c.note.new.gone c.args.tried.now c.note.new.tried Done ran
     new.known.names (c.asks-first.result + 1) (length c.entries-from.result.now) refl
@@ -247,7 +253,8 @@ returns-clause-ran g c = λ sent is.
     (subst (λ list. NotesAnswers new.known.names (drop (length c.entries-from.result.now) new.entries)
     (c.asks-first.result + 1) list c.args.gone.now
     c.note.new.gone) c.as_slice-in-Done.ensures.value noted.noted))
-    (λ done. noted.joined ∙ ap (λ list. c.args.tried.now ++ asked_instances list) c.as_slice-in-Done.ensures.value)
+    (λ done. noted.joined ∙ ap (λ list. c.args.tried.now ++ instances_of list)
+    (c.as_slice-in-Done-2.ensures.value ∙ sym c.as_slice-3.ensures.value))
 
 pub returns-clause-asks : goal.returns-clause-asks
 returns-clause-asks g c =
@@ -270,6 +277,6 @@ returns-clause-asks g c =
     head
     (some_from (length c.in_ok-asks.asks.items) (λ none. eqb-false (length c.as_slice.result.now) 0
     (sym c.is_empty.ensures ∙ c.if-is_empty.false) (ap length c.as_slice.ensures.value ∙ none)))
-    c.requires.progress.0 c.requires.progress.1 new Done
-    (subst (RanBatch task head dues s new) c.in-Done.is c.in_ok-batch.ensures.ran) c.requires.within
+    c.requires.may.progress.0 c.requires.may.progress.1 new (g.H.Host.log c.args.host.now) (g.H.Host.log c.batch.new.host) Done
+    (subst (RanBatch task head dues s new) c.in-Done.is c.in_ok-batch.ensures.ran) c.requires.may.within
     (λ e. absurd (let bad : Done ≡ CallsSpent = e in cc))

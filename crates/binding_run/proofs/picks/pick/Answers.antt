@@ -1,11 +1,11 @@
 use Rattle.std.proofs.Common.{◌≡◌, ◌⊎◌, ◌++◌, ◌∷◌, ◌∙◌, ◌+◌, [], List, sym, subst, ap, arith, length, get_or, refl}
 use Rattle.binding_run.proofs.PickLemmas.{front_given_up, pick_front, ran_asked, ran_given_up}
-use Rattle.binding_run.proofs.SkeletonLemmas.{item_is, item_within, same_item}
+use Rattle.skeletons.specs.Skeletons.{skeletons_in}
+use Rattle.skeletons.proofs.SkeletonLemmas.{item_is, item_within, same_item}
 use Rattle.binding_run.proofs.StoppingLemmas.{stopped_turn_on, stopped_turn_wider}
-use Rattle.binding_run.proofs.StretchLemmas.{advances_on}
 use Rattle.binding_run.specs.Batching.{IsFrontBehindLine, RanBehindLine}
-use Rattle.binding_run.specs.Skeletons.{IsFrontOfPick, keeping, skeletons_in}
-use Rattle.level_run.proofs.AdvancingLemmas.{mark_advances, quiet_turn}
+use Rattle.binding_run.specs.Skeletons.{IsFrontOfPick, kept_of}
+use Rattle.level_run.proofs.AdvancingLemmas.{advances_on, mark_advances, quiet_turn}
 use Rattle.level_run.proofs.TurnsLevelLemmas.{rests_marked}
 use Rattle.level_run.specs.Advancing.{TurnBreaks}
 use Rattle.level_run.specs.Turns.{opens_requests}
@@ -46,7 +46,7 @@ returns-in_err-ended-clause-stopped g c =
     let place = c.args.place in
     let may = c.requires.may in
     let items = c.args.skeletons.now.items in
-    let kept = keeping items c.args.tried.now in
+    let kept = kept_of items c.args.tried.now in
     let fault = c.in_err-ended.field-0.0 in
     let line = entry.Pick (place + 1) in
     let same = item_is items place c.index-list-place.result may.skeleton may.picked.there
@@ -92,7 +92,7 @@ returns-then-now-made-clause-ran g c =
     (ap (λ x. x.real) same)
     (subst (λ list. RanBehindLine head task c.index-list-place.result.real list line s new tried joined c.in_ok-ended.ended)
     (c.as_slice-entries.ensures.value ∙ ap (λ x. x.entries) same) e.ran) in
-    ran_asked head task (keeping items tried) s.entries place may.skeleton may.picked s new refl may.left
+    ran_asked head task (kept_of items tried) s.entries place may.skeleton may.picked s new refl may.left
     c.requires.rests.works.listens.session.counted e.rests.works.listens.session.counted joined c.in_ok-ended.ended ran
     (λ equal. c.if-now-made.true (c.asks-now.ensures ∙ equal ∙ sym c.asks-made.ensures))
     (skeletons_in c.count.new.skeletons.items) (c.count.ensures may.skeleton may.picked.there) c.turned.result c.turned.ensures.done
@@ -109,7 +109,7 @@ returns-in_err-mark-clause-stopped g c =
     let items = c.args.skeletons.now.items in
     let tried = c.args.tried.now in
     let joined = c.run_behind.new.tried in
-    let kept = keeping items tried in
+    let kept = kept_of items tried in
     let line = entry.Pick (place + 1) in
     let last = entry.Retire (place + 1) in
     let e = c.in_ok-ended.ensures in
@@ -169,7 +169,7 @@ returns-clause-ran g c =
     (ap (λ x. x.real) same)
     (subst (λ list. RanBehindLine head task c.index-list-place.result.real list line s new tried joined c.in_ok-ended.ended)
     (c.as_slice-entries.ensures.value ∙ ap (λ x. x.entries) same) e.ran) in
-    ran_given_up head task (keeping items tried) s.entries place may.skeleton may.picked s new refl may.left
+    ran_given_up head task (kept_of items tried) s.entries place may.skeleton may.picked s new refl may.left
     c.requires.rests.works.listens.session.counted e.rests.works.listens.session.counted joined c.in_ok-ended.ended ran
     (sym c.asks-now.ensures ∙ c.if-now-made.false ∙ c.asks-made.ensures) c.mark.new.session c.in_ok-mark.ensures.marked.entries
     (skeletons_in c.count-2.new.skeletons.items) (c.count-2.ensures may.skeleton may.picked.there)

@@ -1,7 +1,7 @@
 use Rattle.std.proofs.Common.{◌≡◌, ◌⊎◌, ◌++◌, ◌∷◌, ◌∙◌, [], List, sym, subst, ap, append_assoc, arith, length, refl}
 use Rattle.std.proofs.lemmas.Result.{IfErr-weaker, IfOk-weaker}
 use Rattle.binding_run.proofs.PickLemmas.{behind_pick_front, behind_pick_marked}
-use Rattle.binding_run.specs.Skeletons.{IsFrontBehindPick, IsFrontOfPick, keeping}
+use Rattle.binding_run.specs.Skeletons.{IsFrontBehindPick, IsFrontOfPick, kept_of}
 use Rattle.level_run.proofs.AdvancingLemmas.{marked_advances, marked_turn_breaks, quiet_turn, turn_breaks_as}
 use Rattle.level_run.proofs.TurnsLevelLemmas.{rests_marked}
 use Rattle.level_run.specs.Advancing.{TurnBreaks}
@@ -41,7 +41,7 @@ returns-clause-ran g c =
     let head = c.args.head.now in
     let task = c.args.task.now in
     let line = c.args.line in
-    let kept = keeping c.args.skeletons.now.items c.args.tried.now in
+    let kept = kept_of c.args.skeletons.now.items c.args.tried.now in
     let marked = c.in_ok-mark.ensures.marked in
     IfOk-weaker c.pick.result _ _ (λ t ran. record {
       now = line ∷ ran.now;
@@ -80,7 +80,7 @@ returns-clause-stopped g c =
     let head = c.args.head.now in
     let task = c.args.task.now in
     let line = c.args.line in
-    let kept = keeping c.args.skeletons.now.items c.args.tried.now in
+    let kept = kept_of c.args.skeletons.now.items c.args.tried.now in
     let spoken = g.H.Host.spoken c.pick.new.host in
     let marked = c.in_ok-mark.ensures.marked in
     let behind = IsFrontBehindPick head task kept s.entries line in
@@ -108,7 +108,7 @@ returns-in_err-mark-clause-stopped g c =
     let head = c.args.head.now in
     let task = c.args.task.now in
     let line = c.args.line in
-    let kept = keeping c.args.skeletons.now.items c.args.tried.now in
+    let kept = kept_of c.args.skeletons.now.items c.args.tried.now in
     let fault = c.in_err-mark.field-0.0 in
     let spoken = g.H.Host.spoken c.args.host.now in
     let stopped =

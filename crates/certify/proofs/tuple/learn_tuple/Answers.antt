@@ -1,7 +1,9 @@
 use Rattle.std.proofs.Common.{◌≡◌, ◌++◌, sym, subst, ◌∙◌, All, map, length, ◌≤◌, arith}
 use Rattle.certify.proofs.FitStreamLemmas.{ArePlain, fit_parts, few_args, plain_certified}
 use Rattle.certify.proofs.OutputsLemmas.{named_in, named_long, all_in_names_kept, names_grow}
+use Rattle.certify.proofs.TuplesLemmas.{AreGiven, atoms_part, some_named, types_part, types_whole}
 use Rattle.certify.proofs.tuple.learn_tuple.Goals as goal
+use Rattle.lemmas.proofs.Results.{on_err}
 use Rattle.transcript_model.specs.Names.{generated}
 use Rattle.task_model.proofs.KnownLemmas.{facts_then}
 use Rattle.task_model.specs.Known.{IsIn, with_facts, with_names}
@@ -67,8 +69,8 @@ learn_atoms-requires-clause-readable c = (plain c).readable
 pub learn_atoms-requires-clause-named : goal.learn_atoms-requires-clause-named
 learn_atoms-requires-clause-named c = (plain c).named
 
-pub returns : goal.returns
-returns c =
+pub returns-clause-all : goal.returns-clause-all
+returns-clause-all c =
     let args : c.as_slice-5.result.now ≡ c.args.inputs.now ++ c.in_ok-outputs.outputs =
     c.as_slice-5.ensures.value ∙ c.in_ok-extend_from_slice.ensures.items
     ∙ (λ i. c.in_ok-args.ensures.items i ++ c.as_slice-3.ensures i) in
@@ -88,3 +90,80 @@ returns c =
           (map (fact_of (slots_of (c.args.inputs.now ++ c.in_ok-outputs.outputs))) c.args.stream.now.certified));
       values = c.in_ok-learn_atoms.ensures.values ∙ c.in_ok-learn_types.ensures.values ∙ c.in_ok-outputs.ensures.values;
     }
+
+-- ---- where memory is wanting
+
+pub returns-in_err-outputs-clause-part : goal.returns-in_err-outputs-clause-part
+returns-in_err-outputs-clause-part c =
+    on_err c.from_residual.result _
+    (some_named c.args.domain.now c.args.stream.now c.args.inputs.now c.args.values.now c.args.facts.now.known
+    c.name_outputs.new.facts.known c.in_err-outputs.ensures.part c.name_outputs.ensures.facts c.name_outputs.ensures.values)
+
+pub returns-in_err-learn_types-clause-part : goal.returns-in_err-learn_types-clause-part
+returns-in_err-learn_types-clause-part c =
+    let given : AreGiven c.args.values.now c.args.facts.now.known c.name_outputs.new.facts.known c.in_ok-outputs.outputs =
+    record {
+      names = c.in_ok-outputs.ensures.names;
+      distinct = c.name_outputs.new.facts.coherent.names;
+      outputs_named = c.in_ok-outputs.ensures.objects;
+      facts = c.name_outputs.ensures.facts;
+      values = c.name_outputs.ensures.values;
+    } in
+    on_err c.from_residual-in_err-learn_types.result _
+    (types_part c.args.domain.now c.args.stream.now c.args.inputs.now c.args.values.now c.args.facts.now.known
+    c.name_outputs.new.facts.known c.learn_types.new.facts.known c.in_ok-outputs.outputs given
+    c.learn_types.ensures.names c.learn_types.ensures.values
+    c.as_slice.result.now c.as_slice-2.result.now c.as_slice.ensures c.as_slice-2.ensures c.in_err-learn_types.ensures.part)
+
+pub returns-in_err-args-clause-part : goal.returns-in_err-args-clause-part
+returns-in_err-args-clause-part c =
+    let given : AreGiven c.args.values.now c.args.facts.now.known c.name_outputs.new.facts.known c.in_ok-outputs.outputs =
+    record {
+      names = c.in_ok-outputs.ensures.names;
+      distinct = c.name_outputs.new.facts.coherent.names;
+      outputs_named = c.in_ok-outputs.ensures.objects;
+      facts = c.name_outputs.ensures.facts;
+      values = c.name_outputs.ensures.values;
+    } in
+    on_err c.from_residual-in_err-args.result _
+    (types_whole c.args.domain.now c.args.stream.now c.args.inputs.now c.args.values.now c.args.facts.now.known
+    c.name_outputs.new.facts.known c.learn_types.new.facts.known c.in_ok-outputs.outputs given
+    c.learn_types.ensures.names c.learn_types.ensures.values
+    c.as_slice.result.now c.as_slice-2.result.now c.as_slice.ensures c.as_slice-2.ensures c.in_ok-learn_types.ensures.facts)
+
+pub returns-in_err-extend_from_slice-clause-part : goal.returns-in_err-extend_from_slice-clause-part
+returns-in_err-extend_from_slice-clause-part c =
+    let given : AreGiven c.args.values.now c.args.facts.now.known c.name_outputs.new.facts.known c.in_ok-outputs.outputs =
+    record {
+      names = c.in_ok-outputs.ensures.names;
+      distinct = c.name_outputs.new.facts.coherent.names;
+      outputs_named = c.in_ok-outputs.ensures.objects;
+      facts = c.name_outputs.ensures.facts;
+      values = c.name_outputs.ensures.values;
+    } in
+    on_err c.from_residual-in_err-extend_from_slice.result _
+    (types_whole c.args.domain.now c.args.stream.now c.args.inputs.now c.args.values.now c.args.facts.now.known
+    c.name_outputs.new.facts.known c.learn_types.new.facts.known c.in_ok-outputs.outputs given
+    c.learn_types.ensures.names c.learn_types.ensures.values
+    c.as_slice.result.now c.as_slice-2.result.now c.as_slice.ensures c.as_slice-2.ensures c.in_ok-learn_types.ensures.facts)
+
+pub returns-in_err-learn_atoms-clause-part : goal.returns-in_err-learn_atoms-clause-part
+returns-in_err-learn_atoms-clause-part c =
+    let given : AreGiven c.args.values.now c.args.facts.now.known c.name_outputs.new.facts.known c.in_ok-outputs.outputs =
+    record {
+      names = c.in_ok-outputs.ensures.names;
+      distinct = c.name_outputs.new.facts.coherent.names;
+      outputs_named = c.in_ok-outputs.ensures.objects;
+      facts = c.name_outputs.ensures.facts;
+      values = c.name_outputs.ensures.values;
+    } in
+    let args : c.as_slice-5.result.now ≡ c.args.inputs.now ++ c.in_ok-outputs.outputs =
+    c.as_slice-5.ensures.value ∙ c.in_ok-extend_from_slice.ensures.items
+    ∙ (λ i. c.in_ok-args.ensures.items i ++ c.as_slice-3.ensures i) in
+    on_err c.from_residual-in_err-learn_atoms.result _
+    (atoms_part c.args.domain.now c.args.stream.now c.args.inputs.now c.args.values.now c.args.facts.now.known
+    c.name_outputs.new.facts.known c.learn_atoms.new.facts.known c.in_ok-outputs.outputs given
+    (c.learn_atoms.ensures.names ∙ c.learn_types.ensures.names)
+    (c.learn_atoms.ensures.values ∙ c.learn_types.ensures.values) c.learn_types.new.facts.known.facts
+    c.as_slice.result.now c.as_slice-2.result.now c.as_slice-5.result.now c.as_slice-4.result.now c.as_slice.ensures c.as_slice-2.ensures
+    c.in_ok-learn_types.ensures.facts args c.as_slice-4.ensures c.in_err-learn_atoms.ensures.part)

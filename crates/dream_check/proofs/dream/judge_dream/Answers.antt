@@ -1,5 +1,6 @@
 use Rattle.std.proofs.Common.{◌≤◌, ◌∙◌, length, sym, subst}
-use Rattle.dreaming.proofs.AfterLemmas.{listed, names_enough, names_real, ok_map}
+use Rattle.std.proofs.lemmas.Result.{IfOk-weaker}
+use Rattle.dreaming.proofs.AfterLemmas.{listed, names_enough, names_real}
 use Rattle.optimistic_set.specs.Dreamable.{AreReal}
 use Rattle.optimistic_set.specs.Faults.{ComesOf}
 use Rattle.optimistic_set.specs.declared.fault.OptimisticFault.{OptimisticFault}
@@ -43,7 +44,7 @@ returns-in-Ok c = λ limits before deep h.
     c.in-Ok.ensures.plain in
     let so =
     supposed_after limits task before tried ledger h c.from-depth.result (deep ∙ sym c.from-depth.ensures) d.list c.in-Ok.ensures.list in
-    ok_map c.judge_over.result (IsJudgedOver task d c.args.uses.now c.args.steps.now)
+    IfOk-weaker c.judge_over.result (IsJudgedOver task d c.args.uses.now c.args.steps.now)
     (IsDreamJudged limits task before tried c.args.uses.now c.args.steps.now)
     (λ x said. dream_judged limits task before tried d all (c.in-Ok.ensures.base ∙ h.known) so
     (coherent limits.version task before h.fit h.legal) c.args.uses.now c.args.steps.now x c.requires.some said) c.judge_over.ensures

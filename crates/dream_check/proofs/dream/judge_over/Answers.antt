@@ -1,5 +1,5 @@
 use Rattle.std.proofs.Common.{inl, inr, refl, subst}
-use Rattle.dreaming.proofs.AfterLemmas.{ok_map}
+use Rattle.std.proofs.lemmas.Result.{IfOk-weaker}
 use Rattle.dream_check.specs.Listed.{AreTaken, IsJudgedOver, IsPartJudged}
 use Rattle.dream_check.proofs.dream.judge_over.Goals as goal
 
@@ -20,5 +20,5 @@ returns c =
     let task = c.args.task.now in
     let d = c.args.supposed.now in
     let taken = subst (AreTaken task d c.args.uses.now) c.in-All.is c.in_ok-place.ensures in
-    ok_map c.judge_part.result (IsPartJudged task d c.in-All.part.places c.args.steps.now)
+    IfOk-weaker c.judge_part.result (IsPartJudged task d c.in-All.part.places c.args.steps.now)
     (IsJudgedOver task d c.args.uses.now c.args.steps.now) (λ x said. inr (c.in-All.part.places, taken.0, said)) c.judge_part.ensures

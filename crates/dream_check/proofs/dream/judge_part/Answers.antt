@@ -11,7 +11,8 @@ pub returns-in-Stops : goal.returns-in-Stops
 returns-in-Stops c =
     let l = c.args.listing.now in
     let p = c.args.part in
-    subst (λ (k : Known). IsFollowed l.task.now k c.args.steps.now (Stops c.in-Stops.place)) (part_known l.task.now l.supposed.now p.places p c.requires.part)
+    subst (λ (k : Known). IsFollowed l.task.now k c.args.steps.now (Stops c.in-Stops.place))
+    (part_known l.task.now l.supposed.now p.places p c.requires.part)
     (subst (IsFollowed l.task.now p.known c.args.steps.now) c.in-Stops.is c.in_ok-place.ensures)
 
 pub returns-in-Misses : goal.returns-in-Misses
@@ -35,7 +36,8 @@ judge_plan-requires-clause-plan c =
     let l = c.args.listing.now in
     let p = c.args.part in
     let plan =
-    subst (λ (k : Known). IsFollowed l.task.now k c.args.steps.now Reaches) (part_known l.task.now l.supposed.now p.places p c.requires.part)
+    subst (λ (k : Known). IsFollowed l.task.now k c.args.steps.now Reaches)
+    (part_known l.task.now l.supposed.now p.places p c.requires.part)
     (subst (IsFollowed l.task.now p.known c.args.steps.now) c.in-Reaches.is c.in_ok-place.ensures) in
     subst (λ (ps : List ℕ). (cost : ℕ) × IsPlan l.task.now (known_with l.task.now l.supposed.now ps) c.args.steps.now cost)
     (sym (c.as_slice.ensures.value ∙ c.into_places-places.ensures)) plan

@@ -1,6 +1,6 @@
 use Rattle.std.proofs.Common.{◌+◌, ◌∙◌, drop, sym, ap}
+use Rattle.std.proofs.lemmas.List.{take_rest}
 use Rattle.dreaming.proofs.PartLemmas.{part_known}
-use Rattle.dreaming.proofs.PlacesLemmas.{rest_whole}
 use Rattle.dreaming.specs.Thinning.{supported_places}
 use Rattle.task_model.specs.Known.{Known}
 use Rattle.dream_check.proofs.NeededLemmas.{known_of_rest, needed_where}
@@ -27,7 +27,7 @@ returns c =
     let places = c.args.places.now in
     let place = c.args.place in
     let rest =
-    ap (supported_places l.task.now d.base d.list c.in_ok-part.part.places) (rest_whole places (place + 1))
+    ap (supported_places l.task.now d.base d.list c.in_ok-part.part.places) (take_rest places (place + 1))
     ∙ ap (λ ps. supported_places l.task.now d.base d.list ps (drop (place + 1) places)) c.in_ok-part.ensures.places_are in
     let known =
     c.look.ensures

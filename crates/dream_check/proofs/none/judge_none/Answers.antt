@@ -1,5 +1,6 @@
 use Rattle.std.proofs.Common.{◌≤◌, ◌∙◌, ℕ, length, sym, subst}
-use Rattle.dreaming.proofs.AfterLemmas.{listed, names_enough, names_real, ok_map}
+use Rattle.std.proofs.lemmas.Result.{IfOk-weaker}
+use Rattle.dreaming.proofs.AfterLemmas.{listed, names_enough, names_real}
 use Rattle.optimistic_set.specs.Dreamable.{AreReal}
 use Rattle.optimistic_set.specs.Faults.{ComesOf}
 use Rattle.optimistic_set.specs.declared.fault.OptimisticFault.{OptimisticFault}
@@ -38,7 +39,7 @@ returns-in-Ok c = λ limits before deep same h.
     c.in-Ok.ensures.plain in
     let so =
     supposed_after limits task before tried ledger h c.from-depth.result (deep ∙ sym c.from-depth.ensures) d.list c.in-Ok.ensures.list in
-    ok_map c.judge_list.result (IsNoneOver task c.look.result.known c.args.states c.args.limit)
+    IfOk-weaker c.judge_list.result (IsNoneOver task c.look.result.known c.args.states c.args.limit)
     (IsNoneJudged limits task before tried c.args.limit)
     (λ x said. none_judged limits c.args.limit task before tried d all (c.in-Ok.ensures.base ∙ h.known) so x
     (subst (λ (n : ℕ). IsNoneOver task d.known n c.args.limit x) (sym same)

@@ -28,6 +28,6 @@ returns-in-None c = λ e at.
     let l = c.args.listing.now in (
       λ yes. absurd (cc),
       λ shown.
-          absurd (shown_nowhere l.task.now l.supposed.now c.requires.listing c.args.table.now c.requires.names c.args.place e at c.args.call.now
-          (sym c.in_ok-other.ensures ∙ c.in-None.is) shown),
+          absurd (shown_nowhere l.task.now l.supposed.now c.requires.listing c.args.table.now c.requires.names c.args.place e at
+          c.args.call.now (sym c.in_ok-other.ensures ∙ c.in-None.is) shown),
     )

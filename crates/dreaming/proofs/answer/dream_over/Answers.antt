@@ -3,7 +3,8 @@ use Rattle.best_first.specs.Answer.{HasPlan, IsFoundPlan, IsNothing, IsLimit}
 use Rattle.best_first.specs.declared.found.Found.{Found}
 use Rattle.task_model.specs.Known.{Known}
 use Rattle.task_model.specs.Plans.{IsValid, IsSolvable, IsFar}
-use Rattle.dreaming.proofs.AfterLemmas.{ok_map, thin_comes}
+use Rattle.dreaming.proofs.AfterLemmas.{thin_comes}
+use Rattle.std.proofs.lemmas.Result.{IfOk-weaker}
 use Rattle.dreaming.specs.Answers.{IsThinDream, ComesOfList}
 use Rattle.dreaming.proofs.answer.dream_over.Goals as goal
 
@@ -25,7 +26,7 @@ returns-in-Plan c =
     let d = c.args.supposed.now in
     let found : IsFoundPlan task c.look-look.result.known c.args.states c.in-Plan.plan.steps c.in-Plan.cost =
     subst (λ (f : Found). HasPlan task c.look-look.result.known c.args.states f) c.in-Plan.is c.in_ok-plan.ensures.plan in
-    ok_map c.thinned.result (IsThinDream task d c.in-Plan.plan.steps) (ComesOfList task d c.args.states)
+    IfOk-weaker c.thinned.result (IsThinDream task d c.in-Plan.plan.steps) (ComesOfList task d c.args.states)
     (thin_comes task d c.in-Plan.plan.steps c.args.states found.few) c.thinned.ensures
 
 pub returns-in-Nothing : goal.returns-in-Nothing

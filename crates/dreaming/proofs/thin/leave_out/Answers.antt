@@ -26,7 +26,8 @@ loop-from-preserved c =
             c.saturating_add.ensures,
             c.min-to.ensures,
           ) in
-          needed_next trial.listing.task.now trial.listing.supposed.now trial.plan.now.steps places from to next (c.loop-from.invariant.needed none one)
+          needed_next trial.listing.task.now trial.listing.supposed.now trial.plan.now.steps places from to next
+          (c.loop-from.invariant.needed none one)
           (subst (λ (o : Option Kept). IfNone o (AreNeeded trial places from to)) c.in-None.is c.in_ok-fewer.ensures.needed);
     }
 

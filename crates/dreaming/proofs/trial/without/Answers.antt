@@ -1,9 +1,10 @@
 use Rattle.std.proofs.Common.{ℕ, ◌-◌, ◌<◌, ◌∙◌, List, length, take, drop, refl, sym, ap, subst, arith, Option, Contains}
+use Rattle.std.proofs.lemmas.List.{take_rest}
 use Rattle.std.specs.Prelude.{IfSome, IfNone}
 use Rattle.task_model.specs.Plans.{IsValid}
 use Rattle.dreaming.proofs.KeptLemmas.{kept_is, without_fewer, essential_needed}
 use Rattle.dreaming.proofs.PartLemmas.{part_valid, part_not_valid}
-use Rattle.dreaming.proofs.PlacesLemmas.{AreBelow, below_rest, rest_whole}
+use Rattle.dreaming.proofs.PlacesLemmas.{AreBelow, below_rest}
 use Rattle.dreaming.specs.Thinning.{IsPartAt, IsValidWith, supported_places, places_without}
 use Rattle.dreaming.proofs.trial.without.Goals as goal
 
@@ -18,8 +19,9 @@ returns-then-wants_some-clause-needed c =
 pub take_supported-requires-clause-below : goal.take_supported-requires-clause-below
 take_supported-requires-clause-below c =
     let list = c.args.trial.now.listing.supposed.now.list in
-    subst (AreBelow list) (sym (rest_whole c.as_slice-places.result.now c.args.to))
-    (below_rest list c.as_slice-places.result.now c.args.to (subst (AreBelow list) (sym c.as_slice-places.ensures.value) c.requires.kept.below))
+    subst (AreBelow list) (sym (take_rest c.as_slice-places.result.now c.args.to))
+    (below_rest list c.as_slice-places.result.now c.args.to
+    (subst (AreBelow list) (sym c.as_slice-places.ensures.value) c.requires.kept.below))
 
 pub returns-in-Some-clause-kept : goal.returns-in-Some-clause-kept
 returns-in-Some-clause-kept c =
@@ -30,7 +32,7 @@ returns-in-Some-clause-kept c =
     let h = c.in_ok-take_supported.ensures in
     let here : IsPartAt task d p.places p = record { part = h.part; base = h.base; list = h.list; places_are = refl } in
     let are = c.into_places.ensures ∙ h.places_are
-    ∙ ap (supported_places task d.base d.list c.in_ok-part.part.places) (rest_whole c.as_slice-places.result.now c.args.to)
+    ∙ ap (supported_places task d.base d.list c.in_ok-part.part.places) (take_rest c.as_slice-places.result.now c.args.to)
     ∙ ap (λ ps. supported_places task d.base d.list ps (drop c.args.to c.as_slice-places.result.now)) c.in_ok-part.ensures.places_are
     ∙ ap (λ (ps : List ℕ). places_without task d.base d.list ps c.args.from c.args.to) c.as_slice-places.ensures.value in
     let valid : IsValid task p.known steps c.in-Some.cost =
@@ -44,7 +46,7 @@ returns-in-Some-clause-fewer c =
     let task = c.args.trial.now.listing.task.now in
     let d = c.args.trial.now.listing.supposed.now in
     let are = c.into_places.ensures ∙ c.in_ok-take_supported.ensures.places_are
-    ∙ ap (supported_places task d.base d.list c.in_ok-part.part.places) (rest_whole c.as_slice-places.result.now c.args.to)
+    ∙ ap (supported_places task d.base d.list c.in_ok-part.part.places) (take_rest c.as_slice-places.result.now c.args.to)
     ∙ ap (λ ps. supported_places task d.base d.list ps (drop c.args.to c.as_slice-places.result.now)) c.in_ok-part.ensures.places_are
     ∙ ap (λ (ps : List ℕ). places_without task d.base d.list ps c.args.from c.args.to) c.as_slice-places.ensures.value in
     subst (λ (ps : List ℕ). length ps < length c.args.kept.now.places.items) (sym are)
@@ -58,7 +60,7 @@ returns-in-None-clause-needed c =
     let p = c.take_supported.new.part in
     let h = c.in_ok-take_supported.ensures in
     let are =
-    ap (supported_places task d.base d.list c.in_ok-part.part.places) (rest_whole c.as_slice-places.result.now c.args.to)
+    ap (supported_places task d.base d.list c.in_ok-part.part.places) (take_rest c.as_slice-places.result.now c.args.to)
     ∙ ap (λ ps. supported_places task d.base d.list ps (drop c.args.to c.as_slice-places.result.now)) c.in_ok-part.ensures.places_are
     ∙ ap (λ (ps : List ℕ). places_without task d.base d.list ps c.args.from c.args.to) c.as_slice-places.ensures.value in
     let not =

@@ -2,11 +2,10 @@ use Rattle.std.proofs.Common.{◌≡◌, ◌⊎◌, ◌++◌, ◌∷◌, [], inl
 use Rattle.std.proofs.lemmas.Result.{IfErr-weaker}
 use Rattle.std.specs.Option.{option_copied}
 use Rattle.report_text.specs.Texts.{text_of_entry}
-use Rattle.round_run.specs.Pieces.{CutOff}
+use Rattle.report_text.specs.Prints.{CutOff}
 use Rattle.level_run.proofs.TurnsLevelLemmas.{mark_last, marked}
 use Rattle.round_run.proofs.DialogueMarkLemmas.{mark_legal}
-use Rattle.round_run.proofs.PiecesLemmas.{printed_part}
-use Rattle.round_run.proofs.StoppedLemmas.{handed, stopped_at, stopped_memory}
+use Rattle.round_run.proofs.StoppedLemmas.{handed, stopped_at, stopped_memory, write_part}
 use Rattle.round_run.proofs.TalkingLemmas.{dialogue_marked, dialogue_told}
 use Rattle.round_run.specs.declared.fault.RunFault.TheVariants.{Memory, Write}
 use Rattle.level_run.proofs.marks.mark.Goals as goal
@@ -36,4 +35,4 @@ returns-clause-stopped g c = λ task running kept spoken h told started.
     (dialogue_marked task s.version s.pools e c.requires.mark s.entries (length s.asked) running kept spoken h.counted started told)
     (λ is_write. inr refl)
     (subst (λ x. (fault ≡ Write) × CutOff (g.O.Sink.taken c.args.out.now) (g.O.Sink.taken c.print_entry.new.out) (text_of_entry x)) is
-    misses)) (printed_part c.print_entry.result _ _ _ c.print_entry.ensures.told)
+    misses)) (write_part c.print_entry.result _ _ _ c.print_entry.ensures.told c.print_entry.ensures.only)

@@ -1,9 +1,11 @@
-use Rattle.std.proofs.Common.{ap, arith, count_by, refl, sym, ◌∙◌}
+use Rattle.std.proofs.Common.{ap, arith, count_by, refl, subst, sym, ◌∙◌}
 use Rattle.io_world.specs.Faults.{last_count}
 use Rattle.transcript_model.specs.Legal.{is_level}
 use Rattle.round_run.proofs.CallsStopLemmas.{ran_of}
 use Rattle.level_run.proofs.ReportsLemmas.{broken_behind, broken_end, broken_head, broken_turns, reported, run_calls, told_so_far}
+use Rattle.level_run.proofs.TabledLemmas.{run_tabled}
 use Rattle.round_run.proofs.StoppedLemmas.{cause_handed, handed, handed_err, no_cause, written_cause, written_no_generator}
+use Rattle.round_run.specs.Stops.{MayWrite}
 use Rattle.round_run.specs.declared.fault.RunFault.TheVariants.{Generator, Memory, Write}
 use Rattle.level_run.proofs.mode_run.report.Goals as goal
 
@@ -12,20 +14,20 @@ returns-in_err-print_head-clause-broken g c =
     handed c.from_residual.result c.in_err-print_head.field-0.0 _ c.from_residual.ensures.1
     (broken_head c.args.task.now c.args.head.now (g.H.Host.spoken c.args.host.now) c.in_err-print_head.field-0.0
     (g.H.Host.log c.args.host.now) (g.O.Sink.taken c.args.out.now) (g.O.Sink.taken c.print_head.new.out)
-    c.in_err-print_head.ensures.part)
+    c.in_err-print_head.ensures.only c.in_err-print_head.ensures.told)
 
 pub returns-in_err-session-clause-broken : goal.returns-in_err-session-clause-broken
 returns-in_err-session-clause-broken g c =
     handed c.from_residual-in_err-session.result Memory _ c.from_residual-in_err-session.ensures.1
     (broken_behind c.args.task.now c.args.head.now (g.H.Host.spoken c.args.host.now) Memory (g.H.Host.log c.args.host.now)
-    (g.O.Sink.taken c.args.out.now) (g.O.Sink.taken c.print_head.new.out) c.in_ok-print_head.ensures.all refl)
+    (g.O.Sink.taken c.args.out.now) (g.O.Sink.taken c.print_head.new.out) c.in_ok-print_head.ensures.told refl)
 
 pub returns-in_err-outcome-clause-broken : goal.returns-in_err-outcome-clause-broken
 returns-in_err-outcome-clause-broken g c =
     handed c.from_residual-in_err-outcome.result c.in_err-outcome.field-0.0 _ c.from_residual-in_err-outcome.ensures.1
     (broken_turns c.args.task.now c.args.head.now (g.H.Host.spoken c.run_turns.new.host) c.in_err-outcome.field-0.0
     (g.H.Host.log c.args.host.now) (g.H.Host.log c.run_turns.new.host) (g.O.Sink.taken c.args.out.now)
-    (g.O.Sink.taken c.print_head.new.out) (g.O.Sink.taken c.run_turns.new.out) c.in_ok-print_head.ensures.all
+    (g.O.Sink.taken c.print_head.new.out) (g.O.Sink.taken c.run_turns.new.out) c.in_ok-print_head.ensures.told
     c.in_err-outcome.ensures.stopped)
 
 pub returns-in_err-print_end-clause-broken : goal.returns-in_err-print_end-clause-broken
@@ -36,11 +38,13 @@ returns-in_err-print_end-clause-broken g c =
     c.in_err-print_end.field-0.0 (g.H.Host.log c.args.host.now) (g.H.Host.log c.run_turns.new.host) (g.O.Sink.taken c.args.out.now)
     (g.O.Sink.taken c.run_turns.new.out) (g.O.Sink.taken c.print_end.new.out) c.in_ok-outcome.ensures.ran.run
     c.in_ok-outcome.ensures.ran.talks
+    (run_tabled c.args.task.now c.args.head.now entries c.in_ok-outcome.outcome (g.H.Host.spoken c.run_turns.new.host) c.requires.fit
+    c.requires.runnable.runnable c.in_ok-outcome.ensures.ran.run c.in_ok-outcome.ensures.ran.talks)
     c.in_ok-outcome.ensures.adds.order.runs c.in_ok-outcome.ensures.ran.needed
     (told_so_far c.args.task.now c.args.head.now (g.H.Host.spoken c.run_turns.new.host) entries (g.O.Sink.taken c.args.out.now)
-    (g.O.Sink.taken c.print_head.new.out) (g.O.Sink.taken c.run_turns.new.out) c.in_ok-print_head.ensures.all
+    (g.O.Sink.taken c.print_head.new.out) (g.O.Sink.taken c.run_turns.new.out) c.in_ok-print_head.ensures.told
     c.in_ok-outcome.ensures.adds.goes)
-    c.in_err-print_end.ensures.part)
+    c.in_err-print_end.ensures.only c.in_err-print_end.ensures.told)
 
 pub returns-clause-reported : goal.returns-clause-reported
 returns-clause-reported g c =
@@ -49,14 +53,16 @@ returns-clause-reported g c =
     c.count_levels.result c.asks.result (g.H.Host.log c.args.host.now) (g.H.Host.log c.run_turns.new.host) (g.O.Sink.taken c.args.out.now)
     (g.O.Sink.taken c.run_turns.new.out) (g.O.Sink.taken c.print_end.new.out) c.in_ok-outcome.ensures.ran.run
     c.in_ok-outcome.ensures.ran.talks
+    (run_tabled c.args.task.now c.args.head.now entries c.in_ok-outcome.outcome (g.H.Host.spoken c.run_turns.new.host) c.requires.fit
+    c.requires.runnable.runnable c.in_ok-outcome.ensures.ran.run c.in_ok-outcome.ensures.ran.talks)
     (ran_of c.args.task.now c.args.head.now entries (g.H.Host.log c.args.host.now)
     (g.H.Host.log c.run_turns.new.host) c.in_ok-outcome.ensures.adds.order.runs)
     (c.count_levels.ensures ∙ ap (count_by is_level) c.entries.ensures)
     (c.asks.ensures ∙ c.in_ok-outcome.ensures.ran.asks)
     (told_so_far c.args.task.now c.args.head.now (g.H.Host.spoken c.run_turns.new.host) entries (g.O.Sink.taken c.args.out.now)
-    (g.O.Sink.taken c.print_head.new.out) (g.O.Sink.taken c.run_turns.new.out) c.in_ok-print_head.ensures.all
+    (g.O.Sink.taken c.print_head.new.out) (g.O.Sink.taken c.run_turns.new.out) c.in_ok-print_head.ensures.told
     c.in_ok-outcome.ensures.adds.goes)
-    c.in_ok-print_end.ensures.all
+    c.in_ok-print_end.ensures.told
 
 pub returns-clause-untouched : goal.returns-clause-untouched
 returns-clause-untouched g c = λ none.
@@ -72,7 +78,7 @@ returns-in_err-print_end-clause-host g c =
     let fault = c.in_err-print_end.field-0.0 in
     let r = c.from_residual-in_err-print_end.result in
     no_cause Generator g.H.Host.last (g.H.Host.faults c.args.host.now) (g.H.Host.faults c.run_turns.new.host) c.run_turns.result fault r
-    c.run_turns.ensures.causes.host (written_no_generator fault c.in_err-print_end.ensures.only)
+    c.run_turns.ensures.causes.host (written_no_generator fault (subst MayWrite (sym c.in_err-print_end.ensures.only) tt))
     (handed_err r fault c.from_residual-in_err-print_end.ensures.1)
 
 pub returns-in_err-print_end-clause-sink : goal.returns-in_err-print_end-clause-sink

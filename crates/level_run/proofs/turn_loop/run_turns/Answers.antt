@@ -6,7 +6,7 @@ use Rattle.transcript_model.specs.declared.entry.Entry.{Entry}
 use Rattle.transcript_model.specs.declared.entry.Entry.TheVariants as entry
 use Rattle.transcript_model.specs.declared.outcome.LimitKind.TheVariants.{Calls}
 use Rattle.transcript_model.specs.declared.outcome.Outcome.TheVariants as outcome
-use Rattle.level_run.proofs.AdvancingLemmas.{adds_then, advances_none, measure_falls, quiet_turn, ran_turns, turn_breaks_as, turns_break}
+use Rattle.level_run.proofs.AdvancingLemmas.{adds_then, advances_none, measure_falls, quiet_turn, ran_turns, turn_breaks_as, turn_breaks_on}
 use Rattle.level_run.proofs.TurnsFrontLemmas.{run_between, run_inside}
 use Rattle.level_run.proofs.TurnsLemmas.{Standing, run_at, run_cut, standing_first, standing_next}
 use Rattle.level_run.proofs.TurnsLevelLemmas.{may_begin}
@@ -70,7 +70,7 @@ returns-in_err-decision-clause-stopped g c =
     (stopped_then head.version task (workers_in head) spoken (IsFrontOfRun head task) [] s.entries fault
     (g.O.Sink.taken c.args.out.now) (g.O.Sink.taken c.turns.out) (g.O.Sink.taken c.turns.out)
     (TurnBreaks task head [] fault first log) (TurnBreaks task head s.entries fault log log) i.adds.goes
-    (turns_break task head (IsFrontOfRun head task) s.entries i.adds.goes.more fault first log log i.adds.order i.adds.goes.pushed)
+    (turn_breaks_on task head (IsFrontOfRun head task) [] s.entries i.adds.goes.more fault first log log i.adds.order i.adds.goes.pushed)
     (stopped_memory head.version task (workers_in head) spoken (IsFrontOfRun head task) s.entries fault (g.O.Sink.taken c.turns.out)
     (TurnBreaks task head s.entries fault log log) legal (run_between head task _ s.entries i.standing legal) broken
     (quiet_turn task head (IsFrontOfRun head task) entry.Level refl s.entries fault log
@@ -106,7 +106,7 @@ returns-in_err-turn-clause-stopped g c =
     (stopped_then head.version task (workers_in head) spoken (IsFrontOfRun head task) [] s.entries fault
     (g.O.Sink.taken c.args.out.now) (g.O.Sink.taken c.turns.out) (g.O.Sink.taken c.turn.new.out)
     (TurnBreaks task head [] fault first log) (TurnBreaks task head s.entries fault was log) i.adds.goes
-    (turns_break task head (IsFrontOfRun head task) s.entries i.adds.goes.more fault first was log i.adds.order i.adds.goes.pushed)
+    (turn_breaks_on task head (IsFrontOfRun head task) [] s.entries i.adds.goes.more fault first was log i.adds.order i.adds.goes.pushed)
     (stopped_as head.version task (workers_in head) spoken (IsFrontOfRun head task) (IsFrontOfTurn task head kept s.entries)
     s.entries fault (g.O.Sink.taken c.turns.out) (g.O.Sink.taken c.turn.new.out)
     (TurnBreaks task head s.entries fault was log) (TurnBreaks task head s.entries fault was log) wider

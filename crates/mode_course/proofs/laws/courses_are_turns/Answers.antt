@@ -1,6 +1,6 @@
 use Rattle.std.proofs.Common.{[], length, arith}
+use Rattle.mode_course.proofs.StepsLemmas.{at_first_rest}
 use Rattle.mode_course.proofs.TurnedLemmas.{turned}
-use Rattle.mode_course.proofs.WholeLemmas.{at_first_rest}
 use Rattle.mode_course.specs.Places.{at_start}
 use Rattle.mode_turns.proofs.ModesLemmas.{of_mode}
 use Rattle.mode_course.proofs.laws.courses_are_turns.Goals as goal

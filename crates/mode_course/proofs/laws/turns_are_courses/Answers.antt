@@ -1,14 +1,14 @@
 use Rattle.std.proofs.Common.{[], refl}
 use Rattle.mode_course.proofs.TurnsLemmas.{turns_lead}
-use Rattle.mode_course.proofs.WholeLemmas.{at_first_rest}
+use Rattle.mode_course.proofs.StepsLemmas.{at_first_rest}
 use Rattle.mode_course.specs.Places.{at_start}
 use Rattle.mode_turns.proofs.ModesLemmas.{as_family}
 use Rattle.mode_turns.specs.Modes.{nothing_kept}
 use Rattle.mode_course.proofs.laws.turns_are_courses.Goals as goal
 
 pub returns : goal.returns
-returns c = λ limits task entries stage followed turns.
+returns c = λ limits task entries stage turns.
     let to =
-    turns_lead limits task followed nothing_kept [] entries stage at_start
+    turns_lead limits task nothing_kept [] entries stage at_start
     (as_family limits.mode limits task entries stage turns) refl at_first_rest in
     (to.last, to.leads, to.at)

@@ -3,7 +3,8 @@ use Rattle.pddlstream_app.proofs.AskedLemmas.{asked_closed, asked_completed, som
 use Rattle.pddlstream_app.proofs.HeadlineLemmas.{no_plan_printed, plan_printed}
 use Rattle.pddlstream_app.proofs.CausesLemmas.{other_stop, write_stop}
 use Rattle.pddlstream_app.proofs.RunsLemmas.{before_last, ends_closed, ends_completed, ends_written}
-use Rattle.pddlstream_app.proofs.CompleteLemmas.{answered_close, answered_outcome, sink_whole, stops_for_memory}
+use Rattle.pddlstream_app.proofs.CompleteLemmas.{completes_closed, completes_cut, completes_done, sink_whole}
+use Rattle.pddlstream_app.specs.declared.status.Status.TheVariants.{WriteFault}
 use Rattle.pddlstream_app.proofs.command.run.Goals as goal
 
 pub returns-in-Ok-clause-ends : goal.returns-in-Ok-clause-ends
@@ -54,20 +55,17 @@ returns-then-is_write-clause-asked g c =
     some_before _ _ c.in-Err.stop c.in-Err.ensures.asked_before
 
 pub returns-in-Ok-clause-complete : goal.returns-in-Ok-clause-complete
-returns-in-Ok-clause-complete g c =
-    λ well. answered_outcome well c.in-Ok.status c.in-Ok.ensures.completed
+returns-in-Ok-clause-complete g c = completes_done c.in-Ok.status c.in-Ok.ensures.completed
 
 pub returns-then-is_write-clause-complete : goal.returns-then-is_write-clause-complete
-returns-then-is_write-clause-complete g c = λ well.
-    absurd (well.written
-    (c.attempt.ensures.sink.cause (c.in-Err.is ∙ ap Err (write_stop c.in-Err.stop (sym c.is_write.ensures ∙ c.if-is_write.true)))))
+returns-then-is_write-clause-complete g c =
+    completes_cut WriteFault
+    (c.attempt.ensures.sink.cause (c.in-Err.is ∙ ap Err (write_stop c.in-Err.stop (sym c.is_write.ensures ∙ c.if-is_write.true))))
 
 pub returns-else-is_write-clause-complete : goal.returns-else-is_write-clause-complete
-returns-else-is_write-clause-complete g c = λ well.
+returns-else-is_write-clause-complete g c =
     let whole = sym c.is_write.ensures ∙ c.if-is_write.false in
-    let memory =
-    stops_for_memory well _ c.in-Err.stop (before_last _ _ _ c.in-Err.stop c.in-Err.ensures.stopped whole)
-    (λ e. c.attempt.ensures.host.cause (c.in-Err.is ∙ ap Err e)) in
-    answered_close c.in-Err.stop _ c.close.result memory
-    (λ e. well.written (sink_whole _ (g.O.Sink.faults c.args.out.now) (g.O.Sink.faults c.attempt.new.out) (g.O.Sink.faults c.close.new.out)
-    c.in-Err.stop c.attempt.ensures.sink.later (other_stop c.in-Err.stop whole) (c.close.ensures.cause e))) c.close.ensures.closed
+    completes_closed _ _ c.in-Err.stop c.close.result (before_last _ _ _ c.in-Err.stop c.in-Err.ensures.stopped whole)
+    (λ e. c.attempt.ensures.host.cause (c.in-Err.is ∙ ap Err e))
+    (λ e. sink_whole _ (g.O.Sink.faults c.args.out.now) (g.O.Sink.faults c.attempt.new.out) (g.O.Sink.faults c.close.new.out)
+    c.in-Err.stop c.attempt.ensures.sink.later (other_stop c.in-Err.stop whole) (c.close.ensures.cause e)) c.close.ensures.closed

@@ -1,7 +1,8 @@
 use Rattle.std.proofs.Common.{ap, inl, refl, Some}
 use Rattle.io_world.specs.FileMap.{map_or_empty}
 use Rattle.round_run.proofs.CallsRunLemmas.{stops_none}
-use Rattle.round_run.proofs.StoppedLemmas.{appends_none, handed}
+use Rattle.report_text.proofs.PrintsLemmas.{appends_none}
+use Rattle.round_run.proofs.StoppedLemmas.{handed}
 use Rattle.round_run.specs.declared.fault.RunFault.TheVariants as fault
 use Rattle.command_line.specs.Held.{held_solve}
 use Rattle.pddlstream_app.proofs.AskedLemmas.{asked_if_ok, asked_lined, asked_unmade, asks_making}

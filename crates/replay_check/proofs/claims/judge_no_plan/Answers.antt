@@ -1,7 +1,10 @@
-use Rattle.std.proofs.Common.{◌≡◌, ◌∙◌, subst, sym, true, false}
+use Rattle.std.proofs.Common.{◌∙◌, sym, subst}
 use Rattle.std.proofs.lemmas.Bool.{false≢true}
-use Rattle.task_model.specs.Known.{Known}
-use Rattle.task_model.specs.Plans.{IsReached, IsSolvable, MoreThan}
+use Rattle.dream_check.specs.Judged.{IsSolvableWithin}
+use Rattle.transcript_model.specs.declared.outcome.Outcome.TheVariants as outcome
+use Rattle.replay_check.proofs.ClaimsLemmas.{no_plan_open, no_plan_said}
+use Rattle.replay_check.specs.Claims.{IsJudged}
+use Rattle.replay_check.specs.Standings.{limits_by}
 use Rattle.replay_check.proofs.claims.judge_no_plan.Goals as goal
 
 pub returns-then-not-branch : goal.returns-then-not-branch
@@ -11,46 +14,17 @@ returns-then-not-branch c = λ entries h closed.
       λ u. false≢true (sym c.if-not-branch.true ∙ due.1 u.0),
     )
 
-pub returns-then-branch : goal.returns-then-branch
-returns-then-branch c = λ entries h closed.
-    let task = c.args.bounds.now.task.now in (
-      (c.in_ok-is_nothing_due.ensures entries h).0 c.if-not-branch.false,
-      subst (λ (k : Known). MoreThan c.args.bounds.now.limit (IsReached task k)) h.known
-          (c.in_ok-exceeds-in-Plan.ensures.0 c.if-branch.true),
-    )
+pub returns-in-None : goal.returns-in-None
+returns-in-None c = λ entries h closed.
+    let b = c.args.bounds.now in
+    no_plan_open (limits_by b) b.limit b.task.now entries c.args.ledger.now h
+    ((c.in_ok-is_nothing_due.ensures entries h).0 c.if-not-branch.false)
+    (subst (IsSolvableWithin b.task.now c.args.ledger.now.facts.known b.limit) c.in-None.is c.in_ok-is_solvable_within.ensures)
 
-pub returns-in-Nothing : goal.returns-in-Nothing
-returns-in-Nothing c = λ entries h closed.
-    let task = c.args.bounds.now.task.now in
-    let none = (rw c.in-Nothing.is at c.in_ok-search.ensures.nothing).0 tt in (
-      record {
-        closed = record {
-          legal = h.legal;
-          none_open = closed;
-          finished = (c.in_ok-is_nothing_due.ensures entries h).0 c.if-not-branch.false;
-        };
-        unsolvable = subst (λ (k : Known). ¬ (IsSolvable task k)) h.known none.0;
-      },
-      λ u. subst (λ (k : Known). ¬ (MoreThan c.args.bounds.now.limit (IsReached task k))) h.known none.1 u.1,
-    )
-
-pub returns-in-Limit : goal.returns-in-Limit
-returns-in-Limit c = λ entries h closed.
-    let task = c.args.bounds.now.task.now in
-    let far = (rw c.in-Limit.is at c.in_ok-search.ensures.limit) tt in (
-      (c.in_ok-is_nothing_due.ensures entries h).0 c.if-not-branch.false,
-      subst (λ (k : Known). MoreThan c.args.bounds.now.limit (IsReached task k)) h.known far.reached,
-    )
-
-pub returns : goal.returns
-returns c = λ entries h closed.
-    let task = c.args.bounds.now.task.now in
-    let plan = rw c.in-Plan.is at c.in_ok-search.ensures.plan in (
-      λ p. p.unsolvable (subst (λ (k : Known). IsSolvable task k) h.known (c.in-Plan.field-0.steps, c.in-Plan.field-1, plan.valid)),
-      λ u.
-          let more : c.in_ok-exceeds-in-Plan.field-0 ≡ true =
-          c.in_ok-exceeds-in-Plan.ensures.1
-          (subst (λ (k : Known). MoreThan c.args.bounds.now.limit (IsReached task k)) (sym h.known) u.1) in
-          let few : c.in_ok-exceeds-in-Plan.field-0 ≡ false = c.if-branch.false in
-          absurd (cc),
-    )
+pub returns-in-Some : goal.returns-in-Some
+returns-in-Some c = λ entries h closed.
+    let b = c.args.bounds.now in
+    subst (IsJudged (limits_by b) b.limit b.task.now entries outcome.NoPlan) (sym c.decided.ensures)
+    (no_plan_said (limits_by b) b.limit b.task.now entries c.args.ledger.now h closed
+    ((c.in_ok-is_nothing_due.ensures entries h).0 c.if-not-branch.false) c.in-Some.solvable
+    (subst (IsSolvableWithin b.task.now c.args.ledger.now.facts.known b.limit) c.in-Some.is c.in_ok-is_solvable_within.ensures))

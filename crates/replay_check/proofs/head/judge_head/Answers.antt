@@ -9,11 +9,10 @@ returns-in-Err c =
     let task = c.args.task.now in
     let r = c.args.report.now in
     let place = c.in-Err.place in
-    let mode = c.is_followed.ensures.0 c.if-not-is_followed.false in
     let limits : are_fit_limits r ≡ true = search (rules, tests) in
     let wrong = rw c.in-Err.is at c.in_ok-workers.ensures.wrong in
     let there = rw c.in-Err.is at c.in_ok-workers.ensures.there in
     let pools = c.as_slice-pools.ensures in
-    first_wrong task r place mode limits (subst (λ (ps : List PoolLine). AreFitPoolLines task (take place ps)) pools wrong.0)
+    first_wrong task r place limits (subst (λ (ps : List PoolLine). AreFitPoolLines task (take place ps)) pools wrong.0)
     (subst (λ (ps : List PoolLine). place < length ps) pools there)
     (subst (λ (ps : List PoolLine). IfSome (slice_get ps place) (λ pool. is_fit_pool task (take place ps) pool ≡ false)) pools wrong.1)

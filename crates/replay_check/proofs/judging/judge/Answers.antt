@@ -21,7 +21,6 @@ judge_rest-requires-clause-bounds c =
     let limits = limits_fit r headed.0.limits in
     record {
       fit = c.requires.fit;
-      mode = headed.0.mode;
       workers = subst HaveWorkers (sym (ap shares_of c.as_slice.ensures.value ∙ headed.1)) (pools_work task r.pools headed.0.pools);
       calls = limits.0;
       some_states = limits.1;

@@ -26,7 +26,8 @@ module _ (c : In-Breaks) where
       c.as_slice-entries.ensures here
 
 module _ (c : After-lines_of) where
-  line_is : c.len.result + 3 + c.lines_of.result + c.in-Breaks.line ≡ line_of c.args.report.now c.in-Breaks.place + c.in-Breaks.line
+  line_is : c.len.result + 3 + c.lines_of.result + c.in-Breaks.line
+      ≡ line_of c.args.report.now c.in-Breaks.place + c.in-Breaks.line
   line_is =
       let counted : c.lines_of.result ≡ length (flat_map entry_lines (take c.in-Breaks.place c.args.report.now.entries)) =
       c.lines_of.ensures
@@ -44,14 +45,21 @@ module _ (c : After-lines_of) where
 
 pub overflow_add-first-in-Breaks : goal.overflow_add-first-in-Breaks
 overflow_add-first-in-Breaks c =
-    let most = few (goal.at.overflow_add-first-in-Breaks c).After-lines_of (wrong (goal.at.overflow_add-first-in-Breaks c).In-Breaks) in omega (arith, most)
+    let at = goal.at.overflow_add-first-in-Breaks c in
+    let most = few at.After-lines_of (wrong at.In-Breaks) in
+    omega (arith, most)
 
 pub overflow_add-first-in-Breaks-2 : goal.overflow_add-first-in-Breaks-2
 overflow_add-first-in-Breaks-2 c =
-    let most = few (goal.at.overflow_add-first-in-Breaks-2 c).After-lines_of (wrong (goal.at.overflow_add-first-in-Breaks-2 c).In-Breaks) in omega (arith, most)
+    let at = goal.at.overflow_add-first-in-Breaks-2 c in
+    let most = few at.After-lines_of (wrong at.In-Breaks) in
+    omega (arith, most)
 
 pub invalid-requires : goal.invalid-requires
-invalid-requires c = let most = few (goal.at.invalid-requires c).After-lines_of (wrong (goal.at.invalid-requires c).In-Breaks) in omega (arith, most)
+invalid-requires c =
+    let at = goal.at.invalid-requires c in
+    let most = few at.After-lines_of (wrong at.In-Breaks) in
+    omega (arith, most)
 
 pub returns-in-Open : goal.returns-in-Open
 returns-in-Open c =

@@ -10,7 +10,8 @@ pub returns-in-Stops-clause-said : goal.returns-in-Stops-clause-said
 returns-in-Stops-clause-said c =
     let task = c.args.bounds.now.task.now in
     let p = c.args.plan.now in
-    rw c.in-Stops.is at (subst (λ (k : Known). IsRan task k p.calls.now c.in_ok-place.field-0) c.requires.ledger.known c.in_ok-place.ensures)
+    rw c.in-Stops.is at
+    (subst (λ (k : Known). IsRan task k p.calls.now c.in_ok-place.field-0) c.requires.ledger.known c.in_ok-place.ensures)
 
 pub returns-then-not-reaches_goal-clause-said : goal.returns-then-not-reaches_goal-clause-said
 returns-then-not-reaches_goal-clause-said c =
@@ -19,7 +20,8 @@ returns-then-not-reaches_goal-clause-said c =
     let known = known_of task p.entries.now in
     let coherent = subst IsCoherent c.requires.ledger.known c.args.ledger.now.facts.coherent in
     let run : IsRunOf task known p.calls.now c.in-Ends.run' =
-    rw c.in-Ends.is at (subst (λ (k : Known). IsRan task k p.calls.now c.in_ok-place.field-0) c.requires.ledger.known c.in_ok-place.ensures) in
+    rw c.in-Ends.is at
+    (subst (λ (k : Known). IsRan task k p.calls.now c.in_ok-place.field-0) c.requires.ledger.known c.in_ok-place.ensures) in
     let over : c.reaches_goal.result ≡ false = search (rules, tests) in (
       run_can task c.requires.bounds.fit known coherent p.calls.now c.in-Ends.run' run,
       λ other plan.
@@ -36,7 +38,8 @@ returns-then-not-costs-clause-said c =
     let known = known_of task p.entries.now in
     let coherent = subst IsCoherent c.requires.ledger.known c.args.ledger.now.facts.coherent in
     let run : IsRunOf task known p.calls.now c.in-Ends.run' =
-    rw c.in-Ends.is at (subst (λ (k : Known). IsRan task k p.calls.now c.in_ok-place.field-0) c.requires.ledger.known c.in_ok-place.ensures) in
+    rw c.in-Ends.is at
+    (subst (λ (k : Known). IsRan task k p.calls.now c.in_ok-place.field-0) c.requires.ledger.known c.in_ok-place.ensures) in
     let yes : c.reaches_goal.result ≡ true = search (rules, tests) in
     let reached = subst (λ (k : Known). IsGoal task k c.in-Ends.run'.state) c.requires.ledger.known (c.reaches_goal.ensures.0 yes) in
     let few : p.cost < 2 ^ 64 = search (rules, tests) in (
@@ -54,7 +57,8 @@ judge_origins-requires-clause-plan c =
     let known = known_of task p.entries.now in
     let coherent = subst IsCoherent c.requires.ledger.known c.args.ledger.now.facts.coherent in
     let run : IsRunOf task known p.calls.now c.in-Ends.run' =
-    rw c.in-Ends.is at (subst (λ (k : Known). IsRan task k p.calls.now c.in_ok-place.field-0) c.requires.ledger.known c.in_ok-place.ensures) in
+    rw c.in-Ends.is at
+    (subst (λ (k : Known). IsRan task k p.calls.now c.in_ok-place.field-0) c.requires.ledger.known c.in_ok-place.ensures) in
     let yes : c.reaches_goal.result ≡ true = search (rules, tests) in
     let reached = subst (λ (k : Known). IsGoal task k c.in-Ends.run'.state) c.requires.ledger.known (c.reaches_goal.ensures.0 yes) in
     let same : c.costs.result ≡ true = search (rules, tests) in

@@ -2,7 +2,7 @@ use Rattle.std.proofs.Common.{◌≡◌, ◌<◌, ◌∙◌, ℕ, true, false, [
 use Rattle.io_world.proofs.TalksLemmas.{extends_none}
 use Rattle.io_world.specs.Faults.{Extends}
 use Rattle.round_run.proofs.BatchLemmas.{empty_of, filled_of}
-use Rattle.round_run.proofs.CallsRunLemmas.{starts_at_once, starts_idle}
+use Rattle.round_run.proofs.CallsRunLemmas.{starts_first, starts_idle}
 use Rattle.round_run.specs.Calls.{starts_before, starts_of}
 use Rattle.round_run.proofs.StartsLemmas.{all_run}
 use Rattle.round_run.proofs.StoppedLemmas.{ok_two, on_ok}
@@ -35,7 +35,7 @@ returns-then-asks-eq0-clause-started g c =
           ∙ subst (λ ps. AllWork ps (is_child_running c.start_all.new.self)) c.as_slice.ensures works k child p at is);
       idle = λ none. absurd (omega (arith, none, some));
       log = subst (Extends (g.H.Host.log c.args.host.now) (g.H.Host.log c.start_all.new.host))
-          (ap starts_of c.as_slice.ensures ∙ sym (starts_at_once head.pools (length s.asked) (length c.args.dues.now) asked some)) log;
+          (ap starts_of c.as_slice.ensures ∙ sym (starts_first head.pools (length s.asked) (length c.args.dues.now) asked some)) log;
     })
     c.start_all.ensures.running c.start_all.ensures.log
 

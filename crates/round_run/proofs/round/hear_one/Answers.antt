@@ -12,10 +12,10 @@ use Rattle.round_run.specs.Breaking.{LogBreaks}
 use Rattle.round_run.proofs.CallsLemmas.{calls_one}
 use Rattle.round_run.proofs.RollingPrintLemmas.{answers_legal, front_answers, round_legal}
 use Rattle.round_run.proofs.RollingLemmas.{awaited_there, heard_more, printed_there, rolling_same, started_within}
-use Rattle.round_run.proofs.StoppedLemmas.{blamed_listens, goes_one, handed, ok_map, on_ok, stopped_at, stopped_blamed}
+use Rattle.round_run.proofs.StoppedLemmas.{blamed_listens, goes_one, handed, ok_map, on_ok, stopped_at, stopped_blamed, write_part}
 use Rattle.round_run.proofs.TalkingEndLemmas.{dialogue_answered}
 use Rattle.round_run.proofs.TalkingHeardLemmas.{dialogue_hearing, may_blame, talking_heard}
-use Rattle.round_run.proofs.PiecesLemmas.{printed_all, printed_part}
+use Rattle.report_text.proofs.PrintsLemmas.{printed_all}
 use Rattle.round_run.specs.Calls.{LogFollows}
 use Rattle.round_run.specs.Resting.{Rolled}
 use Rattle.round_run.specs.Rolling.{IsFrontPart, finished}
@@ -177,7 +177,7 @@ returns-clause-stopped g c = λ task h talking.
     before (c.in-Some.answer.now ∷ []) fault was came
     (tells_write (HasNoneOpen (before ++ c.in-Some.answer.now ∷ [])) fault is_write)
     (subst (λ e. LogFollows task s.pools before (e ∷ []) was came) (sym is_it) follows))
-    misses) (printed_part c.print_entry.result _ _ _ c.print_entry.ensures.told)
+    misses) (write_part c.print_entry.result _ _ _ c.print_entry.ensures.told c.print_entry.ensures.only)
 
 pub returns-clause-said : goal.returns-clause-said
 returns-clause-said g c = λ task h talking.

@@ -14,9 +14,9 @@ use Rattle.transcript_model.specs.Legal.{HasNoneOpen}
 use Rattle.round_run.proofs.CallsLemmas.{calls_one}
 use Rattle.round_run.proofs.RollingPrintLemmas.{asks_legal, front_asks, one_more, round_legal}
 use Rattle.round_run.proofs.RollingLemmas.{rolling_same, rolling_sent, unsent_there}
-use Rattle.round_run.proofs.StoppedLemmas.{goes_one, handed, ok_map, on_ok, stopped_at, stopped_sending}
+use Rattle.round_run.proofs.StoppedLemmas.{goes_one, handed, ok_map, on_ok, stopped_at, stopped_sending, write_part}
 use Rattle.round_run.proofs.TalkingRoundLemmas.{broken_part, dialogue_after, next_front, next_legal, talking_sent_by}
-use Rattle.round_run.proofs.PiecesLemmas.{printed_all, printed_part}
+use Rattle.report_text.proofs.PrintsLemmas.{printed_all}
 use Rattle.round_run.specs.Resting.{Rolled}
 use Rattle.round_run.specs.Rolling.{IsFrontPart, IsRolling, finished}
 use Rattle.round_run.specs.Talking.{IsTalking}
@@ -108,7 +108,7 @@ returns-clause-stopped g c = λ task kept h talking.
     (tells_write (HasNoneOpen ((s.entries ++ take c.args.place s.asks) ++ c.ask.result.now ∷ [])) fault is_write)
     (sent_calls task s c.args.place kept before there.0 there.1 c.ask.result.now at opened h talking c.request-child.result.0
     c.request-child.result.1.now was log is.0 is.1 c.in_ok-send.ensures.log))
-    misses) (printed_part c.print_entry.result _ _ _ c.print_entry.ensures.told)
+    misses) (write_part c.print_entry.result _ _ _ c.print_entry.ensures.told c.print_entry.ensures.only)
 
 pub returns-clause-said : goal.returns-clause-said
 returns-clause-said g c = λ task kept h talking.

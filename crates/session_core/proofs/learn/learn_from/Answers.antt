@@ -1,10 +1,14 @@
 use Rattle.std.proofs.Common.{◌≡◌, ◌+◌, ◌-◌, List, take, arith, ap, ◌∙◌, sym, subst, Some, slice_get, get_or, take_all}
 use Rattle.std.proofs.lemmas.Option.{slice_get_within, get_or_from_slice_get}
+use Rattle.fact_store.proofs.GrowthLemmas.{between_then}
+use Rattle.fact_store.specs.Growth.{Grows, IsFrontOf}
 use Rattle.fact_store.specs.Store.{Store}
+use Rattle.lemmas.proofs.Results.{on_err}
 use Rattle.task_model.specs.Known.{Known}
 use Rattle.task_model.specs.Streams.{Note}
 use Rattle.transcript_model.specs.Transcript.{Asked, known_of, notes_of, known_with, notes_with}
-use Rattle.session_core.proofs.LearningLemmas.{IsAnswerAt, answer_at, other_at, request_read}
+use Rattle.session_core.proofs.LearningLemmas.{IsAnswerAt, answer_at, grown_on, noted_on, other_at, request_read, stands_in_all}
+use Rattle.session_core.proofs.LearningTupleLemmas.{lies_then}
 use Rattle.session_core.specs.Learning.{MayLearn}
 use Rattle.session_core.proofs.learn.learn_from.Goals as goal
 use Rattle.session_core.proofs.learn.learn_from.Goals.{in-Some+in_ok-learn_answer, in_default}
@@ -72,19 +76,32 @@ loop-place-preserved c =
           let a : record { stream = s; instance = i } ≡ h.request =
           request_read task asked entries c.requires.can place w.in-Some.number e h i s w.index-asked-number.is
           (w.index-as_slice-instance.is ∙ ap (λ ss. get_or ss i.stream s) w.as_slice.ensures) in
+          let known : c.match-answered.facts.known ≡ known_of task (take (place + 1) entries) =
+          ap (λ (f : Store). f.known) w.facts-is ∙ w.in_ok-learn_answer.ensures.known
+          ∙ (λ j. known_with task (c.loop-place.invariant.known j) (a j) e) ∙ sym h.known in
+          let notes : c.match-answered.queue ≡ notes_of task (take (place + 1) entries) =
+          w.queue-is ∙ w.in_ok-learn_answer.ensures.notes ∙ (λ j. notes_with (c.loop-place.invariant.notes j) (a j) e) ∙ sym h.notes in
           record {
-            known =
-                ap (λ (f : Store). f.known) w.facts-is ∙ w.in_ok-learn_answer.ensures.known
-                ∙ (λ j. known_with task (c.loop-place.invariant.known j) (a j) e) ∙ sym h.known;
-            notes =
-                w.queue-is ∙ w.in_ok-learn_answer.ensures.notes ∙ (λ j. notes_with (c.loop-place.invariant.notes j) (a j) e) ∙ sym h.notes;
+            known = known;
+            notes = notes;
+            grown = grown_on task asked entries c.requires.can place e at c.args.facts.now.known c.loop-place.facts.known
+                c.match-answered.facts.known c.loop-place.invariant.grown c.loop-place.invariant.known known;
+            more = noted_on task asked entries c.requires.can place e at c.args.queue.now c.loop-place.queue c.match-answered.queue
+                c.loop-place.invariant.more c.loop-place.invariant.notes notes;
           }
       | in_default w ↦
           let h = other_at task asked entries c.requires.can place e at (sym c.answered.ensures ∙ w.in_default.is) in
+          let known : c.match-answered.facts.known ≡ known_of task (take (place + 1) entries) =
+          ap (λ (f : Store). f.known) w.facts-is ∙ c.loop-place.invariant.known ∙ sym h.known in
+          let notes : c.match-answered.queue ≡ notes_of task (take (place + 1) entries) =
+          w.queue-is ∙ c.loop-place.invariant.notes ∙ sym h.notes in
           record {
-            known =
-                ap (λ (f : Store). f.known) w.facts-is ∙ c.loop-place.invariant.known ∙ sym h.known;
-            notes = w.queue-is ∙ c.loop-place.invariant.notes ∙ sym h.notes;
+            known = known;
+            notes = notes;
+            grown = grown_on task asked entries c.requires.can place e at c.args.facts.now.known c.loop-place.facts.known
+                c.match-answered.facts.known c.loop-place.invariant.grown c.loop-place.invariant.known known;
+            more = noted_on task asked entries c.requires.can place e at c.args.queue.now c.loop-place.queue c.match-answered.queue
+                c.loop-place.invariant.more c.loop-place.invariant.notes notes;
           }
     ]
 
@@ -97,3 +114,57 @@ pub returns-clause-notes : goal.returns-clause-notes
 returns-clause-notes c =
     c.loop-place.invariant.notes
     ∙ ap (notes_of c.args.task.now) (take_all c.loop-place.place c.args.entries.now (omega (arith, c.loop-place-test.false)))
+
+-- ---- where memory is wanting
+
+pub returns-in_err-learn_answer-clause-part : goal.returns-in_err-learn_answer-clause-part
+returns-in_err-learn_answer-clause-part c =
+    let task = c.args.task.now in
+    let asked = c.args.asked.now in
+    let entries = c.args.entries.now in
+    let place = c.loop-place.place in
+    let e = c.index-entries-place.result in
+    let at : slice_get entries place ≡ Some e = get_some entries place e c.loop-place-test.true c.index-entries-place.is in
+    let h = answer_at task asked entries c.requires.can place c.in-Some.number e at (sym c.answered.ensures ∙ c.in-Some.is) in
+    let i = c.index-asked-number.result in
+    let s = c.index-as_slice-instance.result in
+    let one : Asked = record { stream = s; instance = i } in
+    let a : one ≡ h.request =
+    request_read task asked entries c.requires.can place c.in-Some.number e h i s c.index-asked-number.is
+    (c.index-as_slice-instance.is ∙ ap (λ ss. get_or ss i.stream s) c.as_slice.ensures) in
+    let now = c.loop-place.facts.known in
+    let next = known_with task now one e in
+    let is : next ≡ known_of task (take (place + 1) entries) =
+    (λ j. known_with task (c.loop-place.invariant.known j) (a j) e) ∙ sym h.known in
+    let later : Grows next (known_of task entries) =
+    subst (λ (k : Known). Grows k (known_of task entries)) (sym is)
+    (stands_in_all task asked entries c.requires.can (place + 1) (omega (arith, c.loop-place-test.true))).known in
+    on_err c.from_residual.result _
+    (lies_then c.args.facts.now.known now c.learn_answer.new.facts.known next (known_of task entries) c.loop-place.invariant.grown
+    c.in_err-learn_answer.ensures.part later)
+
+pub returns-in_err-learn_answer-clause-noted : goal.returns-in_err-learn_answer-clause-noted
+returns-in_err-learn_answer-clause-noted c =
+    let task = c.args.task.now in
+    let asked = c.args.asked.now in
+    let entries = c.args.entries.now in
+    let place = c.loop-place.place in
+    let e = c.index-entries-place.result in
+    let at : slice_get entries place ≡ Some e = get_some entries place e c.loop-place-test.true c.index-entries-place.is in
+    let h = answer_at task asked entries c.requires.can place c.in-Some.number e at (sym c.answered.ensures ∙ c.in-Some.is) in
+    let i = c.index-asked-number.result in
+    let s = c.index-as_slice-instance.result in
+    let one : Asked = record { stream = s; instance = i } in
+    let a : one ≡ h.request =
+    request_read task asked entries c.requires.can place c.in-Some.number e h i s c.index-asked-number.is
+    (c.index-as_slice-instance.is ∙ ap (λ ss. get_or ss i.stream s) c.as_slice.ensures) in
+    let now = c.loop-place.queue in
+    let next = notes_with now one e in
+    let is : next ≡ notes_of task (take (place + 1) entries) =
+    (λ j. notes_with (c.loop-place.invariant.notes j) (a j) e) ∙ sym h.notes in
+    let later : IsFrontOf next (notes_of task entries) =
+    subst (λ (ns : List Note). IsFrontOf ns (notes_of task entries)) (sym is)
+    (stands_in_all task asked entries c.requires.can (place + 1) (omega (arith, c.loop-place-test.true))).notes in
+    on_err c.from_residual.result _
+    (between_then c.args.queue.now now c.learn_answer.new.queue next (notes_of task entries) c.loop-place.invariant.more
+    c.in_err-learn_answer.ensures.noted later)

@@ -13,4 +13,5 @@ pub returns-in-Ends : goal.returns-in-Ends
 returns-in-Ends g c =
     let known = g.L.Look.known c.args.look.now in
     plan_is_run c.args.task.now c.requires.fit known (g.met.L.Look.coherent c.args.look.now) c.args.calls.now c.in-Ends.run'
-    (subst (IsRan c.args.task.now known c.args.calls.now) c.in-Ends.is c.in_ok-run_steps.ensures) c.reaches_goal.result c.reaches_goal.ensures
+    (subst (IsRan c.args.task.now known c.args.calls.now) c.in-Ends.is c.in_ok-run_steps.ensures)
+    c.reaches_goal.result c.reaches_goal.ensures

@@ -27,7 +27,8 @@ returns-in_ok-insert-clause-row c =
 
 pub returns-in_ok-insert-clause-state : goal.returns-in_ok-insert-clause-state
 returns-in_ok-insert-clause-state c =
-    subst (λ xs. state_of c.number_of.new.numbered.keys xs ≡ insert (state_of c.args.numbered.now.keys c.args.row.now.items) c.args.atom.now)
+    subst (λ xs. state_of c.number_of.new.numbered.keys xs
+    ≡ insert (state_of c.args.numbered.now.keys c.args.row.now.items) c.args.atom.now)
     (sym c.in_ok-insert.ensures.items) (put c).1
 
 pub returns-in_default-clause-state : goal.returns-in_default-clause-state
@@ -37,5 +38,5 @@ returns-in_default-clause-state c =
     let place = c.in_default.field-0 in
     let within : place < length row = subst (λ xs. place < length xs) c.as_slice-2.ensures.value c.in_default.ensures.bound in
     put_found atoms row c.requires.row c.args.atom.now place within
-    (place_at atoms c.as_slice.result.now row c.as_slice-2.result.now c.args.atom.now place c.as_slice.ensures.keys c.as_slice-2.ensures.value
-    c.in_default.ensures.position)
+    (place_at atoms c.as_slice.result.now row c.as_slice-2.result.now c.args.atom.now place c.as_slice.ensures.keys
+    c.as_slice-2.ensures.value c.in_default.ensures.position)

@@ -31,4 +31,5 @@ returns-in_default-clause-state c =
     let row = c.args.row.now.items in
     let place = c.in_default.field-0 in
     take_missing atoms row c.requires c.args.atom.now place
-    (parts_at atoms atoms row c.as_slice.result.now c.args.atom.now place refl c.as_slice.ensures.value c.requires c.in_default.ensures.position)
+    (parts_at atoms atoms row c.as_slice.result.now c.args.atom.now place refl c.as_slice.ensures.value c.requires
+    c.in_default.ensures.position)

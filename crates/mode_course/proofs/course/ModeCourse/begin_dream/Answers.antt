@@ -1,11 +1,12 @@
-use Rattle.std.proofs.Common.{◌-◌, arith}
+use Rattle.std.proofs.Common.{◌-◌, ap, arith}
+use Rattle.mode_course.specs.Agendas.{ModeAgenda}
 use Rattle.instance_queue.specs.Level.{instances_of}
 use Rattle.mode_course.proofs.AgendasLemmas.{dream_begins, firsts_are}
 use Rattle.pools.specs.Pools.{shares_of}
 use Rattle.mode_course.proofs.course.ModeCourse.begin_dream.Goals as goal
 
-pub returns : goal.returns
-returns c =
+pub returns-clause-begins : goal.returns-clause-begins
+returns-clause-begins c =
     let dues = c.args.asks.items in
     let left = c.args.calls - c.args.before in
     dream_begins c.self.inside c.args.self.now (shares_of c.args.pools.now) dues c.args.before c.args.calls c.begin.new.self
@@ -13,3 +14,6 @@ returns c =
     (firsts_are left c.min-count.result c.len.result dues c.as_slice.result.now c.split_at.result.0.now
     (omega (arith, c.len.ensures, c.args.asks.ok))
     c.min-count.ensures c.as_slice.ensures.value c.split_at.ensures.front) c.begin.ensures
+
+pub returns-clause-run : goal.returns-clause-run
+returns-clause-run c = ap (λ (a : ModeAgenda). a.run) c.self.view_is

@@ -18,7 +18,7 @@ returns-then-eq c = λ entries s. (
         | then-eq-via-then-eq w ↦ let is : b.mode ≡ Incremental = search (rules, tests) in absurd (begins.0 is)
         | then-eq-via-else-eq+then-not-is_between w ↦
             absurd (false≢true (sym w.if-not-is_between.true ∙ w.is_between.ensures
-            ∙ begins_between (limits_by b) b.task.now entries self.ledger self.course s c.requires.bounds.mode begins))
+            ∙ begins_between (limits_by b) b.task.now entries self.ledger self.course s begins))
       ],
 )
 

@@ -1,6 +1,6 @@
 use Rattle.std.proofs.Common.{◌≡◌, ◌∙◌, ◌↔◌, IsTrue, Some, IfSome, slice_get, take, sym, subst}
 use Rattle.transcript_model.specs.Legal.{MayFollow, answered_number}
-use Rattle.replay_check.proofs.WalksLemmas.{answer_out_of_order, answer_refused, answer_taken, entry_formed}
+use Rattle.replay_check.proofs.WalksLemmas.{Answers, answer_keeps, answer_out_of_order, answer_refused, answer_taken, entry_formed}
 use Rattle.replay_check.proofs.standing.Standing.take_answer.Goals as goal
 use Rattle.replay_check.proofs.standing.Standing.take_answer.Goals.{After-may_answer}
 use Rattle.std.proofs.lemmas.Bool.{false≢true}
@@ -46,10 +46,33 @@ answer-requires-clause-there c =
     let a = (goal.at.answer-requires-clause-there c).After-may_answer in
     (c.index-entries-place.result, there a, is_number a, (decides a).0 c.if-not-may_answer.false)
 
+pub settle-requires-clause-run : goal.settle-requires-clause-run
+settle-requires-clause-run c =
+    let a = (goal.at.settle-requires-clause-run c).After-may_answer in
+    let answers : Answers c.args.bounds.now c.args.entries.now c.args.place c.args.self.now c.requires.can c.args.number
+    c.index-entries-place.result (there a) (is_number a) c.answer-2.new.self = record {
+      may = (decides a).0 c.if-not-may_answer.false;
+      next = sym c.if-next-number.true ∙ c.in-Some.ensures.some.0;
+      none = c.in-Some.ensures.some.1;
+      some = c.in-Some.ensures.some.2;
+      batch = c.answer-2.ensures.batch;
+      rest = c.answer-2.ensures.rest;
+    } in
+    answer_keeps c.args.bounds.now c.args.entries.now c.args.place c.args.self.now c.requires.can c.args.number
+    c.index-entries-place.result (there a) (is_number a) c.answer-2.new.self answers
+
 pub returns : goal.returns
 returns c =
     let a = (goal.at.returns c).After-may_answer in
-    answer_taken c.args.bounds.now c.args.entries.now c.args.place c.args.self.now c.requires.can c.args.number c.index-entries-place.result
-    (there a) (is_number a) (record { ledger = c.answer.new.self; course = c.answer-2.new.self })
-    ((decides a).0 c.if-not-may_answer.false) (sym c.if-next-number.true ∙ c.in-Some.ensures.some.0) c.in-Some.ensures.some.1
-    c.in-Some.ensures.some.2 c.in_ok-answer.ensures c.answer-2.ensures.batch c.answer-2.ensures.rest
+    let answers : Answers c.args.bounds.now c.args.entries.now c.args.place c.args.self.now c.requires.can c.args.number
+    c.index-entries-place.result (there a) (is_number a) c.answer-2.new.self = record {
+      may = (decides a).0 c.if-not-may_answer.false;
+      next = sym c.if-next-number.true ∙ c.in-Some.ensures.some.0;
+      none = c.in-Some.ensures.some.1;
+      some = c.in-Some.ensures.some.2;
+      batch = c.answer-2.ensures.batch;
+      rest = c.answer-2.ensures.rest;
+    } in
+    answer_taken c.args.bounds.now c.args.entries.now c.args.place c.args.self.now c.requires.can c.args.number
+    c.index-entries-place.result (there a) (is_number a) c.answer-2.new.self answers c.answer.new.self c.settle.new.self
+    c.in_ok-answer.ensures c.in_ok-settle.ensures

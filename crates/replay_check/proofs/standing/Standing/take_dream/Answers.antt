@@ -4,7 +4,6 @@ use Rattle.std.proofs.lemmas.Grind.{common_steps}
 use Rattle.dream_check.specs.Judged.{IsDreamJudged}
 use Rattle.dream_check.specs.declared.dream.Dreamed.{Dreamed}
 use Rattle.dream_check.specs.declared.dream.Dreamed.TheVariants as dreamed
-use Rattle.task_model.specs.Dreams as dreams
 use Rattle.task_model.specs.declared.stream.Instance.{Instance}
 use Rattle.transcript_model.specs.declared.entry.Entry.TheVariants as entry
 use Rattle.replay_check.proofs.LinesLemmas.{wrong_line_few}
@@ -12,7 +11,6 @@ use Rattle.replay_check.proofs.WalksLemmas.{entry_formed}
 use Rattle.replay_check.proofs.WalksTurnLemmas.{dream_refused, dream_taken, dream_wrong}
 use Rattle.replay_check.specs.Breaches.{BeginsTurn}
 use Rattle.replay_check.specs.Standings.{limits_by}
-use Rattle.replay_check.specs.Turns.{HasDreamt}
 use Rattle.replay_check.proofs.standing.Standing.take_dream.Goals as goal
 use Rattle.replay_check.proofs.standing.Standing.take_dream.Goals.{In_ok-dreamed, then-is_empty-via-then-is_empty, then-is_empty-via-else-is_empty+in_ok-may_dream+then-not-branch}
 
@@ -57,15 +55,20 @@ module _ (c : In_ok-dreamed) where
       (entry.Dream c.args.uses.now c.args.steps.now) c.requires.can c.requires.here in
       (f.0, f.1)
 
+pub go_on-requires-clause-left : goal.go_on-requires-clause-left
+go_on-requires-clause-left c =
+    let may = begins (goal.at.go_on-requires-clause-left c).In_ok-dreamed in
+    let left = may.1.left in
+    let counted = c.requires.can.standing.stands.ledger.counted in
+    omega (arith, left, counted)
+
 pub returns-in-Right : goal.returns-in-Right
 returns-in-Right c =
     let b = c.args.bounds.now in
     let at = (goal.at.returns-in-Right c).In_ok-dreamed in
     let dream = said at (dreamed.Right c.in-Right.dream) c.in-Right.is in
     dream_taken b c.args.entries.now c.args.place c.args.self.now c.requires.can (begins at) c.args.uses.now
-    c.args.steps.now c.requires.here c.in-Right.dream.items dream.0 c.begin_dream.new.self
-    (subst (λ (es : List dreams.Entry). HasDreamt b es c.args.self.now c.begin_dream.new.self) c.as_slice.ensures.value
-    c.in_ok-begin_dream-in-Right.ensures)
+    c.args.steps.now c.requires.here c.in-Right.dream.items dream.0 c.go_on.new.self c.in_ok-go_on-in-Right.ensures
 
 pub overflow_add-line : goal.overflow_add-line
 overflow_add-line c =

@@ -1,10 +1,11 @@
-use Rattle.std.proofs.Common.{◌≡◌, ◌≤◌, false, length, take, ap, sym, subst, ◌∙◌, arith}
+use Rattle.std.proofs.Common.{◌≡◌, ◌≤◌, length, take, ap, sym, subst, ◌∙◌, arith}
 use Rattle.transcript_model.specs.Transcript.{known_of, notes_of}
 use Rattle.session_core.proofs.SessionLearnLemmas.{all_learnt, not_learnt, can_learn}
 use Rattle.session_core.specs.Learning.{CanLearn}
 use Rattle.session_core.specs.Session.{IsSession, after_learn}
 use Rattle.session_core.specs.Shown.{shown}
-use Rattle.session_core.specs.State.{with_learnt}
+use Rattle.fact_store.specs.Growth.{IsBetween, LiesBetween}
+use Rattle.session_core.specs.State.{State, with_learnt}
 use Rattle.session_core.proofs.session.Session.learn.Goals as goal
 
 pub learn_from-learnt-requires-clause-can : goal.learn_from-learnt-requires-clause-can
@@ -57,3 +58,20 @@ returns-in-Err-clause-kept c =
     let task = c.args.task.now in
     not_learnt task (shown c.self.inside) c.learn_from-learnt.new.facts.known c.learn_from-learnt.new.queue
     (subst (IsSession task) (sym c.self.view_is) c.requires.session)
+
+-- what is known and noted where memory was wanting
+pub returns-in-Err-clause-part : goal.returns-in-Err-clause-part
+returns-in-Err-clause-part c =
+    let task = c.args.task.now in
+    let s = shown c.self.inside in
+    let now = c.learn_from-learnt.new.facts.known in
+    λ _. subst (λ (t : State). LiesBetween t.known now (known_of task t.entries)) c.self.view_is
+    (subst (λ es. LiesBetween s.known now (known_of task es)) c.as_slice-2.ensures.value c.in-Err.ensures.part)
+
+pub returns-in-Err-clause-notes : goal.returns-in-Err-clause-notes
+returns-in-Err-clause-notes c =
+    let task = c.args.task.now in
+    let s = shown c.self.inside in
+    let now = c.learn_from-learnt.new.queue in
+    λ _. subst (λ (t : State). IsBetween t.notes now (notes_of task t.entries)) c.self.view_is
+    (subst (λ es. IsBetween s.notes now (notes_of task es)) c.as_slice-2.ensures.value c.in-Err.ensures.noted)

@@ -46,7 +46,8 @@ put : (c : goal.After-drop-state-inside-2)
     c.in_ok-row.row c.in_ok-place.place c.in_ok-place.fresh c.args.self.now c.args.state
 put c =
     let row = c.in_ok-row.row.items in
-    let of = row_of c.numbers_of.new.numbered.keys row c.args.state c.in_ok-row.ensures.known (c.in_ok-row.ensures.row ∙ c.as_slice.ensures) in record {
+    let of = row_of c.numbers_of.new.numbered.keys row c.args.state c.in_ok-row.ensures.known
+    (c.in_ok-row.ensures.row ∙ c.as_slice.ensures) in record {
       view = c.self.view_is;
       are = c.self.invariant;
       grows = c.numbers_of.ensures.grows;

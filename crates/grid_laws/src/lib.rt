@@ -1,0 +1,4 @@
+//! What holds of runs whose children answer by the grid.
+#![tactic(auto)]
+
+pub mod laws;

@@ -1,0 +1,24 @@
+use Rattle.std.proofs.Common.{[], ap}
+use Rattle.std.proofs.lemmas.Result.{on_ok_weaker}
+use Rattle.mode_course.proofs.NextLemmas.{moves_from}
+use Rattle.mode_course.specs.Agendas.{ModeAgenda, shown, with_run}
+use Rattle.mode_course.specs.Places.{resting}
+use Rattle.pools.specs.Pools.{shares_of}
+use Rattle.mode_course.proofs.course.ModeCourse.follow_dream.Goals as goal
+
+pub returns : goal.returns
+returns c =
+    let s = c.self.inside in
+    let old = shown (record {
+      batch = s.batch;
+      phase = s.phase;
+      tried = s.tried;
+      skeletons = s.skeletons;
+      run = c.new.result;
+      alloc = s.alloc;
+    }) in
+    on_ok_weaker c.begin_next.result
+    (λ m. moves_from c.args.task.now c.args.facts.now.known c.args.queue.now [] (shares_of c.args.pools.now) resting c.args.calls old
+    (with_run c.args.self.now c.args.entries.items c.args.real c.args.from c.args.before) c.begin_next.new.self
+    c.new.ensures (ap (λ (a : ModeAgenda). a.kept) c.self.view_is) m)
+    c.begin_next.ensures

@@ -1,7 +1,0 @@
-use Rattle.std.proofs.Common.{◌≡◌, ◌++◌, take}
-use Rattle.report_text.specs.Texts.{fields_text}
-use Rattle.report_text.proofs.lines.push_names.Given as goal
-
-abbrev pub invariant-loop-name : goal.invariant-loop-name
-invariant-loop-name l =
-    l.text.items ≡ l.initial.text.items ++ fields_text (take l.name-index l.names)

@@ -1,0 +1,8 @@
+use Rattle.std.proofs.Common.{refl}
+use Rattle.report_text.proofs.PrintsLemmas.{prints_last}
+use Rattle.report_text.proofs.lines.put_field.Goals as goal
+
+pub returns-clause-told : goal.returns-clause-told
+returns-clause-told g c =
+    prints_last c.put-2.result (g.O.Sink.taken c.args.out.now) (g.O.Sink.taken c.put.new.out) (g.O.Sink.taken c.put-2.new.out) _ _ _
+    (refl) c.in_ok-put.ensures.told c.put-2.ensures.told

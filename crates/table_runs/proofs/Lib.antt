@@ -1,0 +1,9 @@
+pub mod AgreeLemmas
+pub mod AnswersLemmas
+pub mod AskingLemmas
+pub mod AskingNameLemmas
+pub mod AskingPlaceLemmas
+pub mod ServedLemmas
+pub mod SpeakLemmas
+pub mod TabledLemmas
+pub mod YieldsLemmas

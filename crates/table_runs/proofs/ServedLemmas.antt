@@ -1,0 +1,386 @@
+-- Each request of whole turns, of any mode, goes to a child of the pools.
+use Rattle.std.proofs.Common.{◌≡◌, ℕ, zero, suc, ◌+◌, ◌<◌, ◌≤◌, inl, inr, Bool, true, false, cond, List, [], ◌∷◌, ◌++◌, map, length, take, drop, count_by, refl, sym, ap, subst, ◌∙◌, Option, None, Some, slice_get, arith, append_assoc}
+use Rattle.std.proofs.lemmas.List.{append-nil, take-append-drop}
+use Rattle.std.proofs.lemmas.List.Elements.{All-contains}
+use Rattle.std.proofs.lemmas.Option.{slice_get_within, slice_get-map}
+use Rattle.std.specs.Option.{option_map}
+use Rattle.instance_queue.specs.Level.{instances_of}
+use Rattle.instance_queue.specs.declared.due.Due.{Due}
+use Rattle.lemmas.proofs.Members.{append_cases, get_append, get_behind, member_at, next_taken}
+use Rattle.lemmas.proofs.Options.{and_then_some}
+use Rattle.mode_turns.proofs.ModesLemmas.{as_family}
+use Rattle.mode_turns.specs.Modes.{TurnOf, nothing_kept}
+use Rattle.pools.proofs.PoolsLemmas.{server_is, workers_fit}
+use Rattle.pools.specs.Pools.{AreFitPools, Workers, child_for, has_stream, server, shares_of, streams_of, workers_of}
+use Rattle.round_run.proofs.DialogueRequestLemmas.{AreReplies, closed_by, last_join, no_requests, requests_join, stream_shown}
+use Rattle.round_run.specs.Dialogue.{IsOneOf, Request, called_stream, last_round, requests_after, requests_of, workers_in}
+use Rattle.session_core.proofs.SessionLemmas.{count_joined, count_one}
+use Rattle.table_runs.proofs.AgreeLemmas.{answer_is}
+use Rattle.table_runs.specs.Asking.{GoToPools}
+use Rattle.task_model.proofs.KnownLemmas.{numbers_decided}
+use Rattle.task_model.specs.Dreams as dreams
+use Rattle.task_model.specs.Fit.{IsFit, is_name}
+use Rattle.task_model.specs.Known.{same_numbers}
+use Rattle.task_model.specs.Streams.{yields_of}
+use Rattle.task_model.specs.declared.stream.Instance.{Instance}
+use Rattle.task_model.specs.declared.stream.Stream.{Stream}
+use Rattle.task_model.specs.declared.task.Task.{Task}
+use Rattle.gen_lines.specs.Request.{stream_name}
+use Rattle.transcript_model.proofs.NamedObjectLemmas.{passes_all}
+use Rattle.transcript_model.proofs.NamesLemmas.{position_at}
+use Rattle.transcript_model.specs.Dreaming.{Sent}
+use Rattle.transcript_model.specs.Legal.{IsLegal, asks_of, is_answer, is_mark}
+use Rattle.transcript_model.specs.Names.{call_of_instance, places_of, stream_named}
+use Rattle.transcript_model.specs.Rounds as rounds
+use Rattle.transcript_model.specs.Rounds.{AreAnswers, AreRounds, AreRoundsRun, IsBatch, Limits, calls_left, fits, limits_of, requests, requests_from}
+use Rattle.transcript_model.specs.Transcript.{names_of, notes_of}
+use Rattle.transcript_model.specs.Turns.{AreBatches, AreTurns, AreTurnsOf, IsDreamTurn, IsEmptyTurn, IsFallback, IsFirstBatch, IsLevel, IsPickTurn, Kept, Stage, cut_off, finished, further, inside, last, level, none_left, reset, retiring, stopped, whole}
+use Rattle.transcript_model.specs.declared.entry.Call.{Call}
+use Rattle.transcript_model.specs.declared.entry.Entry.{Entry}
+use Rattle.transcript_model.specs.declared.entry.Entry.TheVariants as entry
+use Rattle.transcript_model.specs.declared.head.Head.{Head}
+use Rattle.transcript_model.specs.declared.head.Pool.{Pool}
+use Rattle.transcript_model.specs.declared.head.Mode.{Mode}
+use Rattle.transcript_model.specs.declared.head.Mode.TheVariants.{Incremental, Focused, Binding, Adaptive}
+
+-- ---- the streams that are named
+
+module _ (task : Task) where
+  -- each request's stream is one of the task
+  abbrev NameStreams : List Entry → Type 0
+  NameStreams es =
+      (k n turn : ℕ) (call : Call) → slice_get es k ≡ Some (entry.Ask n turn call)
+      → (place : ℕ) × (stream_named task call.name ≡ Some place)
+
+  legal_names : (version : ℕ) (entries : List Entry) → IsLegal version task entries → NameStreams entries
+  legal_names version entries legal k n turn call at =
+      let right = legal k (entry.Ask n turn call) at in
+      let named =
+      and_then_some (λ stream. option_map (λ inputs. record { stream = stream; inputs = inputs })
+      (places_of (names_of task (take k entries)) call.args)) (stream_named task call.name) right.instance right.named in
+      (named.0, named.1)
+
+  names_front : (xs ys : List Entry) → NameStreams (xs ++ ys) → NameStreams xs
+  names_front xs ys all k n turn call at = all k n turn call (get_append xs ys k (entry.Ask n turn call) at)
+
+  names_behind : (xs ys : List Entry) → NameStreams (xs ++ ys) → NameStreams ys
+  names_behind xs ys all k n turn call at =
+      all (length xs + k) n turn call (get_behind xs ys k (entry.Ask n turn call) at)
+
+  -- a stream whose name is found is one of the task
+  stream_below : IsFit task → (k place : ℕ) → stream_named task (stream_name task k) ≡ Some place → k < length task.streams
+  stream_below fit k place named = by (slice_get task.streams k) refl
+    where
+      by : (o : Option Stream) → slice_get task.streams k ≡ o → k < length task.streams
+      by (Some s) is = slice_get_within task.streams k s is
+      by None is =
+          let unnamed : stream_name task k ≡ [] = rw is refl in
+          let found = position_at (λ (s : Stream). same_numbers (stream_name task k) s.name) task.streams place named in
+          let same = (numbers_decided (stream_name task k) found.0.name).0 found.2 in
+          let there = slice_get-map (λ (s : Stream). s.name) task.streams place ∙ ap (option_map (λ (s : Stream). s.name)) found.1 in
+          let right : is_name found.0.name ≡ true =
+          All-contains (λ name. is_name name ≡ true) (map (λ (s : Stream). s.name) task.streams) found.0.name
+          (passes_all is_name (λ name. is_name name ≡ true) (map (λ (s : Stream). s.name) task.streams)
+          (λ name e. e) fit.streams.names.each) (member_at (map (λ (s : Stream). s.name) task.streams) place found.0.name there) in
+          let wrong : false ≡ true = ap is_name (sym unnamed ∙ same) ∙ right in
+          absurd (cc)
+
+-- ---- how many of a round a pool serves
+
+count_front : (p : ℕ → Bool) (xs : List ℕ) (k x : ℕ) → slice_get xs k ≡ Some x → p x ≡ true
+    → count_by p (take k xs) + 1 ≤ count_by p xs
+count_front p xs k x at passes =
+    let next = ap (count_by p) (next_taken xs k x at) ∙ count_joined p (take k xs) (x ∷ []) in
+    let one = count_one p x ∙ ap (λ b. cond {A = ℕ} b 1 0) passes in
+    let parts = sym (ap (count_by p) (take-append-drop (k + 1) xs)) ∙ count_joined p (take (k + 1) xs) (drop (k + 1) xs) in
+    omega (arith, next, one, parts)
+
+abbrev due_of : Instance → Due
+due_of i = record { instance = i; turn = 0 }
+
+instances_are : (list : List Instance) → instances_of (map due_of list) ≡ list
+instances_are [] = refl
+instances_are (i ∷ list) = ap (λ is. i ∷ is) (instances_are list)
+
+abbrev streams_in : List Instance → List ℕ
+streams_in = map (λ (i : Instance). i.stream)
+
+streams_are : (list : List Instance) → streams_of (map due_of list) ≡ streams_in list
+streams_are [] = refl
+streams_are (i ∷ list) = ap (λ ss. i.stream ∷ ss) (streams_are list)
+
+take_streams : (list : List Instance) (k : ℕ) → streams_in (take k list) ≡ take k (streams_in list)
+take_streams list zero = refl
+take_streams [] (suc k) = refl
+take_streams (i ∷ list) (suc k) = ap (λ ss. i.stream ∷ ss) (take_streams list k)
+
+module _ (task : Task) (pools : List Workers) (fit : IsFit task) (able : AreFitPools task pools) where
+  -- ---- one round
+
+  -- the instance of a request of a round, and its child
+  record Sends (round : List ℕ) (list : List Instance) (k child : ℕ) : Type 0 where
+    instance : Instance
+    there : slice_get list k ≡ Some instance
+    below : instance.stream < length task.streams
+    is : child ≡ child_for pools (round ++ streams_in (take k list)) instance.stream
+
+  -- the stream of the first request, as it is shown
+  first_below : (before : List Entry) (n : ℕ) (i : Instance) (list : List Instance)
+      → NameStreams task (requests_from task before n (i ∷ list)) → i.stream < length task.streams
+  first_below before n i list named =
+      let found =
+      named 0 n (yields_of (notes_of task before) i) (call_of_instance task (names_of task before) i) refl in
+      stream_below task fit i.stream found.0 found.1
+
+  sends_at : (before : List Entry) (n : ℕ) (round : List ℕ) (list : List Instance) → NameStreams task (requests_from task before n list)
+      → (k : ℕ) (r : Request) → slice_get (requests_after task pools round (requests_from task before n list)) k ≡ Some r
+      → Sends round list k r.child
+  sends_at before n round [] named k r at = absurd (cc)
+  sends_at before n round (i ∷ list) named zero r at =
+      let call = call_of_instance task (names_of task before) i in
+      let below = first_below before n i list named in
+      let same : child_for pools round (called_stream task call) ≡ r.child = cc in
+      record {
+        instance = i;
+        there = refl;
+        below = below;
+        is =
+            sym same
+            ∙ ap (child_for pools round) (stream_shown task (names_of task before) i fit below)
+            ∙ ap (λ ss. child_for pools ss i.stream) (sym (append-nil round));
+      }
+  sends_at before n round (i ∷ list) named (suc k) r at =
+      let shown = stream_shown task (names_of task before) i fit (first_below before n i list named) in
+      let later =
+      sends_at before (n + 1) (round ++ i.stream ∷ []) list (λ m number turn c e. named (suc m) number turn c e) k r
+      (subst (λ s. slice_get (requests_after task pools (round ++ s ∷ []) (requests_from task before (n + 1) list)) k ≡ Some r)
+      shown at) in
+      record {
+        instance = later.instance;
+        there = later.there;
+        below = later.below;
+        is =
+            later.is
+            ∙ ap (λ ss. child_for pools ss later.instance.stream) (append_assoc round (i.stream ∷ []) (streams_in (take k list)));
+      }
+
+  -- the child is one of the pool that serves the stream
+  sent_one : (list : List Instance) (k child : ℕ) → fits (shares_of pools) list ≡ true → Sends [] list k child → IsOneOf pools child
+  sent_one list k child few s =
+      let found = able.served s.instance.stream s.below in
+      let is = server_is pools s.instance.stream found.0 found.1 in
+      let p = found.0 in
+      let at : slice_get (streams_in list) k ≡ Some s.instance.stream =
+      slice_get-map (λ (i : Instance). i.stream) list k ∙ ap (option_map (λ (i : Instance). i.stream)) s.there in
+      let enough = count_front (has_stream p) (streams_in list) k s.instance.stream at is.2 in
+      let most =
+      workers_fit pools (map due_of list) (ap (fits (shares_of pools)) (instances_are list) ∙ few) is.0 p is.1 in
+      let many = ap (count_by (has_stream p)) (streams_are list) in
+      let child_is = s.is ∙ from p found.1 ∙ ap (λ ss. p.first + count_by (has_stream p) ss) (take_streams list k) in
+      record {
+        place = is.0;
+        pool = p;
+        at = is.1;
+        has = record { from = omega (arith, child_is); to = omega (arith, child_is, enough, most, many) };
+      }
+    where
+      from : (p : Workers) → server pools s.instance.stream ≡ Some p
+          → child_for pools (streams_in (take k list)) s.instance.stream ≡ p.first + count_by (has_stream p) (streams_in (take k list))
+      from p e = rw e refl
+
+  -- ---- parts of transcripts
+
+  -- the requests go to children of the pools, and none stands at the end
+  record AreServed (es : List Entry) : Type 0 where
+    each : GoToPools task pools es
+    closed : last_round task [] es ≡ []
+
+  none_served : AreServed []
+  none_served = record { each = λ k r at. absurd (cc); closed = refl }
+
+  joined_served : (xs ys : List Entry) → AreServed xs → AreServed ys → AreServed (xs ++ ys)
+  joined_served xs ys first second = record {
+    each = both;
+    closed = last_join task [] xs ys ∙ ap (λ round. last_round task round ys) first.closed ∙ second.closed;
+  }
+    where
+      parts : requests_of task pools (xs ++ ys) ≡ requests_of task pools xs ++ requests_of task pools ys
+      parts =
+          requests_join task pools [] xs ys
+          ∙ ap (λ round. requests_of task pools xs ++ requests_after task pools round ys) first.closed
+
+      both : GoToPools task pools (xs ++ ys)
+      both k r at =
+          elim (append_cases (requests_of task pools xs) (requests_of task pools ys) k r (sym (ap (λ rs. slice_get rs k) parts) ∙ at)) [
+            | inl early ↦ first.each k r early
+            | inr later ↦ second.each later.0 r later.2
+          ]
+
+  mark_served : (e : Entry) → is_mark e ≡ true → AreServed (e ∷ [])
+  mark_served (entry.Ask number turn call) is = absurd (cc)
+  mark_served e is = record { each = λ k r at. absurd (cc); closed = refl }
+
+  marked_served : (e : Entry) (rest : List Entry) → is_mark e ≡ true → AreServed rest → AreServed (e ∷ rest)
+  marked_served e rest is later = joined_served (e ∷ []) rest (mark_served e is) later
+
+  answers_are : (n many : ℕ) (es : List Entry) → AreAnswers n many es → AreReplies es
+  answers_are n zero [] are k e at = absurd (cc)
+  answers_are n zero (x ∷ es) are k e at = absurd are
+  answers_are n (suc many) [] are k e at = absurd are
+  answers_are n (suc many) (x ∷ es) are zero e at = let same : x ≡ e = cc in ap is_answer (sym same) ∙ answer_is n x are.0
+  answers_are n (suc many) (x ∷ es) are (suc k) e at = answers_are (n + 1) many es are.1 k e at
+
+  answers_long : (n many : ℕ) (es : List Entry) → AreAnswers n many es → length es ≡ many
+  answers_long n zero [] are = refl
+  answers_long n zero (x ∷ es) are = absurd are
+  answers_long n (suc many) [] are = absurd are
+  answers_long n (suc many) (x ∷ es) are = ap suc (answers_long (n + 1) many es are.1)
+
+  round_served : (before : List Entry) (list : List Instance) (answers : List Entry) → 0 < length list
+      → fits (shares_of pools) list ≡ true → AreAnswers (asks_of before + 1) (length list) answers
+      → NameStreams task (requests task before list ++ answers) → AreServed (requests task before list ++ answers)
+  round_served before list answers some few right named = record { each = one; closed = closed }
+    where
+      asks : List Entry
+      asks = requests task before list
+
+      replies : AreReplies answers
+      replies = answers_are (asks_of before + 1) (length list) answers right
+
+      only : requests_of task pools (asks ++ answers) ≡ requests_of task pools asks
+      only =
+          requests_join task pools [] asks answers
+          ∙ ap (λ rs. requests_of task pools asks ++ rs) (no_requests task pools (last_round task [] asks) answers replies)
+          ∙ append-nil (requests_of task pools asks)
+
+      one : GoToPools task pools (asks ++ answers)
+      one k r at =
+          sent_one list k r.child few
+          (sends_at before (asks_of before + 1) [] list (names_front task asks answers named) k r
+          (sym (ap (λ rs. slice_get rs k) only) ∙ at))
+
+      closed : last_round task [] (asks ++ answers) ≡ []
+      closed =
+          last_join task [] asks answers
+          ∙ closed_by task (last_round task [] asks) answers replies
+          (omega (arith, answers_long (asks_of before + 1) (length list) answers right, some))
+
+  -- ---- batches
+
+  module _ (limits : Limits) (shares : limits.pools ≡ shares_of pools) where
+    rounds_served : (rounds : List (List Instance)) (list : List Instance) (before es : List Entry)
+        → AreRounds limits.pools list rounds → AreRoundsRun task before rounds es → NameStreams task es → AreServed es
+    rounds_served [] list before es none run named = subst AreServed (sym run) none_served
+    rounds_served (round ∷ rounds) list before es
+        (rest, parts, some, few, full, more) (now, later, es_is, (answers, now_is, right), run) named =
+        let all = subst (NameStreams task) es_is named in
+        let here = subst (NameStreams task) now_is (names_front task now later all) in
+        subst AreServed (sym es_is)
+        (joined_served now later
+        (subst AreServed (sym now_is)
+        (round_served before round answers some (sym (ap (λ ps. fits ps round) shares) ∙ few) right here))
+        (rounds_served rounds rest (before ++ now) later more run (names_behind task now later all)))
+
+    batch_served : (before now : List Entry) (list : List Instance) → IsBatch limits task before list now
+        → NameStreams task now → AreServed now
+    batch_served before now list batch named =
+        rounds_served batch.rounds (take (calls_left limits before) list) before now batch.cut batch.run named
+
+    -- behind a line
+    behind_mark : (e : Entry) (rest now : List Entry) → now ≡ e ∷ rest → is_mark e ≡ true
+        → (NameStreams task rest → AreServed rest) → NameStreams task now → AreServed now
+    behind_mark e rest now is mark later named =
+        subst AreServed (sym is)
+        (marked_served e rest mark (later (names_behind task (e ∷ []) rest (subst (NameStreams task) is named))))
+
+    level_served : (before now : List Entry) (cut : Bool) → IsLevel limits task before now cut → NameStreams task now → AreServed now
+    level_served before now cut this =
+        behind_mark entry.Level this.rest now this.is refl
+        (batch_served (before ++ entry.Level ∷ []) this.rest this.list this.batch)
+
+    fallback_served : (before : List Entry) (tried : List Instance) (now : List Entry) (cut : Bool)
+        → IsFallback limits task before tried now cut → NameStreams task now → AreServed now
+    fallback_served before tried now cut (reset first more) named = mark_served entry.Reset refl
+    fallback_served before tried now cut (level this) named = level_served before now cut this named
+
+    batches_served : (real : ℕ) (entries : List dreams.Entry) (sent : List Sent) (before now : List Entry) (after : List Sent) (cut : Bool)
+        → AreBatches limits task real entries sent before now after cut → NameStreams task now → AreServed now
+    batches_served real entries sent before now after cut (finished none) named = none_served
+    batches_served real entries sent before now after cut (last next is more batch) named = batch_served before now _ batch named
+    batches_served real entries sent before now after cut (further {now = first} {rest = rest} next is some all batch more) named =
+        joined_served first rest (batch_served before first _ batch (names_front task first rest named))
+        (batches_served real entries (sent ++ next) (before ++ first) rest after cut more (names_behind task first rest named))
+
+    -- ---- turns
+
+    dream_served : (asks : ℕ → List dreams.Entry → List Entry → List Entry → List Sent → Bool → Type 0)
+        (tried : List Instance) (before now : List Entry) (next : List Instance) (cut : Bool)
+        → ((real : ℕ) (entries : List dreams.Entry) (b n : List Entry) (s : List Sent) (c : Bool) → asks real entries b n s c
+        → NameStreams task n → AreServed n)
+        → IsDreamTurn limits task asks tried before now next cut → NameStreams task now → AreServed now
+    dream_served asks tried before now next cut each this =
+        behind_mark (entry.Dream this.uses this.steps) this.rest now this.is refl
+        (each _ this.entries _ this.rest this.sent cut this.batches)
+
+    empty_served : (tried : List Instance) (before now : List Entry) (next : List Instance) (cut : Bool)
+        → IsEmptyTurn limits task tried before now next cut → NameStreams task now → AreServed now
+    empty_served tried before now next cut this =
+        behind_mark entry.Nothing this.rest now this.is refl
+        (fallback_served (before ++ entry.Nothing ∷ []) tried this.rest cut this.fallback)
+
+    retiring_served : (number : ℕ) (sent : List Sent) → AreServed (retiring number sent)
+    retiring_served number [] = mark_served (entry.Retire number) refl
+    retiring_served number (s ∷ sent) = none_served
+
+    pick_served : (kept : Kept) (before now : List Entry) (next : Kept) (cut : Bool)
+        → IsPickTurn limits task kept before now next cut → NameStreams task now → AreServed now
+    pick_served kept before now next cut this =
+        let end = retiring (this.place + 1) this.sent in
+        behind_mark (entry.Pick (this.place + 1)) (this.batches ++ end) now this.is refl
+        (λ named. joined_served this.batches end
+        (batches_served this.skeleton.real this.skeleton.entries [] _ this.batches this.sent cut this.run
+        (names_front task this.batches end named))
+        (retiring_served (this.place + 1) this.sent))
+
+    turn_served : (mode : Mode) (kept : Kept) (before now : List Entry) (next : Kept) (cut : Bool)
+        → TurnOf mode limits task kept before now next cut → NameStreams task now → AreServed now
+    turn_served Incremental kept before now next cut this = level_served before now cut this.0
+    turn_served Focused kept before now next cut (inl this, same) =
+        dream_served (IsFirstBatch limits task) kept.tried before now next.tried cut
+        (λ real entries b n s c first. batch_served b n _ first.batch) this
+    turn_served Focused kept before now next cut (inr this, same) = empty_served kept.tried before now next.tried cut this
+    turn_served Binding kept before now next cut (inl this, same) =
+        dream_served (λ real entries. AreBatches limits task real entries []) kept.tried before now next.tried cut
+        (λ real entries b n s c run. batches_served real entries [] b n s c run) this
+    turn_served Binding kept before now next cut (inr this, same) = empty_served kept.tried before now next.tried cut this
+    turn_served Adaptive kept before now next cut (inl this) =
+        behind_mark (entry.Dream this.uses this.steps) this.rest now this.is refl (pick_served _ _ this.rest next cut this.pick)
+    turn_served Adaptive kept before now next cut (inr (inl this)) =
+        behind_mark entry.Nothing this.rest now this.is refl (pick_served kept _ this.rest next cut this.pick)
+    turn_served Adaptive kept before now next cut (inr (inr this)) = empty_served kept.tried before now this.tried cut this.turn
+
+    turns_served : (mode : Mode) (kept : Kept) (before es : List Entry) (stage : Stage)
+        → AreTurns limits task (TurnOf mode limits task) kept before es stage → ¬ (stage ≡ inside)
+        → NameStreams task es → AreServed es
+    turns_served mode kept before es stage none_left resting named = none_served
+    turns_served mode kept before es stage (whole next {now = now} {rest = rest} may this more) resting named =
+        joined_served now rest (turn_served mode kept before now next false this (names_front task now rest named))
+        (turns_served mode next (before ++ now) rest stage more resting (names_behind task now rest named))
+    turns_served mode kept before es stage (cut_off next may this) resting named =
+        turn_served mode kept before es next true this named
+    turns_served mode kept before es stage (stopped next more cut may this) resting named = absurd (resting refl)
+
+-- the pools of the limits are those of the workers
+shares_are : (ps : List Pool) → map rounds.share_of ps ≡ shares_of (map workers_of ps)
+shares_are [] = refl
+shares_are (p ∷ ps) = ap (λ qs. rounds.share_of p ∷ qs) (shares_are ps)
+
+-- The requests of turns none of which stops inside.
+pub go_to_pools : (task : Task) (head : Head) (entries : List Entry) (stage : Stage) → IsFit task → AreFitPools task (workers_in head)
+    → IsLegal head.version task entries → AreTurnsOf head.mode (limits_of head) task entries stage → ¬ (stage ≡ inside)
+    → GoToPools task (workers_in head) entries
+go_to_pools task head entries stage fit able legal turns resting =
+    let served =
+    turns_served task (workers_in head) fit able (limits_of head) (shares_are head.pools) head.mode nothing_kept [] entries stage
+    (as_family head.mode (limits_of head) task entries stage turns) resting (legal_names task head.version entries legal) in
+    served.each

@@ -1,0 +1,3 @@
+mod OneLemmas
+mod SpelledLemmas
+mod SpelledRunLemmas

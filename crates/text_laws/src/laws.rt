@@ -1,0 +1,15 @@
+//! Laws of what names a run, each the contract of a function that does nothing.
+ghost use Rattle.text_laws.specs.Laws.{OneTextOneRun};
+ghost use Rattle.text_laws.specs.Spelled.{OneWorkerSpellsOneRun};
+
+/// Two runs of the program that solve tasks and write the same report have the same transcript,
+/// outcome, mode and limits, whatever their words, their files and their children.
+pub fn one_text_one_run()
+    ensures { OneTextOneRun }
+{}
+
+/// Two runs over one task, with one head, in incremental mode and with one worker, have the same
+/// transcript if the same was said with this worker.
+pub fn one_worker_spells_one_run()
+    ensures { OneWorkerSpellsOneRun }
+{}
