@@ -10,7 +10,7 @@ work=$(mktemp -d)
 trap 'rm -rf "$work"' EXIT
 
 mkdir -p "$work/crates/readers_bench/src"
-for crate in sexpr_text task_model fit_check form_reader name_tables domain_reader problem_reader stream_reader; do
+for crate in lemmas sexpr_text task_model fit_check form_reader name_tables domain_reader problem_reader stream_reader; do
     cp -a "$root/crates/$crate" "$work/crates/"
     grep "^$crate:" "$root/crates.txt" >> "$work/crates.txt"
 done

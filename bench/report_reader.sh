@@ -10,16 +10,11 @@ work=$(mktemp -d)
 trap 'rm -rf "$work"' EXIT
 
 mkdir -p "$work/crates/report_bench/src"
-for name in task_model gen_lines transcript_model report_reader; do
-    cp -r "$root/crates/$name" "$work/crates/"
+for crate in lemmas io_world task_model gen_lines transcript_model report_text report_reader; do
+    cp -r "$root/crates/$crate" "$work/crates/"
+    grep "^$crate:" "$root/crates.txt" >> "$work/crates.txt"
 done
-{
-    echo 'task_model: smallvec'
-    echo 'gen_lines: task_model'
-    echo 'transcript_model: gen_lines task_model'
-    echo 'report_reader: gen_lines task_model transcript_model'
-    echo 'report_bench: anyhow report_reader transcript_model'
-} > "$work/crates.txt"
+echo 'report_bench: anyhow report_reader report_text' >> "$work/crates.txt"
 cat > "$work/crates/report_bench/src/main.rt" <<'PROGRAM'
 // Reads standard input as a report, and prints the microseconds that it took and the first faulty line, or 0.
 #![tactic(auto)]
@@ -28,7 +23,7 @@ use std::io::Read;
 use std::time::Instant;
 
 use anyhow::Result;
-use transcript_model::ReportFault;
+use report_text::ReportFault;
 
 fn main(rt: HostRuntime) -> Result<()> {
     let mut bytes = Vec::new(rt.alloc());
