@@ -14,7 +14,7 @@ use Rattle.level_run.specs.declared.turns.Turned.{Turned}
 use Rattle.level_run.specs.declared.turns.Turned.TheVariants as turned
 use Rattle.mode_turns.proofs.BatchesLemmas.{batches_ask}
 use Rattle.mode_turns.specs.Modes.{TurnOf}
-use Rattle.session_core.proofs.SessionLemmas.{count_joined, count_one}
+use Rattle.lemmas.proofs.Counts.{count_joined, count_one}
 use Rattle.session_core.specs.State.{State}
 use Rattle.std.proofs.lemmas.Bool.{cases_lt}
 use Rattle.std.proofs.lemmas.List.{length-map}

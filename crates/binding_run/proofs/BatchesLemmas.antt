@@ -2,7 +2,7 @@
 use Rattle.std.proofs.Common.{◌≡◌, Contains, ℕ, ◌+◌, ◌-◌, ◌<◌, ◌≤◌, arith, Bool, true, false, All, map, List, [], ◌++◌, length, drop, take, Option, Some, refl, sym, subst, ap, ◌∙◌, append_assoc}
 use Rattle.std.proofs.lemmas.List.{append-nil, length-map, map-append}
 use Rattle.std.proofs.lemmas.List.Prefix.{front_rest}
-use Rattle.binding_run.specs.Batching.{Asks, HasProgress, IsFrontOfBatches, RanBatches, RanSome, nexts}
+use Rattle.binding_run.specs.Batching.{Called, HasProgress, IsFrontOfBatches, RanBatches, RanSome, nexts}
 use Rattle.dream_asks.proofs.NextLemmas.{sent_free}
 use Rattle.dream_asks.proofs.ProgressLemmas.{numbered_instances, numbered_length}
 use Rattle.dream_asks.specs.Next.{AreDuesOf, AreNext}
@@ -232,7 +232,7 @@ module _ (task : Task) (s : State) (works : s.failed ≡ false) (learnt : IsLear
       -- so many requests were made
       pub asks_next : (new : State) (was now : Option (List Event)) (b : Batch) → RanBatch task head dues s new b
           → length s.asked ≤ head.calls → (b ≡ CallsSpent → IsSure head task new.entries (outcome.Limit Calls))
-          → Asks head task s new was now (Some b)
+          → Called head task s new was now (Some b)
       asks_next new was now Done ran within sure = (omega (arith, ran.ends.0, some, dues_long), ran.ends.1)
       asks_next new was now CallsSpent ran within sure =
           (omega (arith, ran.ends.0, within), λ left. omega (arith, ran.ends.0, left), sure refl)

@@ -15,7 +15,7 @@ use Rattle.mode_turns.proofs.BatchesLemmas.{batches_ask}
 use Rattle.mode_turns.specs.Modes.{TurnOf}
 use Rattle.round_run.specs.declared.ending.Batch.{Batch}
 use Rattle.round_run.specs.declared.ending.Batch.TheVariants.{CallsSpent, Done}
-use Rattle.session_core.proofs.SessionLemmas.{count_joined}
+use Rattle.lemmas.proofs.Counts.{count_joined}
 use Rattle.session_core.specs.State.{State}
 use Rattle.task_model.specs.Dreams as dreams
 use Rattle.task_model.specs.Fit.{IsFit}

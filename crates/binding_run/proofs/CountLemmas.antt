@@ -5,7 +5,7 @@ use Rattle.std.proofs.lemmas.List.{append-nil, length-append, length-map, length
 use Rattle.level_run.proofs.ReportsCountLemmas.{rounds_none}
 use Rattle.mode_turns.proofs.BatchesLemmas.{batches_grow}
 use Rattle.mode_turns.proofs.CountsLemmas.{rounds_count}
-use Rattle.session_core.proofs.SessionLemmas.{count_joined}
+use Rattle.lemmas.proofs.Counts.{count_joined}
 use Rattle.task_model.specs.Dreams as dreams
 use Rattle.task_model.specs.declared.task.Task.{Task}
 use Rattle.transcript_model.proofs.LegalNumberLemmas.{asks_more}

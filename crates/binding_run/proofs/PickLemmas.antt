@@ -12,7 +12,7 @@ use Rattle.mode_turns.proofs.CountsLemmas.{retiring_none}
 use Rattle.round_run.proofs.RollingFrontLemmas.{front_first}
 use Rattle.round_run.specs.declared.ending.Batch.{Batch}
 use Rattle.round_run.specs.declared.ending.Batch.TheVariants.{CallsSpent, Done}
-use Rattle.session_core.proofs.SessionLemmas.{count_joined}
+use Rattle.lemmas.proofs.Counts.{count_joined}
 use Rattle.session_core.specs.State.{State}
 use Rattle.task_model.specs.declared.stream.Instance.{Instance}
 use Rattle.task_model.specs.declared.task.Task.{Task}

@@ -9,7 +9,7 @@ use Rattle.binding_run.specs.Skeletons.{AreFewKept, idle_with, is_kept}
 use Rattle.focused_run.proofs.DreamtLemmas.{idle_one}
 use Rattle.focused_run.specs.Focusing.{idle_of}
 use Rattle.lemmas.proofs.ListTests.{all_one}
-use Rattle.session_core.proofs.SessionLemmas.{count_joined, count_one}
+use Rattle.lemmas.proofs.Counts.{count_joined, count_one}
 use Rattle.skeletons.proofs.SkeletonLemmas.{last_picked}
 use Rattle.task_model.specs.declared.stream.Instance.{Instance}
 use Rattle.transcript_model.specs.Dreaming.{Sent, sent_instances}

@@ -65,10 +65,10 @@ RanNext head task real entries old new later tried joined sent (Some b) =
 
 -- How many requests were made, or that no call was: some, where a call was left, and all, where none was wanting. Where
 -- calls were wanting the limit of calls is sure.
-abbrev pub Asks : Head → Task → (old new : State) → (was now : Option (List Event)) → Option Batch → Type 0
-Asks head task old new was now None = (new ≡ old) × (now ≡ was)
-Asks head task old new was now (Some Done) = (length old.asked < length new.asked) × (length new.asked ≤ head.calls)
-Asks head task old new was now (Some CallsSpent) =
+abbrev pub Called : Head → Task → (old new : State) → (was now : Option (List Event)) → Option Batch → Type 0
+Called head task old new was now None = (new ≡ old) × (now ≡ was)
+Called head task old new was now (Some Done) = (length old.asked < length new.asked) × (length new.asked ≤ head.calls)
+Called head task old new was now (Some CallsSpent) =
     (length old.asked ≤ length new.asked) × (length old.asked < head.calls → length old.asked < length new.asked)
     × IsSure head task new.entries (outcome.Limit Calls)
 

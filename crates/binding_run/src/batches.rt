@@ -1,6 +1,6 @@
 //! The batches of a dream, one after another.
 ghost use Rattle.std.specs.Prelude.{◌≡◌, ◌<◌, ◌≤◌, ◌++◌, [], List, drop, length, IfOk, IfErr, OnOk};
-ghost use Rattle.binding_run.specs.Batching.{Asks, IsFrontOfBatches, MayGoOn, RanBatches, RanNext, RunsOn};
+ghost use Rattle.binding_run.specs.Batching.{Called, IsFrontOfBatches, MayGoOn, RanBatches, RanNext, RunsOn};
 ghost use Rattle.dream_asks.specs.Noting.{NotesAnswers};
 ghost use Rattle.dream_asks.specs.Progress.{IsProgress};
 ghost use Rattle.instance_queue.specs.Level.{instances_of};
@@ -71,7 +71,7 @@ fn next_batch<H: Host, O: Sink>(
         → IsProgress task.now session.old.entries gone.old sent
         → RanNext head.now task.now gone.old.real entries.now session.old session.new gone.new
         tried.old tried.new sent b) }
-    ensures asks { IfOk result (Asks head.now task.now session.old session.new (H.log host.old)
+    ensures asks { IfOk result (Called head.now task.now session.old session.new (H.log host.old)
         (H.log host.new)) }
     ensures adds { OnOk result (GoesInOrder session.old.entries session.new.entries
         (O.taken out.old) (O.taken out.new) (Runs task.now head.now session.old.entries

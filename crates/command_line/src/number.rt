@@ -1,12 +1,11 @@
 //! The numbers that words write.
 ghost use Rattle.std.specs.Prelude.{◌≡◌, ◌≤◌, IfSome};
-ghost use Rattle.std.specs.Char.{is_ascii_digit};
-ghost use Rattle.std.specs.List.{list_all};
 ghost use Rattle.clap.specs.Words.{found_of, rows_of};
 ghost use Rattle.command_line.specs.Numbers.{count_in, count_of};
 
 use crate::line::text_in;
 use clap::ArgMatches;
+use task_model::are_digits;
 
 /// How many calls may be made where the words don't say. The number is this project's.
 pub const DEFAULT_CALLS: u32 = 10_000;
@@ -16,12 +15,6 @@ pub const DEFAULT_STATES: u32 = 100_000;
 
 /// The depth where the words don't say. The number is this project's.
 pub const DEFAULT_DEPTH: u32 = 3;
-
-fn are_digits(word: &[u8]) -> bool
-    ensures { result ≡ list_all is_ascii_digit word.now }
-{
-    word.iter().all(|b| b.is_ascii_digit())
-}
 
 /// The number from 1 to the most that a word of one to seven digits writes, and nothing where the
 /// word writes none.

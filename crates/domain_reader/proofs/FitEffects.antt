@@ -21,7 +21,9 @@ use Rattle.form_reader.specs.declared.words.WordSort.TheVariants.{Name, Predicat
 use Rattle.form_reader.specs.Effects.{by_effect, cost_faults, effect_faults, effects_faults, increase_faults, is_other_function, is_total_cost, negated_faults, total_cost_faults}
 use Rattle.form_reader.specs.Faults.{number, shape, unsupported}
 use Rattle.form_reader.specs.Rows.{application_faults, end_faults, head_of, inner_of, row_faults, tail_of}
-use Rattle.form_reader.specs.Words.{effect_head_of, is_number, is_predicate_name, is_refused_effect}
+use Rattle.task_model.specs.Numbers.{is_number}
+use Rattle.task_model.proofs.NumbersLemmas.{number_few}
+use Rattle.form_reader.specs.Words.{effect_head_of, is_predicate_name, is_refused_effect}
 use Rattle.name_tables.specs.Names.{has_name, place_of}
 use Rattle.name_tables.specs.Terms.{application_names, declared_place, terms_names, terms_of, use_names, width, pattern_of}
 use Rattle.name_tables.specs.Variables.{unless}
@@ -36,12 +38,6 @@ use Rattle.domain_reader.proofs.FitRules.{place_used}
 use Rattle.domain_reader.specs.Effects.{Done, added, after_effect, after_effects, changed_names, charged, cost_names, cost_term_of, effect_names, effects_names, is_derived_name, negated_names, taken}
 
 -- ---- words
-
-digits_few : (text : List ℕ) → is_number text ≡ true → nat_le (digits_value 10 text) 1000000 ≡ true
-unfolding is_number
-digits_few [] e = absurd (cc)
-digits_few (b ∷ bs) e =
-    second_so (list_all is_ascii_digit (b ∷ bs)) (nat_le (digits_value 10 (b ∷ bs)) 1000000) e
 
 increase_word : (text : List ℕ) → effect_head_of text ≡ head.Increase → text ≡ codes "increase"
 unfolding effect_head_of
@@ -193,7 +189,7 @@ module _ (v : Vocabulary) (d : domain.Domain) (knows : Knows v d (length d.const
   cost_fits place nothing f n = absurd (some_fault (shape place) [] f)
   cost_fits place (word text at rest) f n =
       let counts : is_number text ≡ true = (chosen (is_number text) (end_faults rest) (number at) [] f).0 in
-      subst (λ b. nat_le (if b then digits_value 10 text else 0) 1000000 ≡ true) (sym counts) (digits_few text counts)
+      subst (λ b. nat_le (if b then digits_value 10 text else 0) 1000000 ≡ true) (sym counts) (number_few text counts)
   cost_fits place (list items at rest) f n =
       (λ i. is_fit_application (knows.functions i) (knows.objects_long i) filled
       (declared_place v.functions (head_of items)) (terms_of v.objects scope (tail_of items)))

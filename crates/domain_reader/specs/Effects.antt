@@ -9,7 +9,8 @@ use Rattle.form_reader.specs.declared.fault.Fault.{Fault}
 use Rattle.form_reader.specs.declared.fault.InputKind.TheVariants.{EffectOnStatic}
 use Rattle.form_reader.specs.Effects.{by_effect}
 use Rattle.form_reader.specs.Rows.{head_of, inner_of, tail_of}
-use Rattle.form_reader.specs.Words.{effect_head_of, is_number}
+use Rattle.task_model.specs.Numbers.{is_number}
+use Rattle.form_reader.specs.Words.{effect_head_of}
 use Rattle.name_tables.specs.Names.{has_name}
 use Rattle.name_tables.specs.Terms.{application_names, declared_place, pattern_of, terms_of}
 use Rattle.name_tables.specs.Variables.{unless}

@@ -3,12 +3,12 @@ ghost use Rattle.std.specs.Prelude.{◌≡◌, [], IfOk, OnOk};
 ghost use Rattle.sexpr_text.specs.Trees.{trees};
 ghost use Rattle.domain_reader.specs.Effects as specs;
 
-use form_reader::{EffectHead, effect_head_of, head_of, inner_of, number_of, tail_of};
+use form_reader::{EffectHead, effect_head_of, head_of, inner_of, tail_of};
 use name_tables::{Scope, Vocabulary, declared_place, pattern_of, terms_of};
 use sexpr_text::{Front, Tree, front_of};
 use std::alloc::{AllocError, Global};
 use std::marker::Model;
-use task_model::{CostTerm, Pattern, Seq};
+use task_model::{CostTerm, Pattern, Seq, number_of};
 
 /// The atoms that effects add and take away, and what they cost, in the order of the text.
 #[derive(Drop)]

@@ -6,7 +6,7 @@ use Rattle.std.proofs.lemmas.List.Elements.{Contains-append_left, filter_map-app
 use Rattle.std.proofs.lemmas.List.Folds.{list_any-append}
 use Rattle.std.specs.Cmp.{first_so}
 use Rattle.std.specs.List.{cons_option, filter_map, list_any}
-use Rattle.certify.proofs.TuplesLemmas.{places_found}
+use Rattle.learning.proofs.TuplesLemmas.{places_found}
 use Rattle.lemmas.proofs.Ascending.{in_flat_map}
 use Rattle.lemmas.proofs.Bools.{false_by, left_false, not_both, not_true, or_true}
 use Rattle.lemmas.proofs.Members.{get_behind, get_take, member_at}

@@ -1,5 +1,5 @@
 -- What the answers to a dream's requests say of it.
-use Rattle.std.specs.Prelude.{◌≡◌, ℕ, ◌+◌, List, [], ◌∷◌, ◌++◌, map, length, take, Option, None}
+use Rattle.std.specs.Prelude.{◌≡◌, ℕ, ◌+◌, ◌≤◌, List, [], ◌∷◌, ◌++◌, map, length, take, Bool, false, Option, None, nat_le}
 use Rattle.std.specs.List.{find}
 use Rattle.std.specs.Option.{option_and_then, option_or}
 use Rattle.dream_asks.specs.Next.{asked_instances}
@@ -43,6 +43,20 @@ pub record HasNoted (names : List (List ℕ)) (behind : List Entry) (first : ℕ
   pub real : new.real ≡ old.real
   pub taken : new.taken ≡ old.taken ++ asked_instances asks
   pub values : (object : ℕ) → got new object ≡ option_or (got old object) (came_for names behind first asks object)
+
+-- ---- answers that come one after another
+
+-- whether an entry answers the request of this number or of a later one
+abbrev pub is_answer_from : ℕ → Entry → Bool
+is_answer_from number (entry.Got n tuples values) = nat_le number n
+is_answer_from number (entry.Value n value) = nat_le number n
+is_answer_from number (entry.End n) = nat_le number n
+is_answer_from number e = false
+
+-- the requests from this number on have the same first answers in both
+abbrev pub HaveSameAnswers : ℕ → List Entry → List Entry → Type 0
+HaveSameAnswers number entries others =
+    (n : ℕ) → number ≤ n → find (is_answer_to n) entries ≡ find (is_answer_to n) others
 
 -- ---- transcripts
 

@@ -1,12 +1,13 @@
 //! The answers to a dream's requests.
-ghost use Rattle.std.specs.Prelude.{◌≡◌, map, option_copied, IfOk};
+ghost use Rattle.std.specs.Prelude.{◌≡◌, ◌<◌, length, map, option_copied, position, IfOk, IfSome};
 ghost use Rattle.std.specs.List.{find};
-ghost use Rattle.dream_asks.specs.Noting.{objects_for};
+ghost use Rattle.dream_asks.specs.Noting as noting;
+ghost use Rattle.dream_asks.specs.Noting.{HaveSameAnswers, objects_for};
 ghost use Rattle.transcript_model.specs.Legal as legal;
 ghost use Rattle.transcript_model.specs.Names.{generated};
 
-use certify::generated_name;
 use fact_store::Facts;
+use learning::generated_name;
 use shown_steps::objects_of;
 use std::alloc::{AllocError, Global};
 use task_model::{Name, Row};
@@ -28,6 +29,37 @@ fn answer_to(entries: &[Entry], number: u64) -> Option<&Entry>
     ensures { option_copied result ≡ find (legal.is_answer_to number) entries.now }
 {
     entries.iter().find(|entry| is_answer_to(entry, number))
+}
+
+/// Whether the entry answers the request of this number or of a later one.
+fn is_answer_from(entry: &Entry, number: u64) -> bool
+    ensures { result ≡ noting.is_answer_from number entry.now }
+{
+    match entry {
+        Entry::Got { number: n, .. } | Entry::Value { number: n, .. } | Entry::End { number: n } =>
+            { number <= u64::from(*n) }
+        _ => false,
+    }
+}
+
+/// Where the first entry stands that answers the request of this number or of a later one.
+fn place_from(entries: &[Entry], number: u64) -> Option<usize>
+    ensures place { result ≡ position (noting.is_answer_from number) entries.now }
+    ensures within { IfSome result (λ place. place < length entries.now) }
+{
+    entries
+        .iter()
+        .position(|entry| is_answer_from(entry, number))
+}
+
+/// The entries from the first on that answers the request of this number or of a later one.
+pub(crate) fn answers_from(entries: &[Entry], number: u64) -> &[Entry]
+    ensures { HaveSameAnswers number result.now entries.now }
+{
+    match place_from(entries, number) {
+        Some(place) => &entries[place..],
+        None => &[],
+    }
 }
 
 /// The names of the objects that these values stand for.

@@ -1,5 +1,5 @@
 //! How far a dream has come.
-use crate::answers::first_objects;
+use crate::answers::{answers_from, first_objects};
 use crate::asks::DreamAsk;
 use fact_store::Facts;
 use indexmap::IndexMap;
@@ -185,7 +185,7 @@ impl Gone {
 
     /// Notes that these asks were made, with numbers from `first` on, and which objects came for
     /// their placeholders. `behind` are the entries that came since. Only these are read, so no
-    /// batch goes through the whole transcript.
+    /// batch goes through the whole transcript, and once where answers come in their order.
     ///
     /// # Errors
     /// Only where memory is wanting.
@@ -200,10 +200,12 @@ impl Gone {
         ensures noted { OnOk result (NotesAnswers facts.now.known.names behind.now first asks.now
             self.old self.new) }
     {
+        let mut left = behind;
         for (place, ask) in asks.iter().enumerate() {
             let number = u64::from(first) + place as u64;
             self.taken.add(&ask.instance)?;
-            self.note_answer(facts, behind, number, ask.outputs.as_slice())?;
+            left = answers_from(left, number);
+            self.note_answer(facts, left, number, ask.outputs.as_slice())?;
         }
         Ok(())
     }

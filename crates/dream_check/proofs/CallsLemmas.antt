@@ -9,7 +9,7 @@ use Rattle.gen_lines.specs.Request.{stream_name}
 use Rattle.lemmas.proofs.Options.{and_then_some}
 use Rattle.lemmas.specs.Lists.{AreDistinct}
 use Rattle.optimistic_set.specs.Dreamable.{Dreamable}
-use Rattle.shown_steps.proofs.RunsLemmas.{names_there}
+use Rattle.task_model.proofs.StreamsLemmas.{names_there}
 use Rattle.task_model.proofs.KnownLemmas.{numbers_decided}
 use Rattle.task_model.proofs.StreamsLemmas.{instances_same, instance_itself}
 use Rattle.task_model.specs.Dreams.{Entry}

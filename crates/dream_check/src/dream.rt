@@ -5,7 +5,7 @@ ghost use Rattle.dream_check.specs.Listed.{IsPartJudged, IsJudgedOver, known_wit
 ghost use Rattle.dreaming.specs.Parts.{IsListed, IsListing};
 ghost use Rattle.dreaming.specs.Thinning.{IsPartAt};
 ghost use Rattle.shown_steps.specs.Plans.{IsPlan};
-ghost use Rattle.transcript_ledger.specs.Ledgers.{IsLedger};
+ghost use Rattle.learning.specs.Ledgers.{IsLedger};
 ghost use Rattle.transcript_model.specs.Rounds.{Limits};
 ghost use Rattle.transcript_model.specs.declared.entry.Entry.{Entry as AnyEntry};
 
@@ -14,10 +14,10 @@ use crate::steps::{Followed, follow};
 use crate::table::Table;
 use crate::uses::{Used, take_uses};
 use dreaming::{Listing, Part, entries_of};
+use learning::Ledger;
 use optimistic_set::{OptEntry, OptimisticFault, Supposed, Tried, optimistic};
 use std::alloc::{AllocError, Global};
 use task_model::Task;
-use transcript_ledger::Ledger;
 use transcript_model::{Call, DreamUse};
 
 /// What is found of a dream.

@@ -3,15 +3,15 @@ ghost use Rattle.std.specs.Prelude.{◌≡◌, ℕ, ◌≤◌, List, IfOk};
 ghost use Rattle.dream_check.specs.Judged.{IsNoneJudged, IsNoneOver, IsSolvableWithin};
 ghost use Rattle.task_model.specs.Fit.{IsFit};
 ghost use Rattle.task_model.specs.declared.limits.TheConstants.{MOST_STATES};
-ghost use Rattle.transcript_ledger.specs.Ledgers.{IsLedger};
+ghost use Rattle.learning.specs.Ledgers.{IsLedger};
 ghost use Rattle.transcript_model.specs.Rounds.{Limits};
 ghost use Rattle.transcript_model.specs.declared.entry.Entry.{Entry as AnyEntry};
 
 use best_first::{Additive, Found, exceeds, search};
+use learning::Ledger;
 use optimistic_set::{OptimisticFault, Tried, optimistic};
 use std::alloc::{AllocError, Global};
 use task_model::{Look, Task};
-use transcript_ledger::Ledger;
 
 /// Whether there is a plan, or None where more than so many states are reached.
 ///

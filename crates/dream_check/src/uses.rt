@@ -9,8 +9,8 @@ ghost use Rattle.transcript_model.specs.declared.entry.DreamUse.{DreamUse as Any
 
 use crate::table::Table;
 use dreaming::{Listing, Part};
+use shown_steps::instance_of;
 use std::alloc::AllocError;
-use transcript_ledger::instance_of;
 use transcript_model::{Call, DreamUse};
 
 /// Whether the call shows the entry at this place of the list.

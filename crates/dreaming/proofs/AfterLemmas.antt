@@ -7,7 +7,7 @@ use Rattle.std.specs.Cmp.{first_so}
 use Rattle.std.specs.List.{list_any, list_all, flat_map}
 use Rattle.std.proofs.lemmas.Result.{IfOk-weaker}
 use Rattle.std.specs.Prelude.{IfOk}
-use Rattle.certify.proofs.OutputsLemmas.{names_grow}
+use Rattle.learning.proofs.OutputsLemmas.{names_grow}
 use Rattle.dream_laws.proofs.FreshLemmas.{each_is_fresh}
 use Rattle.dream_laws.proofs.ListLemmas.{list_supported}
 use Rattle.lemmas.proofs.ListTests.{all_at, all_by_place, all_one}

@@ -1,6 +1,6 @@
 -- No placeholder has the name of another object.
 use Rattle.std.proofs.Common.{◌++◌, ◌≤◌, List, length}
-use Rattle.certify.proofs.FitStreamLemmas.{fit_parts}
+use Rattle.learning.proofs.FitStreamLemmas.{fit_parts}
 use Rattle.dream_laws.proofs.FreshLemmas.{few_outputs}
 use Rattle.lemmas.specs.Lists.{AreDistinct}
 use Rattle.optimistic_set.proofs.PlaceholderLemmas.{names_distinct}

@@ -6,7 +6,7 @@ use Rattle.std.proofs.lemmas.List.Elements.{All-nil}
 use Rattle.std.proofs.lemmas.Option.{slice_get_within}
 use Rattle.std.specs.List.{flat_map}
 use Rattle.std.specs.Prelude.{Bool}
-use Rattle.certify.proofs.FitStreamLemmas.{fit_parts}
+use Rattle.learning.proofs.FitStreamLemmas.{fit_parts}
 use Rattle.fact_layer.specs.Laid.{laid_over}
 use Rattle.lemmas.proofs.ListTests.{all_by_place}
 use Rattle.lemmas.proofs.Members.{push_cases}

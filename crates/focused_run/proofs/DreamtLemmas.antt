@@ -40,7 +40,7 @@ use Rattle.round_run.specs.Talking.{held_of}
 use Rattle.round_run.specs.declared.ending.Batch.{Batch}
 use Rattle.round_run.specs.declared.ending.Batch.TheVariants.{Done, CallsSpent}
 use Rattle.round_run.specs.declared.fault.RunFault.TheVariants.{Memory}
-use Rattle.session_core.proofs.SessionLemmas.{count_joined}
+use Rattle.lemmas.proofs.Counts.{count_joined}
 use Rattle.session_core.specs.Session.{IsLearnt, IsSession}
 use Rattle.session_core.specs.State.{State}
 use Rattle.task_model.proofs.StreamsLemmas.{due_holds}

@@ -1,4 +1,3 @@
-pub mod WordsLemmas
 pub mod FaultsFirstLemmas
 pub mod FaultsLeastLemmas
 pub mod RowsLemmas

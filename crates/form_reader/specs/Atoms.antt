@@ -8,7 +8,7 @@ use Rattle.form_reader.specs.Faults.{shape, unsupported, number}
 use Rattle.form_reader.specs.Effects.{is_total_cost}
 use Rattle.form_reader.specs.Refused.{is_end}
 use Rattle.form_reader.specs.Rows.{application_faults, end_faults}
-use Rattle.form_reader.specs.Words.{is_number}
+use Rattle.task_model.specs.Numbers.{is_number}
 
 -- a number, and nothing more
 abbrev pub number_faults : ℕ → Trees → List Fault

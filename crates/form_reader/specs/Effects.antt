@@ -9,7 +9,8 @@ use Rattle.form_reader.specs.declared.words.EffectHead.TheVariants.{And, Not, In
 use Rattle.form_reader.specs.declared.words.WordSort.TheVariants.{Name, Predicate, Term}
 use Rattle.form_reader.specs.Faults.{shape, unsupported, number}
 use Rattle.form_reader.specs.Rows.{application_faults, end_faults}
-use Rattle.form_reader.specs.Words.{effect_head_of, is_number}
+use Rattle.task_model.specs.Numbers.{is_number}
+use Rattle.form_reader.specs.Words.{effect_head_of}
 
 -- one atom, and nothing more
 abbrev pub negated_faults : ℕ → Trees → List Fault

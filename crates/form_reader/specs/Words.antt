@@ -3,9 +3,7 @@ use Rattle.std.specs.Prelude.{ℕ, Bool, true, false, ◌&&◌, ◌||◌, ◌==�
 use Rattle.std.specs.List.{list_all}
 use Rattle.std.specs.Char.{is_ascii_digit}
 use Rattle.std.specs.Str.{bytes_eq}
-use Rattle.std.specs.Str.Parse.{digits_value}
 use Rattle.task_model.specs.Fit.{is_name}
-use Rattle.task_model.specs.declared.limits.TheConstants.{LARGEST_NUMBER}
 use Rattle.form_reader.specs.declared.words.WordSort.{WordSort}
 use Rattle.form_reader.specs.declared.words.WordSort.TheVariants as sorts
 use Rattle.form_reader.specs.declared.words.ConditionHead.{ConditionHead}
@@ -17,11 +15,6 @@ use Rattle.form_reader.specs.declared.words.EffectHead.TheVariants as effects
 abbrev pub is_variable : List ℕ → Bool
 is_variable [] = false
 is_variable (b ∷ bs) = (b == 63) && is_name bs
-
--- digits alone, whose value is at most a million; leading zeros may stand
-unfoldable pub is_number : List ℕ → Bool
-is_number [] = false
-is_number (b ∷ bs) = list_all is_ascii_digit (b ∷ bs) && nat_le (digits_value 10 (b ∷ bs)) LARGEST_NUMBER
 
 -- a word that begins with `:`
 abbrev pub is_keyword : List ℕ → Bool

@@ -10,8 +10,9 @@ use crate::effects::is_total_cost;
 use crate::fault::{Fault, sooner};
 use crate::groups::{check_application, check_end};
 use crate::refused::is_end;
-use crate::words::{WordSort, is_number};
+use crate::words::WordSort;
 use sexpr_text::{Front, Tree, front_of};
+use task_model::is_number;
 
 /// A number, in the list at this place.
 fn check_number(place: usize, items: &[Tree], so_far: Option<Fault>) -> Option<Fault>

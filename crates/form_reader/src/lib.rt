@@ -21,5 +21,5 @@ pub use keys::{Key, Keyed};
 pub use texts::check_form;
 pub use words::{
     ConditionHead, EffectHead, WordSort, condition_head_of, effect_head_of, is_keyword, is_name,
-    is_number, is_predicate_name, is_variable, number_of,
+    is_predicate_name, is_variable,
 };

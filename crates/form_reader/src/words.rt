@@ -6,8 +6,6 @@ ghost use Rattle.std.specs.Str.Parse.{digits_value};
 ghost use Rattle.task_model.specs.Fit as fit;
 ghost use Rattle.form_reader.specs.Words as specs;
 
-use task_model::LARGEST_NUMBER;
-
 /// The longest name, in bytes.
 const NAME_BYTES: usize = 255;
 
@@ -134,42 +132,6 @@ pub(crate) fn begins_with_digit(word: &[u8]) -> bool
         [] => false,
         [first, ..] => first.is_ascii_digit(),
     }
-}
-
-/// The number that the word writes, if it is digits alone and the number is at most 1,000,000.
-/// Leading zeros may stand.
-#[tactic(auto, unfolding(crate::specs::Words::is_number))]
-pub fn number_of(word: &[u8]) -> Option<u32>
-    ensures { result ≡ (if specs.is_number word.now then Some (digits_value 10 word.now) else
-        None) }
-{
-    if !are_digits(word) {
-        return None;
-    }
-    let Ok(text) = str::from_utf8(word) else {
-        return None;
-    };
-    let Ok(number) = text.parse::<u32>() else {
-        return None;
-    };
-    if number <= LARGEST_NUMBER {
-        Some(number)
-    } else {
-        None
-    }
-}
-
-fn are_digits(word: &[u8]) -> bool
-    ensures { result ≡ list_all is_ascii_digit word.now }
-{
-    word.iter().all(|b| b.is_ascii_digit())
-}
-
-/// Whether the word is a number of at most 1,000,000.
-pub fn is_number(word: &[u8]) -> bool
-    ensures { result ≡ specs.is_number word.now }
-{
-    number_of(word).is_some()
 }
 
 /// What a list is in the place of a condition, by its first word (PDDL 2.1).

@@ -1,5 +1,4 @@
 pub mod LinesLemmas
-pub mod ReplyDigitLemmas
 pub mod FieldLemmas
 pub mod ToldLemmas
 pub mod CuttingLemmas

@@ -7,7 +7,9 @@ use Rattle.std.proofs.lemmas.Bool.Decides.{nat_tests}
 use Rattle.gen_lines.specs.declared.answer.Wanted.{Wanted}
 use Rattle.gen_lines.specs.declared.answer.Wanted.TheVariants.{Outputs, Number}
 use Rattle.gen_lines.specs.declared.answer.Why.TheVariants.{Word, Count, Value}
-use Rattle.gen_lines.specs.Reply.{Reply, yields, number, bad, reply_of, reply_of_fields, fields, given_reply, yield_reply, number_reply, end_reply, word_of, parted, has_bars, joined, are_of_width, is_value, is_number, IsRight}
+use Rattle.gen_lines.specs.Reply.{Reply, yields, number, bad, reply_of, reply_of_fields, fields, given_reply, yield_reply, number_reply, end_reply, word_of, parted, has_bars, joined, are_of_width, is_value, IsRight}
+use Rattle.task_model.specs.Numbers.{is_number}
+use Rattle.task_model.proofs.NumbersLemmas.{number_few}
 use Rattle.gen_lines.proofs.ReplyTupleLemmas.{joined_length, parts_of}
 use Rattle.std.proofs.lemmas.Bool.{and_parts}
 
@@ -100,10 +102,7 @@ by_number true m n e = (refl, cc)
 by_number false m n e = absurd cc
 
 small : (field : List ℕ) → is_number field ≡ true → digits_value 10 field ≤ 1000000
-unfolding is_number
-small field e =
-    let both = and_parts _ (nat_le (digits_value 10 field) 1000000) e in
-    grind (arith, nat_tests, both.1)
+small field e = grind (arith, nat_tests, number_few field e)
 
 number_small : (given : List (List ℕ)) (n : ℕ) → number_reply given ≡ number n → n ≤ 1000000
 number_small [] n e = absurd cc

@@ -28,7 +28,7 @@ abbrev visible : ℕ → Bool
 visible b = nat_le 33 b && nat_le b 126
 
 -- a byte that can't end a line
-abbrev stays : ℕ → Bool
+abbrev pub stays : ℕ → Bool
 stays b = nat_le 32 b
 
 stays_if_visible : (b : ℕ) → visible b ≡ true → stays b ≡ true
@@ -48,7 +48,7 @@ visible_if_digit b e =
     let high : nat_le b 126 ≡ true = grind (arith, nat_tests, both.1) in
     rw (low, high) refl
 
-no_feed : (b : ℕ) → stays b ≡ true → is_feed b ≡ false
+pub no_feed : (b : ℕ) → stays b ≡ true → is_feed b ≡ false
 no_feed b e = grind (arith, nat_tests, e)
 
 word_if_printed : (text : List ℕ) → is_printed text ≡ true → is_word text ≡ true
@@ -74,7 +74,7 @@ joined_stays (word ∷ next ∷ words) e =
     let both = and_parts (is_printed word) (list_all is_printed (next ∷ words)) e in
     rw (list_all-append, word_stays word both.0, joined_stays (next ∷ words) both.1) refl
 
-no_return : (text : List ℕ) → list_all stays text ≡ true → strip_last 13 text ≡ text
+pub no_return : (text : List ℕ) → list_all stays text ≡ true → strip_last 13 text ≡ text
 no_return [] e = refl
 no_return (b ∷ bs) e =
     let last = length (b ∷ bs) - 1 in

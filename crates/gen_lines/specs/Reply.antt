@@ -1,14 +1,13 @@
 -- What a line answers, and to which kind of request.
 use Rattle.std.specs.Prelude.{◌≡◌, ℕ, ◌*◌, ◌≤◌, Bool, true, false, ◌&&◌, ◌||◌, not, ◌==◌, nat_le, nat_lt, List, [], ◌∷◌, ◌++◌, length, filter, codes, if◌then◌else◌}
 use Rattle.std.specs.List.{slice_split, list_all}
-use Rattle.std.specs.Char.{is_ascii_digit}
 use Rattle.std.specs.Str.{bytes_eq}
 use Rattle.std.specs.Str.Parse.{digits_value}
 use Rattle.gen_lines.specs.declared.answer.Wanted.{Wanted}
 use Rattle.gen_lines.specs.declared.answer.Wanted.TheVariants.{Outputs, Number}
 use Rattle.gen_lines.specs.declared.answer.Why.{Why}
 use Rattle.gen_lines.specs.declared.answer.Why.TheVariants.{Word, Count, Value}
-use Rattle.task_model.specs.declared.limits.TheConstants.{LARGEST_NUMBER}
+use Rattle.task_model.specs.Numbers.{is_number}
 
 abbrev pub is_space : ℕ → Bool
 is_space b = b == 32
@@ -34,11 +33,6 @@ is_value_byte b = nat_le 33 b && nat_le b 126 && not (is_reserved b)
 -- the text of an object that a generator gives: 1 to 64 such bytes
 unfoldable pub is_value : List ℕ → Bool
 is_value field = nat_le 1 (length field) && nat_le (length field) 64 && list_all is_value_byte field
-
--- decimal digits that write a number of at most a million; leading zeros may stand
-unfoldable pub is_number : List ℕ → Bool
-is_number field =
-    is_filled field && list_all is_ascii_digit field && nat_le (digits_value 10 field) LARGEST_NUMBER
 
 -- Tuples
 

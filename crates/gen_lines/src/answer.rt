@@ -5,7 +5,7 @@ ghost use Rattle.gen_lines.specs.Told.{AreSpans, IfYield, IsNarrow, NoSpans, Spa
 
 use crate::fields::field_from;
 use crate::spans::{Spans, count_tuples, mark_values};
-use crate::values::number_of;
+use task_model::number_of;
 
 /// What an answer to a request may be besides the word `end`.
 #[derive(Clone, Copy, Debug, PartialEq, Eq)]

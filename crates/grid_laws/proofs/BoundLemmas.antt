@@ -1,5 +1,5 @@
 -- The numbers of a grid that is read are small.
-use Rattle.std.proofs.Common.{◌≡◌, ℕ, suc, ◌<◌, ◌≤◌, ◌^◌, Bool, true, false, not, nat_le, nat_lt, List, [], ◌∷◌, codes, filter_map, get_or, length, take, Option, None, Some, option_map, if◌then◌else◌, IfSome, refl, sym, subst, arith}
+use Rattle.std.proofs.Common.{◌≡◌, ℕ, suc, ◌<◌, ◌≤◌, ◌^◌, Bool, true, false, not, nat_le, nat_lt, List, [], ◌∷◌, codes, get_or, length, take, Option, None, Some, option_map, if◌then◌else◌, IfSome, refl, sym, subst, arith}
 use Rattle.std.proofs.lemmas.Bool.{and_parts}
 use Rattle.std.proofs.lemmas.Bool.Decides.{nat_tests}
 use Rattle.std.proofs.lemmas.Str.Parse.{digits_value_short}
@@ -16,8 +16,8 @@ use Rattle.grid_text.specs.Numbers.{is_decimal, is_extent, is_short_number}
 use Rattle.grid_text.specs.declared.fault.GridKind.TheVariants.{Form, Number, Outside, Duplicate, TooMany}
 use Rattle.grid_text.specs.declared.rect.Rect.{Rect}
 use Rattle.lemmas.proofs.Digits.{own}
-use Rattle.lemmas.proofs.ListTests.{all_cons}
 use Rattle.task_model.specs.Fit.{is_name}
+use Rattle.grid_text.proofs.FilesLemmas.{all_by}
 
 -- The numbers have at most four digits.
 pub record IsSmall (r : Rect) : Type 0 where
@@ -183,21 +183,16 @@ later_small : (line : List ℕ) (lines : List (List ℕ)) → AreSmall (line ∷
 unfolding AreSmall
 later_small line lines all k within = all (suc k) (omega arith)
 
-pushed_by : {A : Type 0} (P : A → Type 0) (o : Option A) (f : List ℕ → Option A) (line : List ℕ) (lines : List (List ℕ))
-    → f line ≡ o → ((x : A) → o ≡ Some x → P x) → All P (filter_map f lines) → All P (filter_map f (line ∷ lines))
-pushed_by P None f line lines e here rest = rw e rest
-pushed_by P (Some x) f line lines e here rest = rw e (all_cons P x (filter_map f lines) (here x refl) rest)
-
 sizes_small : (lines : List (List ℕ)) → AreSmall lines → All IsSmall (told_in size_told lines)
 sizes_small [] small = λ k d within. absurd (omega arith)
 sizes_small (line ∷ lines) small =
-    pushed_by IsSmall (told size_told (item_in line)) (λ l. told size_told (item_in l)) line lines refl
+    all_by IsSmall (told size_told (item_in line)) (λ l. told size_told (item_in l)) line lines refl
     (first_small line lines small).size (sizes_small lines (later_small line lines small))
 
 regions_small : (lines : List (List ℕ)) → AreSmall lines → All (λ (r : NamedRect). IsSmall r.rect) (told_in region_told lines)
 regions_small [] small = λ k d within. absurd (omega arith)
 regions_small (line ∷ lines) small =
-    pushed_by (λ (r : NamedRect). IsSmall r.rect) (told region_told (item_in line)) (λ l. told region_told (item_in l)) line lines refl
+    all_by (λ (r : NamedRect). IsSmall r.rect) (told region_told (item_in line)) (λ l. told region_told (item_in l)) line lines refl
     (first_small line lines small).region (regions_small lines (later_small line lines small))
 
 last_all : {A : Type 0} (P : A → Type 0) (none : A) (xs : List A) → P none → All P xs → P (last_or none xs)

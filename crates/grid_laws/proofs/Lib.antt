@@ -1,8 +1,10 @@
 mod AnswerLemmas
 mod BoundLemmas
-mod MadeLemmas
-mod OneChildLemmas
+pub mod MadeLemmas
+pub mod MadePoolLemmas
+pub mod OneChildLemmas
 mod OtherLemmas
+pub mod ProgramLemmas
 mod StreamLemmas
 mod TalkLemmas
 mod ValueLemmas

@@ -44,6 +44,14 @@ work_is {words} run n meant =
 
 -- ---- the made task
 
+module _ {words : List (List ℕ)} {told : Option FileMap} (run : ProgramRun words told) (n : ℕ)
+    (meant : command_of words ≡ Some (generate n)) where
+  pub spelled_as : IsTaskOf (Some (made_files n)) made_words.files run.task
+  spelled_as = subst (λ w. IsTaskOf (files_of told w) (words_of w).files run.task) (work_is run n meant) run.spelled
+
+  pub headed_as : IsHeadOf (Some (made_files n)) made_words run.task run.head
+  headed_as = subst (λ w. IsHeadOf (files_of told w) (words_of w) run.task run.head) (work_is run n meant) run.headed
+
 streams_spelled : (n : ℕ) (task : Task) → IsTaskOf (Some (made_files n)) made_words.files task
     → SpellsStreams task.domain (grid_task n).streams task.streams
 streams_spelled n task is =
@@ -54,31 +62,22 @@ streams_spelled n task is =
 -- ---- children that are the grid's generator
 
 -- what is so of a run of the words that name the number
-record IsMadeRun (task : Task) (head : Head) : Type 0 where
-  streams : HasGridStreams task
-  version : head.version ≡ 1
-  mode : head.mode ≡ Incremental
-  calls : head.calls ≡ DEFAULT_CALLS
+pub record IsMadeRun (task : Task) (head : Head) : Type 0 where
+  pub streams : HasGridStreams task
+  pub version : head.version ≡ 1
+  pub mode : head.mode ≡ Incremental
+  pub calls : head.calls ≡ DEFAULT_CALLS
 
-made_by : (told : Option FileMap) (task : Task) (head : Head) (work : Work) (n : ℕ) → work ≡ making n
-    → IsTaskOf (files_of told work) (words_of work).files task → IsHeadOf (files_of told work) (words_of work) task head
-    → IsMadeRun task head
-made_by told task head work n is spelled headed =
-    let s : IsTaskOf (Some (made_files n)) made_words.files task =
-    subst (λ w. IsTaskOf (files_of told w) (words_of w).files task) is spelled in
-    let h : IsHeadOf (Some (made_files n)) made_words task head =
-    subst (λ w. IsHeadOf (files_of told w) (words_of w) task head) is headed in
+pub made_run : {words : List (List ℕ)} {told : Option FileMap} (run : ProgramRun words told) (n : ℕ)
+    → command_of words ≡ Some (generate n) → IsMadeRun run.task run.head
+made_run run n meant =
+    let h = headed_as run n meant in
     record {
-      streams = made_have_streams n task (streams_spelled n task s);
+      streams = made_have_streams n run.task (streams_spelled n run.task (spelled_as run n meant));
       version = h.version;
       mode = h.mode;
       calls = h.calls;
     }
-
-made_run : {words : List (List ℕ)} {told : Option FileMap} (run : ProgramRun words told) (n : ℕ)
-    → command_of words ≡ Some (generate n) → IsMadeRun run.task run.head
-made_run {words} {told} run n meant =
-    made_by told run.task run.head run.work n (work_is run n meant) run.spelled run.headed
 
 pub grids_answer : GridsAnswerMadeRuns
 grids_answer words outside status text n grid meant has read talks child asked =

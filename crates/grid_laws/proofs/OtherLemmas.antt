@@ -2,7 +2,6 @@
 use Rattle.std.proofs.Common.{◌≡◌, ℕ, suc, ◌-◌, ◌&&◌, ◌==◌, Bool, true, false, cond, List, [], ◌∷◌, ◌++◌, All, Contains, take, count_by, refl, sym, ap, subst, ◌∙◌, arith, inl, inr, eq-eqb, eqb-true}
 use Rattle.std.proofs.lemmas.Bool.{and_from, and_parts}
 use Rattle.std.proofs.lemmas.List.Elements.{Contains-append_left, Contains-append_right}
-use Rattle.std.specs.Cmp.Lexicographic.{pointwise, pointwise_decides}
 use Rattle.std.specs.List.{filter}
 use Rattle.grid_laws.specs.Grid.{grid_replies}
 use Rattle.grid_laws.specs.Laws.{GridTablesAnswer}
@@ -12,8 +11,6 @@ use Rattle.lemmas.proofs.Bools.{not_both}
 use Rattle.lemmas.proofs.Members.{member_at, place_of}
 use Rattle.plain_runs.proofs.LevelLemmas.{in_filter}
 use Rattle.table_runs.proofs.AskingPlaceLemmas.{passed_place}
-use Rattle.task_model.proofs.KnownLemmas.{numbers_decided}
-use Rattle.task_model.specs.Known.{same_numbers}
 use Rattle.task_model.specs.declared.stream.Instance.{Instance}
 use Rattle.task_model.specs.declared.task.Task.{Task}
 use Rattle.transcript_model.specs.Legal.{asks_of, is_ask}
@@ -24,6 +21,7 @@ use Rattle.transcript_model.specs.declared.entry.Call.{Call}
 use Rattle.transcript_model.specs.declared.entry.Entry.{Entry}
 use Rattle.transcript_model.specs.declared.entry.Entry.TheVariants as entry
 use Rattle.transcript_model.specs.declared.outcome.Outcome.{Outcome}
+use Rattle.plain_runs.proofs.OwnLemmas.{call_itself, calls_same}
 
 -- ---- a plain run over other answers
 
@@ -90,18 +88,6 @@ module _ (a b : Answers) where
             (member_at (filter is_ask like.plain) (count_by is_ask (take at.0 like.plain)) e passed))
 
 -- ---- tables
-
-call_itself : (call : Call) → same_call call call ≡ true
-call_itself call =
-    and_from (same_numbers call.name call.name) (pointwise same_numbers call.args call.args)
-    ((numbers_decided call.name call.name).1 refl) ((pointwise_decides numbers_decided call.args call.args).1 refl)
-
-calls_same : (a b : Call) → same_call a b ≡ true → a ≡ b
-calls_same a b e =
-    let both = and_parts (same_numbers a.name b.name) (pointwise same_numbers a.args b.args) e in
-    let name = (numbers_decided a.name b.name).0 both.0 in
-    let args = (pointwise_decides numbers_decided a.args b.args).0 both.1 in
-    λ k. record { name = name k; args = args k }
 
 module _ (grid : GridFile) (call : Call) (turn : ℕ) where
   -- a row of the request

@@ -1,5 +1,5 @@
 -- What is said with the grid's generator.
-use Rattle.std.proofs.Common.{◌≡◌, ℕ, zero, suc, ◌+◌, ◌-◌, ◌<◌, ◌≤◌, ◌^◌, Bool, true, false, ◌&&◌, ◌==◌, nat_lt, cond, All, List, [], ◌∷◌, ◌++◌, codes, get_or, length, take, None, Some, slice_get, unwrap_or, refl, sym, ap, ◌∙◌, arith, append_assoc, inl, inr}
+use Rattle.std.proofs.Common.{◌≡◌, ℕ, zero, suc, ◌+◌, ◌-◌, ◌<◌, ◌≤◌, ◌^◌, Bool, true, false, ◌&&◌, nat_lt, cond, All, List, [], ◌∷◌, ◌++◌, codes, length, take, None, Some, slice_get, unwrap_or, refl, sym, ap, ◌∙◌, arith, append_assoc, inl, inr}
 use Rattle.gen_lines.proofs.LinesLemmas.{ended_cons}
 use Rattle.gen_lines.specs.Lines.{is_feed, lines_of}
 use Rattle.gen_lines.specs.Reply.{fields, is_filled, reply_of}
@@ -7,7 +7,7 @@ use Rattle.gen_lines.specs.declared.answer.Wanted.{Wanted}
 use Rattle.gen_lines.specs.declared.answer.Wanted.TheVariants.{Outputs}
 use Rattle.grid_laws.proofs.AnswerLemmas.{NameSays, Which, is_clear, is_grasp, is_other, is_place, is_reach, name_says, which, width_of}
 use Rattle.grid_laws.proofs.BoundLemmas.{IsSmallGrid, read_is_small}
-use Rattle.grid_laws.proofs.ValueLemmas.{Says, end_reads, end_says, stays}
+use Rattle.grid_laws.proofs.ValueLemmas.{Says, end_reads, end_says}
 use Rattle.grid_laws.specs.Grid.{HasGridStreams, HasStream, grid_replies, reply_of_answer}
 use Rattle.grid_laws.specs.Laws.{GridTalksAreTheGrid}
 use Rattle.grid_text.specs.Grids.{GridFile}
@@ -17,7 +17,6 @@ use Rattle.grid_world.specs.Answers.{answer_in, answer_to}
 use Rattle.grid_world.specs.Asks.{ask_of, ask_to, is_next}
 use Rattle.grid_world.specs.Words.{served_stream}
 use Rattle.grid_world.specs.declared.answer.GridAnswer.{GridAnswer}
-use Rattle.lemmas.proofs.Bools.{and_false}
 use Rattle.lemmas.proofs.Options.{none_at, same_some, where_true}
 use Rattle.round_run.specs.Dialogue.{called_stream}
 use Rattle.session_core.specs.Slots.{wanted_at, wanted_of}
@@ -28,7 +27,6 @@ use Rattle.std.proofs.lemmas.List.Splits.{length-slice_split, slice_split_at, sl
 use Rattle.std.proofs.lemmas.List.Sums.{AllPass-from_list_all}
 use Rattle.std.proofs.Math.Seq.{take-append-add}
 use Rattle.std.specs.Char.{is_ascii_digit}
-use Rattle.std.specs.Io.BufRead.{strip_last}
 use Rattle.std.specs.List.{list_all, slice_split}
 use Rattle.std.specs.Str.{bytes_eq}
 use Rattle.std.specs.Str.Parse.{digits_value}
@@ -36,27 +34,17 @@ use Rattle.table_runs.specs.Asking.{Asking, asked_by, asking_of}
 use Rattle.task_model.specs.declared.task.Task.{Task}
 use Rattle.transcript_model.specs.Names.{stream_named}
 use Rattle.transcript_model.specs.declared.entry.Call.{Call}
+use Rattle.gen_lines.proofs.RequestReadBack.{no_feed, no_return, stays}
 
 -- ---- lines of a front
 
-stays_no_feed : (b : ℕ) → stays b ≡ true → is_feed b ≡ false
-stays_no_feed b e = grind (arith, nat_tests, e)
-
-stays_whole : (text : List ℕ) → list_all stays text ≡ true → strip_last 13 text ≡ text
-stays_whole [] e = refl
-stays_whole (b ∷ bs) e =
-    let last = length (b ∷ bs) - 1 in
-    let high = AllPass-from_list_all stays (b ∷ bs) e last 0 (omega arith) in
-    let no : (get_or (b ∷ bs) last 0 == 13) ≡ false = grind (arith, nat_tests, high) in
-    rw (no, and_false (nat_lt 0 (length (b ∷ bs)))) refl
-
 line_then : (text later : List ℕ) → list_all stays text ≡ true → lines_of (text ++ 10 ∷ later) ≡ text ∷ lines_of later
 line_then text later e =
-    let all : All (λ b. is_feed b ≡ false) text = λ k d lt. stays_no_feed _ (AllPass-from_list_all stays text e k d lt) in
+    let all : All (λ b. is_feed b ≡ false) text = λ k d lt. no_feed _ (AllPass-from_list_all stays text e k d lt) in
     let parts : slice_split is_feed (text ++ 10 ∷ later) ≡ text ∷ slice_split is_feed later =
     slice_split_at is_feed text 10 later all refl in
     let ended_here = ended_cons text (slice_split is_feed later) (omega (arith, length-slice_split is_feed later)) in
-    rw (parts, ended_here, stays_whole text e) refl
+    rw (parts, ended_here, no_return text e) refl
 
 front_stays : (text : List ℕ) (n : ℕ) → list_all stays text ≡ true → list_all stays (take n text) ≡ true
 front_stays text zero e = refl
@@ -67,7 +55,7 @@ front_stays (b ∷ bs) (suc n) e =
 
 no_line : (text : List ℕ) → list_all stays text ≡ true → lines_of text ≡ []
 no_line text e =
-    let all : All (λ b. is_feed b ≡ false) text = λ k d lt. stays_no_feed _ (AllPass-from_list_all stays text e k d lt) in
+    let all : All (λ b. is_feed b ≡ false) text = λ k d lt. no_feed _ (AllPass-from_list_all stays text e k d lt) in
     rw (slice_split_none is_feed text all) refl
 
 answer_line : (grid : GridFile) (line : List ℕ) → answer_to_line grid line ≡ line_of_answer (answer_in grid line) ++ 10 ∷ []

@@ -1,5 +1,5 @@
 -- What the lines of the grid's answers say.
-use Rattle.std.proofs.Common.{◌≡◌, ℕ, ◌<◌, ◌≤◌, ◌^◌, Bool, true, false, not, nat_le, List, [], ◌∷◌, ◌++◌, codes, length, length-append, refl, ap, ◌∙◌, arith}
+use Rattle.std.proofs.Common.{◌≡◌, ℕ, ◌<◌, ◌≤◌, ◌^◌, true, false, not, nat_le, List, [], ◌∷◌, ◌++◌, codes, length, length-append, refl, ap, ◌∙◌, arith}
 use Rattle.std.proofs.lemmas.Bool.Decides.{nat_tests}
 use Rattle.std.proofs.lemmas.Fmt.{decimal_nonempty, digits_decimal, length-decimal-le}
 use Rattle.std.specs.Char.{is_ascii_digit}
@@ -19,10 +19,7 @@ use Rattle.grid_world.specs.declared.answer.Side.{Side}
 use Rattle.grid_world.specs.declared.answer.Side.TheVariants.{N, E, S, W}
 use Rattle.lemmas.proofs.Digits.{own}
 use Rattle.lemmas.proofs.ListTests.{all_append, all_weaker}
-
--- a byte that can't end a line
-abbrev pub stays : ℕ → Bool
-stays b = nat_le 32 b
+use Rattle.gen_lines.proofs.RequestReadBack.{stays}
 
 -- The answer's line has no byte that ends a line, and says the answer to a request for so many values.
 pub record Says (outputs : ℕ) (a : GridAnswer) : Type 0 where

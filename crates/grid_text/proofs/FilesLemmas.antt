@@ -110,7 +110,7 @@ item_cells bytes grid is k item h e =
     (right_item (grid_of (take k (lines_in bytes))) (get_or (lines_in bytes) k []) item (right_at bytes grid is k h) e).cells
 
 -- what is told by lines of which each tells what is so
-all_by : {A : Type 0} (P : A → Type 0) (o : Option A) (f : List ℕ → Option A) (line : List ℕ) (lines : List (List ℕ))
+pub all_by : {A : Type 0} (P : A → Type 0) (o : Option A) (f : List ℕ → Option A) (line : List ℕ) (lines : List (List ℕ))
     → f line ≡ o → ((x : A) → o ≡ Some x → P x) → All P (filter_map f lines) → All P (filter_map f (line ∷ lines))
 all_by P None f line lines e here rest = rw e rest
 all_by P (Some x) f line lines e here rest = rw e (all_cons P x (filter_map f lines) (here x refl) rest)

@@ -20,7 +20,7 @@ pub use fault::{GridFault, GridKind};
 pub use fields::{first_field, four_fields};
 pub use grid::{Block, Grid, Region};
 pub use lines::{first_feed, without_return};
-pub use numbers::{are_digits, number_of};
+pub use numbers::number_of;
 pub use reader::read_grid;
 pub use rect::Rect;
 pub use task::{GridTask, grid_task};

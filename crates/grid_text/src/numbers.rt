@@ -1,9 +1,9 @@
 //! Fields that write numbers.
 ghost use Rattle.std.specs.Prelude.{◌≡◌, ◌≤◌, IfSome, Some, None, if◌then◌else◌};
-ghost use Rattle.std.specs.List.{list_all};
-ghost use Rattle.std.specs.Char.{is_ascii_digit};
 ghost use Rattle.std.specs.Str.Parse.{digits_value};
 ghost use Rattle.grid_text.specs.Numbers.{is_decimal, is_short_number, is_extent};
+
+use task_model::are_digits;
 
 /// The number that a field writes by digits alone, if it is below 2^32. Leading zeros may stand.
 #[tactic(auto, unfolding(crate::specs::Numbers::is_decimal))]
@@ -20,13 +20,6 @@ pub fn number_of(field: &[u8]) -> Option<u32>
         return None;
     };
     Some(number)
-}
-
-/// Whether all of these bytes are digits.
-pub fn are_digits(field: &[u8]) -> bool
-    ensures { result ≡ list_all is_ascii_digit field.now }
-{
-    field.iter().all(|b| b.is_ascii_digit())
 }
 
 /// The most digits of a number in a grid file.

@@ -3,6 +3,7 @@ use Rattle.std.proofs.Common.{◌≡◌, ℕ, ◌+◌, Bool, true, false, cond, 
 use borrow.Author.Tests.{lt-ltb}
 use Rattle.std.proofs.lemmas.List.Folds.{list_any-append}
 use Rattle.std.proofs.lemmas.List.Sums.{sum_by-append}
+use Rattle.lemmas.proofs.Counts.{count_last}
 use Rattle.std.specs.Cmp.{IsEquivalence, decided}
 use Rattle.std.specs.List.{list_any}
 use Rattle.std.proofs.lemmas.List.{map_push}
@@ -26,12 +27,6 @@ instances_equivalence = decided same_instance instance_decided
 abbrev pub about : Note → Instance
 about (Yielded i) = i
 about (Ended i) = i
-
-count_one : {A : Type 0} (p : A → Bool) (xs : List A) (x : A)
-    → count_by p (xs ++ x ∷ []) ≡ count_by p xs + cond (p x) 1 0
-count_one p xs x =
-    sum_by-append (λ y. cond (p y) 1 0) xs (x ∷ [])
-    ∙ ap (λ n. count_by p xs + n) (zero-add (cond (p x) 1 0))
 
 no_more : (n : ℕ) (b : Bool) → b ≡ false → n + cond b 1 0 ≡ n
 no_more n b e = ap (λ c. n + cond c 1 0) e ∙ (let f : n + 0 ≡ n = omega arith in f)
@@ -58,7 +53,7 @@ pub tally_stays : (notes : List Note) (note : Note) (q : Instance)
 tally_stays notes note q apart =
     let other : same_instance q (about note) ≡ false = instances_equivalence.symm q (about note) ∙ apart in
     λ i. record {
-      yields = (count_one (is_yield_of q) notes note ∙ no_more (yields_of notes q) (is_yield_of q note) (yields_other note q other)) i;
+      yields = (count_last (is_yield_of q) notes note ∙ no_more (yields_of notes q) (is_yield_of q note) (yields_other note q other)) i;
       ended = (list_any-append (is_end_of q) notes (note ∷ [])
           ∙ stays (list_any (is_end_of q) notes) (is_end_of q note) (ends_other note q other)) i;
     }
@@ -80,7 +75,7 @@ tallied_more old new notes note tally was now is q =
 pub yields_yielded : (notes : List Note) (i : Instance)
     → yields_of (notes ++ Yielded i ∷ []) i ≡ yields_of notes i + 1
 yields_yielded notes i =
-    count_one (is_yield_of i) notes (Yielded i)
+    count_last (is_yield_of i) notes (Yielded i)
     ∙ ap (λ b. yields_of notes i + cond b 1 0) (instance_itself i)
 
 pub ended_yielded : (notes : List Note) (i : Instance)
@@ -92,7 +87,7 @@ ended_yielded notes i =
 pub yields_ended : (notes : List Note) (i : Instance)
     → yields_of (notes ++ Ended i ∷ []) i ≡ yields_of notes i
 yields_ended notes i =
-    count_one (is_yield_of i) notes (Ended i) ∙ no_more (yields_of notes i) false refl
+    count_last (is_yield_of i) notes (Ended i) ∙ no_more (yields_of notes i) false refl
 
 or_true : (a b : Bool) → b ≡ true → (a || (b || false)) ≡ true
 or_true true b e = refl

@@ -1,9 +1,11 @@
 -- What a host that plays scripts is seen as.
-use Rattle.std.specs.Prelude.{ℕ, Bool, true, false, not, ◌||◌, ◌==◌, List, [], ◌∷◌, length, take, drop, count_by, min, ◌+◌, ◌-◌, nat_lt, if◌then◌else◌, Option, slice_get, unwrap_or, Result, Ok, Err}
-use Rattle.io_world.specs.Faults.{last_call}
+use Rattle.std.specs.Prelude.{◌≡◌, ◌≢◌, ℕ, Bool, true, false, not, ◌||◌, ◌==◌, List, [], ◌∷◌, length, take, drop, count_by, min, ◌+◌, ◌-◌, nat_lt, if◌then◌else◌, Option, slice_get, unwrap_or, Result, Ok, Err, IfOk, MatchResult}
+use Rattle.io_world.specs.Faults.{last_call, last_count, Counts}
 use Rattle.io_world.specs.Logs.{Calls, said_of}
-use Rattle.io_world.specs.Plans.{Plan, fails_next, cut_or}
-use Rattle.io_world.specs.Talks.{Talk}
+use Rattle.io_world.specs.Plans.{Plan, after_call, fails_next, cut_or, FailsWhere}
+use Rattle.io_world.specs.Talks.{Talk, Same, Becomes}
+use Rattle.io_world.specs.declared.host.HostFault.{HostFault}
+use Rattle.io_world.specs.declared.host.HostFault.TheVariants.{Failed, Memory}
 use Rattle.io_world.specs.declared.progress.Progress.{Progress}
 
 -- the bytes that a child gives, the most that each read gives, and the needs: from a place on bytes
@@ -83,3 +85,29 @@ given_count (Err fault) = 0
 
 abbrev pub line_feeds : List ℕ → ℕ
 line_feeds bytes = count_by (λ byte. byte == 10) bytes
+
+-- One call: it fails exactly where that is due, each fault counts, the log is as whole as before as long as there is
+-- memory, and the call goes by its number. Nothing else but the progress changes.
+pub record Plays {T : Type 0} (due : Bool) (old new : ScriptHostState) (result : Result T HostFault) : Type 0 where
+  pub counts : Counts Failed last_count old.faults new.faults result
+  pub fails : FailsWhere Failed due result
+  pub whole : (result ≢ Err Memory) → new.calls.whole ≡ old.calls.whole
+  pub kept : new
+      ≡ record old { plan = after_call old.plan; faults = new.faults; calls = new.calls; progress = new.progress }
+
+-- A write takes all of these bytes, and their line feeds count for the child.
+pub record Feeds (child : ℕ) (bytes : List ℕ) (old new : List Progress) (result : Result ℕ HostFault) : Type 0 where
+  pub all : IfOk result (λ n. n ≡ length bytes)
+  pub progress : let p = progress_of old child in
+      MatchResult result
+      (λ n. Becomes child (record p { lines = more p.lines (line_feeds bytes) }) (progress_of old) (progress_of new))
+      (λ fault. Same (progress_of old) (progress_of new))
+
+-- A read gives what the child's script has ready and its cut allows, and moves the child on by it. Each read counts.
+pub record Gets (child : ℕ) (room filled : List ℕ) (old new : ScriptHostState) (result : Result ℕ HostFault)
+    : Type 0 where
+  pub most : IfOk result (λ n. n ≡ most_given old child (length room))
+  pub bytes : IfOk result (λ n. take n filled ≡ take n (ready old child))
+  pub progress : let p = progress_of old.progress child in
+      Becomes child (record p { reads = more p.reads 1; position = p.position + given_count result })
+      (progress_of old.progress) (progress_of new.progress)

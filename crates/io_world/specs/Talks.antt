@@ -1,7 +1,7 @@
 -- What was said with children, and the list of all calls on them.
-use Rattle.std.specs.Prelude.{◌≡◌, ◌≢◌, ℕ, List, [], ◌∷◌, ◌++◌, take, drop, Result, Option, Some, None, Ok, Err, ◌==◌, if◌then◌else◌, option_map, ◌<◌, ◌≤◌, length, ⊤}
+use Rattle.std.specs.Prelude.{◌≡◌, ◌≢◌, ℕ, List, [], ◌∷◌, ◌++◌, take, drop, Result, Option, Some, None, Ok, Err, ◌==◌, if◌then◌else◌, option_map, ◌<◌, ◌≤◌, length, ⊤, IfOk}
 use Rattle.std.specs.List.{All}
-use Rattle.io_world.specs.Replies.{IsLine}
+use Rattle.io_world.specs.Replies.{IsLine, HasLine}
 use Rattle.io_world.specs.Faults.{Extends}
 use Rattle.io_world.specs.declared.host.HostFault.{HostFault}
 
@@ -133,3 +133,10 @@ abbrev pub LogsGivenPart : ℕ → List ℕ → HostFault → Option (List Event
 LogsGivenPart child held fault old new =
     (events : List Event) × (bytes : List ℕ) × (room : ℕ) × Gives child held bytes events × IsLine (held ++ bytes)
     × Grows old new (events ++ heard child room (Err fault) ∷ [])
+
+-- Hearing keeps the bytes of a room that were held before, and answers how many are held then: with a line feed among
+-- them, or all that there is room for.
+pub record FillsRoom {E : Type 0} (held : ℕ) (old new : List ℕ) (result : Result ℕ E) : Type 0 where
+  pub count : IfOk result (λ n. (held ≤ n) × (n ≤ length new))
+  pub line : IfOk result (λ n. n < length new → HasLine (take n new))
+  pub kept : take held new ≡ take held old

@@ -1,8 +1,8 @@
 // What is said with a child.
 ghost use Rattle.std.specs.Prelude.{◌≡◌, ◌<◌, ◌≤◌, ◌++◌, ℕ, List, true, length, take, drop, OnOk, OnErr, IfOk, IfErr};
 ghost use Rattle.io_world.specs.Faults.{HasCause};
-ghost use Rattle.io_world.specs.Replies.{IsLine, HasLine};
-ghost use Rattle.io_world.specs.Talks.{Same, Writes, Hears, LogsTaken, LogsTakenPart, LogsGiven, LogsGivenPart};
+ghost use Rattle.io_world.specs.Replies.{IsLine};
+ghost use Rattle.io_world.specs.Talks.{Same, Writes, Hears, FillsRoom, LogsTaken, LogsTakenPart, LogsGiven, LogsGivenPart};
 ghost use Rattle.io_world.specs.declared.host.HostFault.TheVariants.{Failed};
 ghost use Rattle.io_world.specs.declared.host.TheConstants.{CHILDREN};
 
@@ -49,9 +49,7 @@ pub fn hear_line<H: Host>(
     requires number { child < CHILDREN }
     requires runs { H.running host.old child ≡ true }
     requires within { held ≤ length room.old }
-    ensures count { IfOk result (λ n. (held ≤ n) × (n ≤ length room.new)) }
-    ensures line { IfOk result (λ n. n < length room.new → HasLine (take n room.new)) }
-    ensures kept { take held room.new ≡ take held room.old }
+    ensures room { FillsRoom held room.old room.new result }
     ensures running { Same (H.running host.old) (H.running host.new) }
     ensures spoken { IfOk result (λ n. Hears child (drop held (take n room.new)) (H.spoken host.old)
         (H.spoken host.new)) }

@@ -1,12 +1,12 @@
 // Children that play scripts.
 ghost use Rattle.std.proofs.Common.{lit≤};
-ghost use Rattle.std.specs.Prelude.{◌≡◌, ◌≢◌, ℕ, ◌<◌, ◌≤◌, ◌+◌, ◌-◌, ◌^◌, ◌==◌, [], true, false, length, take, map, string_bytes, replicate, IfOk, MatchResult};
-ghost use Rattle.io_world.specs.Faults.{last_count, HasCause, Counts};
+ghost use Rattle.std.specs.Prelude.{◌≡◌, ℕ, ◌<◌, ◌≤◌, ◌+◌, ◌^◌, ◌==◌, [], true, false, length, take, map, string_bytes, replicate, IfOk, MatchResult};
+ghost use Rattle.io_world.specs.Faults.{last_count, HasCause};
 ghost use Rattle.io_world.specs.Logs.{told_of, calls_spell};
-ghost use Rattle.io_world.specs.Plans.{planned, after_call, fails_next, cut_or, FailsWhere};
-ghost use Rattle.io_world.specs.ScriptHostState.{Scripted, ScriptHostState, idle, begun, progress_of, script_of, open_bytes, ready, most_given, is_running, talk_with, start_fails, read_fails, more, given_count, line_feeds};
+ghost use Rattle.io_world.specs.Plans.{planned, fails_next, cut_or};
+ghost use Rattle.io_world.specs.ScriptHostState.{Scripted, ScriptHostState, Plays, Feeds, Gets, idle, begun, progress_of, script_of, open_bytes, ready, most_given, is_running, talk_with, start_fails, read_fails};
 ghost use Rattle.io_world.specs.Talks.{started, wrote, heard, stopped, given, Logs, Same, Becomes, Empties, Writes, Hears};
-ghost use Rattle.io_world.specs.declared.host.HostFault.TheVariants.{Failed, Memory};
+ghost use Rattle.io_world.specs.declared.host.HostFault.TheVariants.{Failed};
 ghost use Rattle.io_world.specs.declared.host.TheConstants.{CHILDREN};
 
 use crate::call_log::CallLog;
@@ -169,19 +169,11 @@ impl Host for ScriptHost {
         ensures log { Logs (told_of self.old.calls) (told_of self.new.calls)
             (started child (map string_bytes argv.now) result) }
         ensures cause { HasCause Failed last_count self.old.faults self.new.faults result }
-        ensures counts { Counts Failed last_count self.old.faults self.new.faults result }
-        ensures fails { FailsWhere Failed (start_fails self.old child) result }
+        ensures plays { Plays (start_fails self.old child) self.old self.new result }
         ensures progress { MatchResult result
             (λ _. Becomes child begun (progress_of self.old.progress)
             (progress_of self.new.progress))
             (λ _. Same (progress_of self.old.progress) (progress_of self.new.progress)) }
-        ensures whole { (result ≢ Err Memory) → self.new.calls.whole ≡ self.old.calls.whole }
-        ensures kept { self.new ≡ record self.old {
-          plan = after_call self.old.plan;
-          faults = self.new.faults;
-          calls = self.new.calls;
-          progress = self.new.progress;
-        } }
     {
         let scripted = (child as usize) < self.scripts.len();
         let fails = self.schedule.call() || !scripted;
@@ -213,20 +205,8 @@ impl Host for ScriptHost {
         ensures log { Logs (told_of self.old.calls) (told_of self.new.calls)
             (wrote child bytes.now result) }
         ensures cause { HasCause Failed last_count self.old.faults self.new.faults result }
-        ensures counts { Counts Failed last_count self.old.faults self.new.faults result }
-        ensures all { IfOk result (λ n. n ≡ length bytes.now) }
-        ensures fails { FailsWhere Failed (fails_next self.old.plan) result }
-        ensures progress { let p = progress_of self.old.progress child in MatchResult result
-            (λ _. Becomes child (record p { lines = more p.lines (line_feeds bytes.now) })
-            (progress_of self.old.progress) (progress_of self.new.progress))
-            (λ _. Same (progress_of self.old.progress) (progress_of self.new.progress)) }
-        ensures whole { (result ≢ Err Memory) → self.new.calls.whole ≡ self.old.calls.whole }
-        ensures kept { self.new ≡ record self.old {
-          plan = after_call self.old.plan;
-          faults = self.new.faults;
-          calls = self.new.calls;
-          progress = self.new.progress;
-        } }
+        ensures plays { Plays (fails_next self.old.plan) self.old self.new result }
+        ensures feeds { Feeds child bytes.now self.old.progress self.new.progress result }
     {
         let fails = self.schedule.call();
         let answer = if fails {
@@ -259,20 +239,8 @@ impl Host for ScriptHost {
         ensures log { Logs (told_of self.old.calls) (told_of self.new.calls)
             (heard child (length room.old) (given result room.new)) }
         ensures cause { HasCause Failed last_count self.old.faults self.new.faults result }
-        ensures counts { Counts Failed last_count self.old.faults self.new.faults result }
-        ensures most { IfOk result (λ n. n ≡ most_given self.old child (length room.old)) }
-        ensures bytes { IfOk result (λ n. take n room.new ≡ take n (ready self.old child)) }
-        ensures fails { FailsWhere Failed (read_fails self.old child) result }
-        ensures progress { let p = progress_of self.old.progress child in Becomes child
-            (record p { reads = more p.reads 1; position = p.position + given_count result })
-            (progress_of self.old.progress) (progress_of self.new.progress) }
-        ensures whole { (result ≢ Err Memory) → self.new.calls.whole ≡ self.old.calls.whole }
-        ensures kept { self.new ≡ record self.old {
-          plan = after_call self.old.plan;
-          faults = self.new.faults;
-          calls = self.new.calls;
-          progress = self.new.progress;
-        } }
+        ensures plays { Plays (read_fails self.old child) self.old self.new result }
+        ensures gets { Gets child room.old room.new self.old self.new result }
     {
         let fails = self.schedule.call();
         let size = room.len();
@@ -308,18 +276,10 @@ impl Host for ScriptHost {
         ensures log { Logs (told_of self.old.calls) (told_of self.new.calls)
             (stopped child result) }
         ensures cause { HasCause Failed last_count self.old.faults self.new.faults result }
-        ensures counts { Counts Failed last_count self.old.faults self.new.faults result }
-        ensures fails { FailsWhere Failed (fails_next self.old.plan) result }
+        ensures plays { Plays (fails_next self.old.plan) self.old self.new result }
         ensures progress { Becomes child
             (record (progress_of self.old.progress child) { running = false })
             (progress_of self.old.progress) (progress_of self.new.progress) }
-        ensures whole { (result ≢ Err Memory) → self.new.calls.whole ≡ self.old.calls.whole }
-        ensures kept { self.new ≡ record self.old {
-          plan = after_call self.old.plan;
-          faults = self.new.faults;
-          calls = self.new.calls;
-          progress = self.new.progress;
-        } }
     {
         let fails = self.schedule.call();
         let mut now = progress_of(&self.progress, child);

@@ -1,12 +1,12 @@
 // Children that answer by a function.
 ghost use Rattle.std.proofs.Common.{lit≤};
-ghost use Rattle.std.specs.Prelude.{◌≡◌, ◌≢◌, ◌<◌, ◌≤◌, ℕ, [], true, false, length, take, drop, map, string_bytes, min, IfOk, IfErr, OnOk, OnErr, MatchResult};
+ghost use Rattle.std.specs.Prelude.{◌≡◌, ◌<◌, ◌≤◌, ℕ, [], true, false, length, take, map, string_bytes, IfOk, OnOk, MatchResult};
 ghost use Rattle.io_world.specs.Faults.{last_count, HasCause};
 ghost use Rattle.io_world.specs.Logs.{told_of, said_of, calls_spell};
-ghost use Rattle.io_world.specs.Replies.{Replies, no_reply, next_bytes};
-ghost use Rattle.io_world.specs.SureHostState.{SureChild, SureHostState, child_of, runs};
+ghost use Rattle.io_world.specs.Replies.{no_reply};
+ghost use Rattle.io_world.specs.SureHostState.{SureChild, SureHostState, ServesCall, TakesRequests, Drains, child_of, runs};
 ghost use Rattle.io_world.specs.Talks.{started, wrote, heard, stopped, given, Logs, Same, Becomes, Empties, Writes, Hears};
-ghost use Rattle.io_world.specs.declared.host.HostFault.TheVariants.{Failed, Memory};
+ghost use Rattle.io_world.specs.declared.host.HostFault.TheVariants.{Failed};
 ghost use Rattle.io_world.specs.declared.host.TheConstants.{CHILDREN};
 
 use crate::answer_by::AnswerBy;
@@ -135,13 +135,9 @@ impl<A: AnswerBy> Host for SureHost<A> {
         ensures log { Logs (told_of self.old.calls) (told_of self.new.calls)
             (started child (map string_bytes argv.now) result) }
         ensures cause { HasCause Failed last_count 0 0 result }
-        ensures sure { IfErr result (λ fault. fault ≡ Memory) }
+        ensures serves { ServesCall child self.old self.new result }
         ensures child { OnOk result
             (child_of self.new.children child ≡ record { running = true; reply = no_reply }) }
-        ensures others { (k : ℕ) → k ≢ child → child_of self.new.children k
-            ≡ child_of self.old.children k }
-        ensures whole { OnOk result (self.new.calls.whole ≡ self.old.calls.whole) }
-        ensures answers { self.new.answers ≡ self.old.answers }
     {
         let Ok(buffer) = self.prepare(child) else {
             return Err(HostFault::Memory);
@@ -168,17 +164,9 @@ impl<A: AnswerBy> Host for SureHost<A> {
         ensures log { Logs (told_of self.old.calls) (told_of self.new.calls)
             (wrote child bytes.now result) }
         ensures cause { HasCause Failed last_count 0 0 result }
-        ensures sure { IfErr result (λ fault. fault ≡ Memory) }
-        ensures all { IfOk result (λ n. n ≡ length bytes.now) }
-        ensures replies { OnOk result
-            (Replies (A.answers self.old.answers) bytes.now (child_of self.old.children child).reply
-            (child_of self.new.children child).reply) }
-        ensures others { (k : ℕ) → k ≢ child → child_of self.new.children k
-            ≡ child_of self.old.children k }
-        ensures kept { OnErr result
-            (child_of self.new.children child ≡ child_of self.old.children child) }
-        ensures whole { OnOk result (self.new.calls.whole ≡ self.old.calls.whole) }
-        ensures answers { self.new.answers ≡ self.old.answers }
+        ensures serves { ServesCall child self.old self.new result }
+        ensures asks { TakesRequests (A.answers self.old.answers) bytes.now
+            (child_of self.old.children child) (child_of self.new.children child) result }
     {
         let Some(it) = self.children.get(child as usize) else {
             unreachable!()
@@ -209,22 +197,9 @@ impl<A: AnswerBy> Host for SureHost<A> {
         ensures log { Logs (told_of self.old.calls) (told_of self.new.calls)
             (heard child (length room.old) (given result room.new)) }
         ensures cause { HasCause Failed last_count 0 0 result }
-        ensures sure { IfErr result (λ fault. fault ≡ Memory) }
-        ensures most { IfOk result (λ n. n
-            ≡ min (length (next_bytes (child_of self.old.children child).reply))
-            (length room.old)) }
-        ensures bytes { IfOk result
-            (λ n. take n room.new ≡ take n (next_bytes (child_of self.old.children child).reply)) }
-        ensures reply { IfOk result
-            (λ n. let reply = (child_of self.old.children child).reply in
-            (child_of self.new.children child).reply
-            ≡ record reply { pending = drop n (next_bytes reply) }) }
-        ensures others { (k : ℕ) → k ≢ child → child_of self.new.children k
-            ≡ child_of self.old.children k }
-        ensures kept { OnErr result
-            (child_of self.new.children child ≡ child_of self.old.children child) }
-        ensures whole { OnOk result (self.new.calls.whole ≡ self.old.calls.whole) }
-        ensures answers { self.new.answers ≡ self.old.answers }
+        ensures serves { ServesCall child self.old self.new result }
+        ensures drains { Drains room.old room.new (child_of self.old.children child)
+            (child_of self.new.children child) result }
     {
         let size = room.len();
         let Some(it) = self.children.get(child as usize) else {
@@ -246,11 +221,7 @@ impl<A: AnswerBy> Host for SureHost<A> {
         ensures log { Logs (told_of self.old.calls) (told_of self.new.calls)
             (stopped child result) }
         ensures cause { HasCause Failed last_count 0 0 result }
-        ensures sure { IfErr result (λ fault. fault ≡ Memory) }
-        ensures others { (k : ℕ) → k ≢ child → child_of self.new.children k
-            ≡ child_of self.old.children k }
-        ensures whole { OnOk result (self.new.calls.whole ≡ self.old.calls.whole) }
-        ensures answers { self.new.answers ≡ self.old.answers }
+        ensures serves { ServesCall child self.old self.new result }
     {
         let Some(it) = self.children.get_mut(child as usize) else {
             unreachable!()

@@ -69,3 +69,9 @@ not_true false e = refl
 pub false_by : (b : Bool) → (b ≡ true → ⊥) → b ≡ false
 false_by true never = absurd (never refl)
 false_by false never = refl
+
+-- what doesn't stand without the second stands with it
+pub second_too : (a b : Bool) → a ≡ true → (a && not b) ≡ false → b ≡ true
+second_too true true a c = refl
+second_too true false a c = absurd (cc)
+second_too false b a c = absurd (cc)

@@ -11,3 +11,4 @@ pub mod Results
 pub mod Numbers
 pub mod Distinct
 pub mod Digits
+pub mod Counts

@@ -1,6 +1,6 @@
 -- How many levels a run has.
 use Rattle.std.proofs.Common.{◌≡◌, ℕ, zero, suc, ◌+◌, true, false, cond, List, [], ◌∷◌, ◌++◌, count_by, refl, ap, ◌∙◌}
-use Rattle.session_core.proofs.SessionLemmas.{count_joined, count_one}
+use Rattle.lemmas.proofs.Counts.{count_head, count_joined}
 use Rattle.task_model.specs.Streams.{yields_of}
 use Rattle.task_model.specs.declared.stream.Instance.{Instance}
 use Rattle.task_model.specs.declared.task.Task.{Task}
@@ -15,14 +15,9 @@ use Rattle.level_run.specs.Asking.{IsAskedBehind}
 use Rattle.level_run.specs.Turns.{RunsLevel}
 use Rattle.round_run.specs.declared.ending.Batch.{Batch}
 
-count_head : (e : Entry) (es : List Entry)
-    → count_by is_level (e ∷ es) ≡ cond (is_level e) 1 0 + count_by is_level es
-count_head e es =
-    count_joined is_level (e ∷ []) es ∙ ap (λ n. n + count_by is_level es) (count_one is_level e)
-
 none_more : (e : Entry) (es : List Entry) → is_level e ≡ false → count_by is_level es ≡ 0
     → count_by is_level (e ∷ es) ≡ 0
-none_more e es other none = count_head e es ∙ (λ i. cond (other i) 1 0 + none i)
+none_more e es other none = count_head is_level e es ∙ (λ i. cond (other i) 1 0 + none i)
 
 none_joined : (xs ys : List Entry) → count_by is_level xs ≡ 0 → count_by is_level ys ≡ 0
     → count_by is_level (xs ++ ys) ≡ 0
@@ -70,7 +65,7 @@ pub level_counts : (head : Head) (task : Task) (before after : List Entry) (b : 
     → RunsLevel head task before after b
     → count_by is_level after ≡ count_by is_level before + 1
 level_counts head task before after b (now, pushed, level) =
-    let one = ap (count_by is_level) level.is ∙ count_head entry.Level level.rest
+    let one = ap (count_by is_level) level.is ∙ count_head is_level entry.Level level.rest
     ∙ ap (λ n. 1 + n) (rounds_none task _ level.batch.rounds level.rest level.batch.run) in
     ap (count_by is_level) pushed ∙ count_joined is_level before now ∙ ap (λ n. count_by is_level before + n) one
 

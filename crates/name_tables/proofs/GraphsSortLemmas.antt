@@ -54,10 +54,9 @@ strict_with (m ∷ ms) n s =
           let first = sym (nat_cmp_is n m Less (ltb-true n m before)) in ((first, all_above n m ms first s.0), s)
       | false ↦ λ behind. elim (n == m) as (λ b. (n == m) ≡ b → IsStrictlySortedBy nat_cmp (cond b (m ∷ ms) (m ∷ ascending_with ms n))) [
         | true ↦ λ _. s
-        | false ↦ λ other. (
-          all_with (λ k. nat_cmp m k ≡ Less) ms n s.0 (sym (nat_cmp_is m n Less (omega (arith, ltb-false n m behind, eqb-false n m other)))),
-          strict_with ms n s.1,
-        )
+        | false ↦ λ other.
+            let above = sym (nat_cmp_is m n Less (omega (arith, ltb-false n m behind, eqb-false n m other))) in
+            (all_with (λ k. nat_cmp m k ≡ Less) ms n s.0 above, strict_with ms n s.1)
       ] refl
     ] refl
 

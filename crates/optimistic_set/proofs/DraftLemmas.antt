@@ -5,7 +5,7 @@ use Rattle.std.proofs.lemmas.List.{append-nil, length-append, map-append}
 use Rattle.std.proofs.lemmas.List.Elements.{All-nil, All-cons}
 use Rattle.std.proofs.lemmas.List.Sums.{sum_by-cons}
 use Rattle.std.specs.List.{flat_map}
-use Rattle.certify.proofs.FitStreamLemmas.{fit_parts}
+use Rattle.learning.proofs.FitStreamLemmas.{fit_parts}
 use Rattle.fact_layer.specs.Laid.{laid_over}
 use Rattle.fact_store.proofs.StoreLemmas.{all_in_more}
 use Rattle.lemmas.proofs.ListTests.{all_by_place}

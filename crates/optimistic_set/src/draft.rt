@@ -15,12 +15,12 @@ use crate::fault::OptimisticFault;
 use crate::list::MOST_ENTRIES;
 use crate::placeholders::{add_placeholders, fresh_objects};
 use crate::tried::Tried;
-use certify::{certified_facts, worth_of};
 use fact_join::JoinFault;
 use fact_layer::{Layer, More};
 use fact_store::Facts;
 use instance_queue::Queue;
 use instance_search::{Names, Sought, found_instances, stream_of};
+use learning::{certified_facts, worth_of};
 use std::alloc::{AllocError, Global};
 use task_model::{Domain, Instance, Name, Obj, Stream, Task};
 

@@ -2,11 +2,12 @@
 //! answered.
 ghost use Rattle.std.specs.Prelude.{ℕ, List};
 ghost use Rattle.task_model.specs.Fit.{IsFit};
-ghost use Rattle.transcript_ledger.specs.Ledgers.{IsLedger};
+ghost use Rattle.learning.specs.Ledgers.{IsLedger};
 ghost use Rattle.transcript_model.specs.declared.entry.Entry.{Entry as AnyEntry};
 
 use crate::story::Bounds;
 use dream_check::{Dreamed, judge_dream, judge_none};
+use learning::Ledger;
 use optimistic_set::Tried;
 use report_reader::{REPORT_BYTES, read_report};
 use report_text::ReportFault;
@@ -14,7 +15,6 @@ use session_tests::fault::Fault;
 use std::alloc::{AllocError, Global};
 use std::fmt::Write;
 use task_model::Task;
-use transcript_ledger::Ledger;
 use transcript_model::{Entry, Report};
 
 /// What stands in a report before its entries.

@@ -33,12 +33,12 @@ use Rattle.transcript_model.specs.declared.entry.Entry.TheVariants as entry
 
 -- ---- calls and rows
 
-call_itself : (call : Call) → same_call call call ≡ true
+pub call_itself : (call : Call) → same_call call call ≡ true
 call_itself call =
     and_from (same_numbers call.name call.name) (pointwise same_numbers call.args call.args)
     ((numbers_decided call.name call.name).1 refl) ((pointwise_decides numbers_decided call.args call.args).1 refl)
 
-calls_same : (a b : Call) → same_call a b ≡ true → a ≡ b
+pub calls_same : (a b : Call) → same_call a b ≡ true → a ≡ b
 calls_same a b e =
     let name = (numbers_decided a.name b.name).0 (first_so (same_numbers a.name b.name) (pointwise same_numbers a.args b.args) e) in
     let args = (pointwise_decides numbers_decided a.args b.args).0

@@ -1,8 +1,5 @@
 -- Function terms with values: they are fit, and terms of the same numbers are written the same.
 use Rattle.std.proofs.Common.{◌≡◌, ℕ, Bool, true, false, cond, ◌||◌, nat_le, List, [], ◌∷◌, ◌++◌, length, refl, sym, ap, ◌∙◌, Some, slice_get, unwrap_or}
-use Rattle.std.specs.Cmp.{second_so}
-use Rattle.std.specs.Char.{is_ascii_digit}
-use Rattle.std.specs.List.{list_all}
 use Rattle.std.specs.Str.Parse.{digits_value}
 use Rattle.std.proofs.lemmas.Bool.{and_from}
 use Rattle.sexpr_text.specs.Trees.{Trees, nothing, word, list}
@@ -14,7 +11,9 @@ use Rattle.form_reader.specs.declared.words.WordSort.TheVariants.{Name, Predicat
 use Rattle.form_reader.specs.Atoms.{fact_faults, number_faults, valued_faults}
 use Rattle.form_reader.specs.Faults.{shape}
 use Rattle.form_reader.specs.Rows.{application_faults, head_of, row_faults, tail_of}
-use Rattle.form_reader.specs.Words.{is_number, is_of}
+use Rattle.task_model.specs.Numbers.{is_number}
+use Rattle.task_model.proofs.NumbersLemmas.{number_few}
+use Rattle.form_reader.specs.Words.{is_of}
 use Rattle.name_tables.specs.Names.{has_name, place_of}
 use Rattle.name_tables.specs.Terms.{application_names, declared_place, terms_names, use_names, width}
 use Rattle.name_tables.specs.Variables.{unless}
@@ -33,10 +32,7 @@ use Rattle.problem_reader.proofs.FitFacts.{objects_there}
 
 small_by : (w : List ℕ) (b : Bool) → is_number w ≡ b
     → nat_le (cond b (digits_value 10 w) 0) 1000000 ≡ true
-unfolding is_number
-small_by [] true e = absurd (cc)
-small_by (c ∷ cs) true e =
-    second_so (list_all is_ascii_digit (c ∷ cs)) (nat_le (digits_value 10 (c ∷ cs)) 1000000) e
+small_by w true e = number_few w e
 small_by w false e = refl
 
 number_small : (w : List ℕ) → nat_le (number_in w) 1000000 ≡ true

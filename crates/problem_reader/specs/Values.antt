@@ -9,7 +9,7 @@ use Rattle.form_reader.specs.declared.items.Item.TheVariants as item
 use Rattle.form_reader.specs.declared.items.TextKind.TheVariants as text
 use Rattle.form_reader.specs.Items.{item_of}
 use Rattle.form_reader.specs.Rows.{head_of, inner_of, tail_of}
-use Rattle.form_reader.specs.Words.{is_number}
+use Rattle.task_model.specs.Numbers.{is_number}
 use Rattle.name_tables.specs.Names.{has_name, place_of}
 use Rattle.name_tables.specs.Variables.{unless}
 use Rattle.problem_reader.specs.Names.{is_worth}

@@ -7,11 +7,12 @@ ghost use Rattle.form_reader.specs.Faults.{first};
 ghost use Rattle.problem_reader.specs.Values as specs;
 
 use crate::items::is_worth;
-use form_reader::{Fault, InputKind, Item, TextKind, head_of, inner_of, number_of, tail_of};
+use form_reader::{Fault, InputKind, Item, TextKind, head_of, inner_of, tail_of};
 use name_tables::{NameTable, unless};
 use sexpr_text::{Front, Tree, front_of};
 use std::alloc::{AllocError, Global};
 use std::marker::Model;
+use task_model::number_of;
 
 /// Whether the item gives the first facts.
 pub(crate) fn is_init(item: Item) -> bool

@@ -10,9 +10,9 @@ use Rattle.transcript_model.specs.Transcript.{known_of, notes_of}
 use Rattle.transcript_model.specs.declared.entry.Entry.{Entry}
 use Rattle.transcript_model.specs.declared.outcome.LimitKind.TheVariants.{Calls}
 use Rattle.transcript_model.specs.declared.outcome.Outcome.TheVariants as outcome
-use Rattle.transcript_ledger.specs.Ledgers.{IsLedger}
+use Rattle.learning.specs.Ledgers.{IsLedger}
 use Rattle.lemmas.specs.Lists.{has_number}
-use Rattle.transcript_ledger.specs.declared.ledger.Ledger.{Ledger}
+use Rattle.learning.specs.declared.ledger.Ledger.{Ledger}
 use Rattle.replay_check.proofs.ClaimsLemmas.{more_due, none_due_at, some_due}
 use Rattle.replay_check.specs.Claims.{IsJudged, claim_of}
 use Rattle.replay_check.specs.Standings.{limits_by}

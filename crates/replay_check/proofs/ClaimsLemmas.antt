@@ -12,8 +12,8 @@ use Rattle.task_model.specs.Plans.{IsReached, IsSolvable, MoreThan}
 use Rattle.task_model.specs.Streams.{AreDue, IsDue, MoreAreDue, NothingIsDue}
 use Rattle.task_model.specs.declared.stream.Instance.{Instance}
 use Rattle.task_model.specs.declared.task.Task.{Task}
-use Rattle.transcript_ledger.specs.Ledgers.{IsLedger}
-use Rattle.transcript_ledger.specs.declared.ledger.Ledger.{Ledger}
+use Rattle.learning.specs.Ledgers.{IsLedger}
+use Rattle.learning.specs.declared.ledger.Ledger.{Ledger}
 use Rattle.transcript_model.specs.Legal.{HasNoneOpen}
 use Rattle.transcript_model.specs.Rounds.{Limits}
 use Rattle.transcript_model.specs.Transcript.{known_of, notes_of}

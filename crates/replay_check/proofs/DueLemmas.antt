@@ -13,7 +13,7 @@ use Rattle.pools.specs.Pools.{HaveWorkers}
 use Rattle.task_model.proofs.StreamsLemmas.{due_once}
 use Rattle.task_model.specs.Streams.{MoreAreDue}
 use Rattle.task_model.specs.declared.task.Task.{Task}
-use Rattle.transcript_ledger.specs.declared.ledger.Ledger.{Ledger}
+use Rattle.learning.specs.declared.ledger.Ledger.{Ledger}
 use Rattle.transcript_model.specs.Legal.{asks_of}
 use Rattle.transcript_model.specs.Rounds.{Limits}
 use Rattle.transcript_model.specs.Transcript.{known_of, notes_of}

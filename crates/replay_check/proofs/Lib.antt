@@ -19,6 +19,8 @@ pub mod RightReportLemmas
 pub mod StandingsAnswerLemmas
 pub mod StandingsAskLemmas
 pub mod StandingsMarkLemmas
+pub mod TalksAnswerLemmas
+pub mod TalksAskLemmas
 pub mod VerdictsHeadLemmas
 pub mod VerdictsLemmas
 pub mod WalksLemmas

@@ -7,7 +7,7 @@ use Rattle.mode_course.specs.Places.{Awaits, AwaitsLine, AwaitsPick, IsBatchStep
 use Rattle.task_model.specs.Streams.{yields_of}
 use Rattle.task_model.specs.declared.stream.Instance.{Instance}
 use Rattle.task_model.specs.declared.task.Task.{Task}
-use Rattle.transcript_ledger.specs.declared.ledger.Ledger.{Ledger}
+use Rattle.learning.specs.declared.ledger.Ledger.{Ledger}
 use Rattle.transcript_model.specs.Legal.{answered_number, asks_of, is_answer_to, is_mark}
 use Rattle.transcript_model.specs.Names.{call_of_instance}
 use Rattle.transcript_model.specs.Rounds.{Limits, requests_from}

@@ -8,7 +8,7 @@ use Rattle.task_model.specs.Known.{same_numbers}
 use Rattle.task_model.specs.Streams.{Note, name_at, yields_of}
 use Rattle.task_model.specs.declared.stream.Instance.{Instance}
 use Rattle.task_model.specs.declared.task.Task.{Task}
-use Rattle.transcript_ledger.specs.Talks.{is_same_request}
+use Rattle.replay_check.specs.Talks.{is_same_request}
 use Rattle.transcript_model.specs.Names.{call_of_instance}
 use Rattle.transcript_model.specs.declared.entry.Call.{Call}
 use Rattle.transcript_model.specs.declared.entry.Entry.TheVariants as entry

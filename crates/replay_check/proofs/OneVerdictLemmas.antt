@@ -4,9 +4,6 @@ use Rattle.std.proofs.lemmas.Bool.{cases_lt}
 use Rattle.std.proofs.lemmas.List.{take-append-drop}
 use Rattle.std.proofs.lemmas.List.Concat.{flat_map-append}
 use Rattle.task_model.specs.declared.task.Task.{Task}
-use Rattle.report_text.proofs.LineTextLemmas.{read_lines, lines_read}
-use Rattle.report_text.proofs.FormsLemmas.{report_lines, report_text, report_clear}
-use Rattle.report_text.proofs.ReportsReadBack.{lines_determine}
 use Rattle.report_text.specs.Faults.{BeginsReport, IsFirstFault, IsReport, whole_lines}
 use Rattle.lemmas.specs.Lists.{lines_with_feeds}
 use Rattle.report_text.specs.Forms.{IsFormed}
@@ -20,14 +17,9 @@ use Rattle.replay_check.specs.declared.verdict.BreachKind.{BreachKind}
 use Rattle.replay_check.specs.declared.verdict.BreachKind.TheVariants as kind
 use Rattle.replay_check.specs.declared.verdict.Verdict.{Verdict}
 use Rattle.replay_check.specs.declared.verdict.Verdict.TheVariants.{Valid, Invalid, Limit}
+use Rattle.report_text.proofs.ReportsReadBack.{same_report}
 
 -- ---- reports
-
-same_report : (first second : Report) → IsFormed first → IsFormed second
-    → text_of_report first ≡ text_of_report second → first ≡ second
-same_report first second formed also same =
-    lines_determine first second formed also (sym (lines_read (report_lines first) (report_clear first formed))
-    ∙ ap read_lines (sym (report_text first) ∙ same ∙ report_text second) ∙ lines_read (report_lines second) (report_clear second also))
 
 -- ---- faults of the text
 

@@ -13,13 +13,13 @@ use Rattle.mode_course.specs.Agendas.{HasSettled, IsAnswered, KeepsRun, ModeAgen
 use Rattle.mode_course.specs.Places.{LeadsOn, Phase, at_start, goes_on, is_repeated, phase_behind, resting, undreamt}
 use Rattle.mode_course.specs.Running.{made_by, sent_of}
 use Rattle.pools.specs.Pools.{HaveWorkers}
-use Rattle.session_core.proofs.LearningLemmas.{answers_to}
+use Rattle.learning.proofs.LearningLemmas.{answers_to}
 use Rattle.task_model.specs.Dreams as dreams
 use Rattle.task_model.specs.declared.stream.Instance.{Instance}
 use Rattle.task_model.specs.declared.task.Task.{Task}
-use Rattle.transcript_ledger.proofs.LedgersLemmas.{asked_here}
-use Rattle.transcript_ledger.specs.Ledgers.{IsLedger}
-use Rattle.transcript_ledger.specs.declared.ledger.Ledger.{Ledger}
+use Rattle.learning.proofs.LedgersLemmas.{asked_here}
+use Rattle.learning.specs.Ledgers.{IsLedger}
+use Rattle.learning.specs.declared.ledger.Ledger.{Ledger}
 use Rattle.transcript_model.proofs.LegalStepLemmas.{answer_adds}
 use Rattle.transcript_model.specs.Dreaming.{Sent}
 use Rattle.transcript_model.specs.Laws.{AddsAnswer}

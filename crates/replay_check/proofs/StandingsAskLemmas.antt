@@ -12,8 +12,8 @@ use Rattle.task_model.specs.Known.{Known}
 use Rattle.task_model.specs.Streams.{yields_of}
 use Rattle.task_model.specs.declared.stream.Instance.{Instance}
 use Rattle.task_model.specs.declared.task.Task.{Task}
-use Rattle.transcript_ledger.specs.Ledgers.{IsLedger}
-use Rattle.transcript_ledger.specs.declared.ledger.Ledger.{Ledger}
+use Rattle.learning.specs.Ledgers.{IsLedger}
+use Rattle.learning.specs.declared.ledger.Ledger.{Ledger}
 use Rattle.transcript_model.proofs.LegalNumberLemmas.{next_is_fresh}
 use Rattle.transcript_model.proofs.LegalStepLemmas.{request_adds}
 use Rattle.transcript_model.specs.Laws.{AddsRequest}

@@ -12,15 +12,15 @@ use Rattle.mode_course.proofs.StepsLemmas.{phases_differ}
 use Rattle.mode_course.specs.Agendas.{Begins, KeepsRun, ModeAgenda, MovesOn, is_undreamt, left_behind, mode_place_in, with_run}
 use Rattle.mode_course.specs.Places.{Awaits, IsStep, Phase, is_repeated, undreamt}
 use Rattle.mode_course.specs.Running.{made_by, sent_of}
-use Rattle.session_core.proofs.SessionLemmas.{count_joined, count_one, mark_answers, mark_follows}
+use Rattle.lemmas.proofs.Counts.{count_joined, count_one}
 use Rattle.task_model.specs.Dreams as dreams
 use Rattle.task_model.specs.Known.{Known}
 use Rattle.task_model.specs.Streams.{AreDue, Note}
 use Rattle.task_model.specs.declared.stream.Instance.{Instance}
 use Rattle.task_model.specs.declared.task.Task.{Task}
-use Rattle.transcript_ledger.specs.Ledgers.{IsLedger}
-use Rattle.transcript_ledger.specs.declared.ledger.Ledger.{Ledger}
-use Rattle.transcript_model.proofs.LegalLemmas.{grows}
+use Rattle.learning.specs.Ledgers.{IsLedger}
+use Rattle.learning.specs.declared.ledger.Ledger.{Ledger}
+use Rattle.transcript_model.proofs.LegalLemmas.{grows, mark_answers, mark_follows}
 use Rattle.transcript_model.proofs.LegalPrefixLemmas.{asked-kept}
 use Rattle.transcript_model.proofs.LegalStepLemmas.{mark_adds}
 use Rattle.transcript_model.specs.Laws.{AddsMark}

@@ -9,9 +9,9 @@ use Rattle.pools.specs.Pools.{shares_of}
 use Rattle.report_text.specs.Forms.{IsFormedEntry}
 use Rattle.task_model.specs.declared.stream.Instance.{Instance}
 use Rattle.task_model.specs.declared.task.Task.{Task}
-use Rattle.transcript_ledger.specs.Ledgers.{IsLedger}
-use Rattle.transcript_ledger.specs.Talks.{IsAskedBy}
-use Rattle.transcript_ledger.specs.declared.ledger.Ledger.{Ledger}
+use Rattle.learning.specs.Ledgers.{IsLedger}
+use Rattle.replay_check.specs.Talks.{IsAskedBy}
+use Rattle.learning.specs.declared.ledger.Ledger.{Ledger}
 use Rattle.transcript_model.specs.Legal.{IsRightAsk, MayFollow, answered_number, is_answer, is_ask}
 use Rattle.transcript_model.specs.Rounds.{Limits}
 use Rattle.transcript_model.specs.declared.entry.Call.{Call}

@@ -10,7 +10,7 @@ use Rattle.mode_course.specs.Places.{AwaitsPick, Place, is_repeated, picks, rest
 use Rattle.task_model.specs.Known.{Known}
 use Rattle.task_model.specs.Streams.{Note}
 use Rattle.task_model.specs.declared.task.Task.{Task}
-use Rattle.transcript_ledger.specs.declared.ledger.Ledger.{Ledger}
+use Rattle.learning.specs.declared.ledger.Ledger.{Ledger}
 use Rattle.transcript_model.specs.Laws.{AddsMark}
 use Rattle.transcript_model.specs.Legal.{asks_of}
 use Rattle.transcript_model.specs.Rounds.{Limits}

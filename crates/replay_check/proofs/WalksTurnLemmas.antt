@@ -19,7 +19,7 @@ use Rattle.task_model.specs.Dreams as dreams
 use Rattle.task_model.specs.Known.{Known}
 use Rattle.task_model.specs.Streams.{AreDue}
 use Rattle.task_model.specs.declared.task.Task.{Task}
-use Rattle.transcript_ledger.specs.declared.ledger.Ledger.{Ledger}
+use Rattle.learning.specs.declared.ledger.Ledger.{Ledger}
 use Rattle.transcript_model.specs.Dreaming.{HasNoDreamAfter, IsDreamAfter, sent_instances}
 use Rattle.transcript_model.specs.Laws.{AddsMark}
 use Rattle.transcript_model.specs.Legal.{asks_of, is_mark}

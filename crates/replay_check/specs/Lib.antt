@@ -8,6 +8,7 @@ pub mod Laws
 pub mod Lines
 pub mod Plans
 pub mod Standings
+pub mod Talks
 pub mod Turns
 pub mod Verdicts
 pub mod Walks

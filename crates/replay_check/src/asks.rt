@@ -10,10 +10,12 @@ ghost use Rattle.transcript_model.specs.declared.limits.TheConstants.{MOST_CALLS
 
 use crate::bounds::Bounds;
 use crate::finding::Finding;
+use crate::requests::is_request;
+use crate::right_answers::may_answer;
+use crate::right_asks::asked_by;
 use crate::standing::Standing;
 use crate::verdict::BreachKind;
 use std::alloc::AllocError;
-use transcript_ledger::{asked_by, is_request, may_answer};
 use transcript_model::{Call, Entry};
 
 impl Standing {

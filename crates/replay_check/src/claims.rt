@@ -1,7 +1,7 @@
 //! What outcomes claim, besides plans.
 ghost use Rattle.std.specs.Prelude.{◌≡◌, ◌↔◌, ℕ, List, IfOk, IsTrue};
 ghost use Rattle.replay_check.specs.Claims.{IsJudged, claim_of};
-ghost use Rattle.transcript_ledger.specs.Ledgers.{IsLedger};
+ghost use Rattle.learning.specs.Ledgers.{IsLedger};
 ghost use Rattle.replay_check.specs.Standings.{AreBounds, limits_by};
 ghost use Rattle.task_model.specs.Streams.{NothingIsDue};
 ghost use Rattle.transcript_model.specs.Legal.{HasNoneOpen};
@@ -14,8 +14,8 @@ ghost use Rattle.transcript_model.specs.declared.outcome.Outcome.TheVariants as 
 use crate::bounds::Bounds;
 use best_first::exceeds;
 use dream_check::is_solvable_within;
+use learning::{Ledger, dues_of};
 use std::alloc::AllocError;
-use transcript_ledger::{Ledger, dues_of};
 use transcript_model::Mode;
 
 /// What is said of a claim.

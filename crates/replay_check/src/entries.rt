@@ -8,9 +8,9 @@ use crate::bounds::Bounds;
 use crate::finding::Finding;
 use crate::standing::Standing;
 use crate::verdict::BreachKind;
+use learning::{Ledger, answered};
 use mode_course::ModeCourse;
 use std::alloc::AllocError;
-use transcript_ledger::{Ledger, answered};
 use transcript_model::Entry;
 
 impl Standing {

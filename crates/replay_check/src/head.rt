@@ -12,9 +12,9 @@ ghost use Rattle.io_world.specs.declared.host.TheConstants.{CHILDREN};
 
 use io_world::CHILDREN;
 use pools::Workers;
+use shown_steps::stream_named;
 use std::alloc::{AllocError, Global};
 use task_model::{MOST_STATES, Name, Seq, Task};
-use transcript_ledger::stream_named;
 use transcript_model::{MOST_CALLS, MOST_DEPTH, PoolLine, Report, WORKERS};
 
 /// What is said of a head.

@@ -1,6 +1,6 @@
 //! Whether the plan that a report shows is valid, costs what it says, and has its origins.
 ghost use Rattle.std.specs.Prelude.{IfOk};
-ghost use Rattle.transcript_ledger.specs.Ledgers.{IsLedger};
+ghost use Rattle.learning.specs.Ledgers.{IsLedger};
 ghost use Rattle.transcript_model.specs.Legal.{IsLegal};
 ghost use Rattle.transcript_model.specs.Transcript.{known_of};
 ghost use Rattle.shown_steps.specs.Plans.{IsPlan};
@@ -9,10 +9,10 @@ ghost use Rattle.replay_check.specs.Standings.{AreBounds};
 
 use crate::bounds::Bounds;
 use crate::origins::first_difference;
+use learning::Ledger;
 use shown_plan::plan_origins;
 use shown_steps::{Ran, run_steps};
 use std::alloc::AllocError;
-use transcript_ledger::Ledger;
 use transcript_model::{Call, Entry, Origin};
 
 /// The plan of an outcome, as a report shows it.

@@ -9,9 +9,9 @@ ghost use Rattle.transcript_model.specs.declared.entry.Entry.{Entry as AnyEntry}
 
 use crate::bounds::Bounds;
 use instance_queue::Due;
+use learning::{Ledger, dues_of};
 use mode_course::ModeCourse;
 use std::alloc::AllocError;
-use transcript_ledger::{Ledger, dues_of};
 use transcript_model::Mode;
 
 /// What the entries so far come to: what is kept of them, and what may come next.

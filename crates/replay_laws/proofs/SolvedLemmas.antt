@@ -46,7 +46,7 @@ same_bytes : (files later : FileMap) (path other a b : List ℕ) → files path 
 same_bytes files later path other a b same first second =
     let both : Some b ≡ Some a = sym second ∙ sym same ∙ first in cc
 
-same_task : (files later : FileMap) (paths others : TaskFiles) (t u : Task)
+pub same_task : (files later : FileMap) (paths others : TaskFiles) (t u : Task)
     → AreSameTexts files later paths others
     → IsTaskOf (Some files) paths t → IsTaskOf (Some later) others u → u ≡ t
 same_task files later paths others t u same x y =
@@ -65,7 +65,7 @@ same_task files later paths others t u same x y =
 -- ---- the verdict
 
 -- words that mean a task is to be solved have no other work
-same_work : (words : List (List ℕ)) (asked : SolveWords) (work : Work) → command_of words ≡ Some (command_for work)
+pub same_work : (words : List (List ℕ)) (asked : SolveWords) (work : Work) → command_of words ≡ Some (command_for work)
     → command_of words ≡ Some (solve asked) → work ≡ solving asked
 same_work words asked (solving w) one two = let both = sym one ∙ two in ap solving (let e : w ≡ asked = cc in e)
 same_work words asked (making n) one two = let both = sym one ∙ two in absurd (cc)

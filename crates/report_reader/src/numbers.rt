@@ -1,10 +1,10 @@
 //! Numbers as a report writes them: decimal digits without a leading zero.
 ghost use Rattle.std.specs.Prelude.{◌≡◌, ◌<◌, ◌^◌};
-ghost use Rattle.std.specs.Char.{is_ascii_digit};
-ghost use Rattle.std.specs.List.{list_all};
 ghost use Rattle.std.specs.Fmt.{decimal};
 ghost use Rattle.report_reader.specs.Finding.{Finds};
 ghost use Rattle.report_reader.specs.Splits.{has_needless_zero};
+
+use task_model::are_digits;
 
 /// The number that a field writes, below 2^64.
 pub(crate) fn number_in(field: &[u8]) -> Option<u64>
@@ -30,10 +30,4 @@ fn has_needless_zero(field: &[u8]) -> bool
     ensures { result ≡ has_needless_zero field.now }
 {
     field.is_empty() || (field.len() > 1 && field[0] == b'0')
-}
-
-fn are_digits(field: &[u8]) -> bool
-    ensures { result ≡ list_all is_ascii_digit field.now }
-{
-    field.iter().all(|b| b.is_ascii_digit())
 }

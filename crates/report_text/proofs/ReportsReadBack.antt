@@ -4,7 +4,7 @@ use Rattle.std.specs.List.{flat_map}
 use Rattle.std.specs.Str.{bytes_eq}
 use Rattle.lemmas.proofs.Numbers.{small_version}
 use Rattle.report_text.specs.Forms.{IsFormedPool, IsFormed}
-use Rattle.report_text.specs.Texts.{Line, mode_word, entry_lines, outcome_lines, pool_line, done_line}
+use Rattle.report_text.specs.Texts.{Line, mode_word, entry_lines, outcome_lines, pool_line, done_line, text_of_report}
 use Rattle.transcript_model.specs.declared.entry.Entry.{Entry}
 use Rattle.transcript_model.specs.declared.entry.Entry.TheVariants as entry
 use Rattle.transcript_model.specs.declared.head.Mode.{Mode}
@@ -13,7 +13,8 @@ use Rattle.transcript_model.specs.declared.head.PoolLine.{PoolLine}
 use Rattle.transcript_model.specs.declared.outcome.Outcome.{Outcome}
 use Rattle.transcript_model.specs.declared.outcome.Outcome.TheVariants as outcome
 use Rattle.transcript_model.specs.declared.report.Report.{Report}
-use Rattle.report_text.proofs.FormsLemmas.{report_lines}
+use Rattle.report_text.proofs.FormsLemmas.{report_clear, report_lines, report_text}
+use Rattle.report_text.proofs.LineTextLemmas.{lines_read, read_lines}
 use Rattle.report_text.proofs.TextsReadBack.{after_first, back_32, back_8, entries_back, entries_in, first_number, is_word, number_back, outcome_back, outcome_in, outcome_no_entry}
 
 -- ---- heads
@@ -128,3 +129,10 @@ pub lines_determine : (r s : Report) → IsFormed r → IsFormed s → report_li
 lines_determine r s first second same =
     let most = length r.entries + length s.entries in
     sym (report_back most r (omega arith) first) ∙ ap (report_in most) same ∙ report_back most s (omega arith) second
+
+-- what is written determines what was meant
+pub same_report : (first second : Report) → IsFormed first → IsFormed second
+    → text_of_report first ≡ text_of_report second → first ≡ second
+same_report first second formed also same =
+    lines_determine first second formed also (sym (lines_read (report_lines first) (report_clear first formed))
+    ∙ ap read_lines (sym (report_text first) ∙ same ∙ report_text second) ∙ lines_read (report_lines second) (report_clear second also))

@@ -11,7 +11,7 @@ use Rattle.gen_lines.proofs.LinesLemmas.{ended_length}
 use Rattle.gen_lines.specs.Lines.{ended, is_feed, lines_of}
 use Rattle.io_world.specs.Replies.{IsLine}
 use Rattle.io_world.specs.Talks.{Talk, Event, silence, spelled, heard_more, IsGiven, LogsGiven, LogsTaken, Spells}
-use Rattle.session_core.proofs.SessionLemmas.{count_joined, count_one}
+use Rattle.lemmas.proofs.Counts.{count_joined, count_one}
 use Rattle.session_core.specs.Session.{IsSession, begun}
 use Rattle.transcript_model.specs.Legal.{is_answer}
 use Rattle.session_core.specs.Slots.{Slot, answers_of}

@@ -12,7 +12,7 @@ use Rattle.io_world.specs.Faults.{Extends}
 use Rattle.io_world.specs.Talks.{Event, started, stopped, Logs}
 use Rattle.io_world.specs.declared.host.HostFault.{HostFault}
 use Rattle.io_world.proofs.TalksLemmas.{extends_more, extends_none}
-use Rattle.session_core.proofs.SessionLemmas.{count_joined, count_one}
+use Rattle.lemmas.proofs.Counts.{count_joined, count_one}
 use Rattle.task_model.specs.declared.task.Task.{Task}
 use Rattle.transcript_model.specs.Legal.{asks_of, is_ask, is_mark}
 use Rattle.transcript_model.specs.declared.entry.Entry.{Entry}

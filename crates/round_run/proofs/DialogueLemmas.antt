@@ -12,7 +12,7 @@ use Rattle.gen_lines.specs.Reply.{reply_of}
 use Rattle.gen_lines.specs.declared.answer.Why.{Why}
 use Rattle.gen_lines.specs.declared.answer.Why.TheVariants.{TooLong}
 use Rattle.io_world.specs.Talks.{Talk, Hears, Writes, heard_more, wrote_more}
-use Rattle.session_core.proofs.SessionLemmas.{count_joined, count_one}
+use Rattle.lemmas.proofs.Counts.{count_joined, count_one}
 use Rattle.session_core.specs.Slots.{replied_entry}
 use Rattle.pools.specs.Pools.{Workers}
 use Rattle.lemmas.proofs.Members.{push_cases, get_append, get_pushed, next_taken}

@@ -5,10 +5,10 @@ use Rattle.std.proofs.lemmas.List.Folds.{list_any-append}
 use Rattle.std.specs.List.{list_any}
 use Rattle.lemmas.proofs.Bools.{or_false}
 use Rattle.io_world.specs.Talks.{Event}
-use Rattle.session_core.proofs.SessionLemmas.{count_joined, count_one, mark_follows}
+use Rattle.lemmas.proofs.Counts.{count_joined, count_one}
 use Rattle.pools.specs.Pools.{Workers}
 use Rattle.task_model.specs.declared.task.Task.{Task}
-use Rattle.transcript_model.proofs.LegalLemmas.{grows}
+use Rattle.transcript_model.proofs.LegalLemmas.{grows, mark_follows}
 use Rattle.transcript_model.proofs.LegalStepLemmas.{mark_no_ask}
 use Rattle.transcript_model.specs.Legal.{IsLegal, asks_of, is_answer_to, is_ask, is_ask_of, is_mark, is_open}
 use Rattle.transcript_model.specs.declared.entry.Entry.{Entry}

@@ -2,7 +2,7 @@
 use Rattle.std.proofs.Common.{◌≡◌, ℕ, zero, suc, ◌+◌, ◌<◌, arith, true, cond, List, [], ◌∷◌, ◌++◌, length, take, Some, refl, sym, subst, ap, ◌∙◌, slice_get, option_map, unwrap_or}
 use Rattle.std.proofs.lemmas.List.Elements.{filter-append}
 use Rattle.instance_queue.specs.declared.due.Due.{Due}
-use Rattle.session_core.proofs.SessionLemmas.{count_joined, count_one}
+use Rattle.lemmas.proofs.Counts.{count_joined, count_one}
 use Rattle.pools.specs.Pools.{Workers, child_for}
 use Rattle.session_core.specs.Slots.{Slot, asks_from, slot_for, slots_from, wanted_at}
 use Rattle.task_model.specs.Fit.{IsFit}

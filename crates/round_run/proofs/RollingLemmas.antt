@@ -14,7 +14,7 @@ use Rattle.transcript_model.specs.Legal.{IsLegal, is_open}
 use Rattle.transcript_model.specs.Rounds.{IsRound}
 use Rattle.transcript_model.specs.declared.entry.Entry.{Entry}
 use Rattle.transcript_model.specs.declared.entry.Entry.TheVariants as entry
-use Rattle.session_core.proofs.LearningLemmas.{front_at}
+use Rattle.lemmas.proofs.Members.{from_take}
 use Rattle.session_core.proofs.StateLemmas.{bad_is}
 use Rattle.session_core.proofs.SlotsLemmas.{children_of, children_kept, child_kept, map_at, own_slot, at_own, at_other}
 use Rattle.session_core.specs.Heard.{is_bad_at, number_at}
@@ -251,7 +251,7 @@ module _ (s : State) (running : ℕ → Bool) (sent place : ℕ) (r : IsRolling 
             by false e = e
             by true e =
                 let same : k ≡ place =
-                r.apart k place t.child (child_at k u (front_at s.slots place k u is) ∙ ap Some (eqb-true u.child t.child e))
+                r.apart k place t.child (child_at k u ((from_take s.slots place k u is).1) ∙ ap Some (eqb-true u.child t.child e))
                 (child_at place t at) in
                 absurd (omega (arith, same, slice_get_within (take place s.slots) k u is, length-take place s.slots))
 

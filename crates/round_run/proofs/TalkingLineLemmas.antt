@@ -12,7 +12,7 @@ use Rattle.gen_lines.specs.declared.answer.Why.TheVariants.{TooLong}
 use Rattle.io_world.proofs.TalksHeardLemmas.{heard_none}
 use Rattle.io_world.specs.Replies.{HasLine}
 use Rattle.io_world.specs.Talks.{Talk, Hears}
-use Rattle.session_core.proofs.SessionLemmas.{count_joined, count_one}
+use Rattle.lemmas.proofs.Counts.{count_joined, count_one}
 use Rattle.session_core.specs.Heard.{is_bad_at, number_at}
 use Rattle.session_core.specs.Slots.{Slot}
 use Rattle.session_core.specs.State.{State, after_line}

@@ -8,14 +8,13 @@ use Rattle.gen_lines.specs.Reply.{Reply, reply_of}
 use Rattle.instance_queue.specs.Level.{instances_of}
 use Rattle.instance_queue.specs.declared.due.Due.{Due}
 use Rattle.io_world.specs.Talks.{Talk, Writes}
-use Rattle.session_core.proofs.LearningLemmas.{front_at}
 use Rattle.session_core.proofs.RoundBeginLemmas.{child_served}
 use Rattle.session_core.proofs.SlotsLemmas.{at_own, at_other}
 use Rattle.session_core.specs.Session.{IsSession, AreSlotsFor, MayBeginRound, begun}
 use Rattle.session_core.specs.Slots.{Slot, answers_of, asks_from, at_child, replied_entry, is_slot_of, sent_slot, slots_from}
 use Rattle.session_core.specs.State.{State, after_sent, with_slots}
 use Rattle.pools.specs.Pools.{Workers}
-use Rattle.lemmas.proofs.Members.{member_at, next_taken}
+use Rattle.lemmas.proofs.Members.{from_take, member_at, next_taken}
 use Rattle.lemmas.proofs.ListTests.{get_there}
 use Rattle.task_model.specs.declared.task.Task.{Task}
 use Rattle.transcript_model.specs.Legal.{IsLegal, is_open, is_answer}
@@ -71,10 +70,10 @@ pub round_replies : (task : Task) (s : State) → s.is_open ≡ true → IsSessi
 round_replies task s opened h = let r = h.round opened in finished_each task s.version (length s.asked + 1) r.dues s.slots r.slots
 
 pub front_each : (es : List Entry) (n : ℕ) → AreReplies es → AreReplies (take n es)
-front_each es n each k e at = each k e (front_at es n k e at)
+front_each es n each k e at = each k e (from_take es n k e at).1
 
 front_asks : (es : List Entry) (n : ℕ) → AreAsks es → AreAsks (take n es)
-front_asks es n each k e at = each k e (front_at es n k e at)
+front_asks es n each k e at = each k e (from_take es n k e at).1
 
 -- ---- what is printed of a round
 

@@ -7,7 +7,7 @@ use Rattle.std.specs.Cmp.{first_so, nat_cmp_total}
 use Rattle.std.specs.List.{flat_map, list_all}
 use Rattle.std.specs.Option.{option_map}
 use Rattle.std.specs.Ordering.{nat_cmp}
-use Rattle.certify.proofs.OutputsLemmas.{names_grow}
+use Rattle.learning.proofs.OutputsLemmas.{names_grow}
 use Rattle.lemmas.proofs.Distinct.{ascending_distinct}
 use Rattle.lemmas.proofs.ListTests.{all_by_place}
 use Rattle.lemmas.proofs.Members.{member_at, place_of}

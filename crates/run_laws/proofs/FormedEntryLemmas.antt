@@ -7,7 +7,7 @@ use Rattle.std.specs.Cmp.{first_so}
 use Rattle.std.specs.List.{list_any}
 use Rattle.std.specs.Option.{option_map}
 use Rattle.gen_lines.specs.Reply.{is_value, IsRight}
-use Rattle.session_core.proofs.SessionLemmas.{count_joined}
+use Rattle.lemmas.proofs.Counts.{count_joined}
 use Rattle.task_model.proofs.KnownLemmas.{numbers_decided}
 use Rattle.lemmas.proofs.Members.{member_at}
 use Rattle.task_model.specs.Fit.{IsFit, is_name}

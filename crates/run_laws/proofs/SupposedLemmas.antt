@@ -3,7 +3,7 @@ use Rattle.std.proofs.Common.{◌≡◌, ℕ, zero, suc, ◌+◌, ◌<◌, ◌�
 use Rattle.std.proofs.lemmas.List.{length-append}
 use Rattle.std.proofs.lemmas.List.Sums.{sum_by-cons}
 use Rattle.lemmas.proofs.Members.{from_take}
-use Rattle.certify.proofs.FitStreamLemmas.{fit_parts}
+use Rattle.learning.proofs.FitStreamLemmas.{fit_parts}
 use Rattle.dream_laws.proofs.FreshLemmas.{each_is_fresh, few_outputs, outputs_behind, outputs_in}
 use Rattle.dream_laws.proofs.ListLemmas.{each_is_of}
 use Rattle.dream_laws.proofs.SupportLemmas.{stream_of}

@@ -8,7 +8,7 @@ use Rattle.lemmas.proofs.ListTests.{all_at}
 use Rattle.mode_turns.specs.Modes.{TurnOf}
 use Rattle.run_laws.proofs.PlainEntryLemmas.{is_plain, rounds_plain}
 use Rattle.run_laws.proofs.SkeletonLemmas.{IsCarried, skeleton_of, turn_carries}
-use Rattle.session_core.proofs.SessionLemmas.{count_joined}
+use Rattle.lemmas.proofs.Counts.{count_joined}
 use Rattle.task_model.specs.Dreams as dreams
 use Rattle.task_model.specs.Fit.{IsFit}
 use Rattle.task_model.specs.declared.stream.Instance.{Instance}

@@ -1,9 +1,7 @@
-pub mod LearningLemmas
 pub mod RoundBeginLemmas
 pub mod RoundCloseLemmas
 pub mod RoundWholeLemmas
 pub mod SessionLemmas
-pub mod LearningTupleLemmas
 pub mod SessionLearnLemmas
 pub mod EventsLemmas
 pub mod ReadyRoundLemmas

@@ -33,7 +33,8 @@ use Rattle.transcript_model.specs.declared.entry.Entry.TheVariants as entry
 use Rattle.session_core.proofs.RoundWholeLemmas.{close_kept}
 use Rattle.transcript_model.specs.Legal.{answered_number}
 use Rattle.session_core.specs.Ready.{AreReady, IsNextRound, AreAskable}
-use Rattle.session_core.specs.Session.{IsSession, IsLearnt, AreSlotsFor, Asks, MayBeginRound}
+use Rattle.learning.specs.Learning.{Asks}
+use Rattle.session_core.specs.Session.{IsSession, IsLearnt, AreSlotsFor, MayBeginRound}
 use Rattle.session_core.specs.Slots.{Slot, asks_from, replied_entry, answers_of, all_answered}
 use Rattle.session_core.specs.State.{State, after_close}
 use Rattle.lemmas.proofs.Distinct.{ascending_distinct, distinct_apart, distinct_left, distinct_right}

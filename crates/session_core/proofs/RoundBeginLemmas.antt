@@ -1,5 +1,5 @@
 -- A round that is begun.
-use Rattle.std.proofs.Common.{◌≡◌, ℕ, zero, suc, ◌+◌, ◌*◌, ◌≤◌, ◌<◌, Bool, true, false, cond, List, [], ◌∷◌, ◌++◌, length, take, get_or, refl, sym, ap, subst, ◌∙◌, inl, inr, Option, None, Some, slice_get, option_map, arith, count_by, append_assoc, All}
+use Rattle.std.proofs.Common.{◌≡◌, ℕ, zero, suc, ◌+◌, ◌*◌, ◌≤◌, ◌<◌, true, false, List, [], ◌∷◌, ◌++◌, length, take, get_or, refl, sym, ap, subst, ◌∙◌, inl, inr, Option, None, Some, slice_get, option_map, arith, count_by, append_assoc, All}
 use Rattle.std.proofs.Math.Seq.{take-length}
 use Rattle.std.proofs.lemmas.Bool.{cases_lt}
 use Rattle.std.proofs.lemmas.List.{append-nil, length-map}
@@ -21,7 +21,7 @@ use Rattle.transcript_model.proofs.CoherentLemmas.{coherent}
 use Rattle.transcript_model.specs.Rounds.{fits}
 use Rattle.transcript_model.specs.Transcript.{known_of, notes_of}
 use Rattle.transcript_model.specs.declared.entry.Entry.{Entry}
-use Rattle.session_core.proofs.SessionLemmas.{count_joined, count_one}
+use Rattle.lemmas.proofs.Counts.{count_passes, count_whole}
 use Rattle.session_core.proofs.SlotsLemmas.{children_of}
 use Rattle.session_core.specs.Events.{IsFresh}
 use Rattle.session_core.specs.Session.{IsSession, AreSlotsFor, MayBeginRound, begun}
@@ -104,36 +104,6 @@ instances_step (u ∷ us) (suc k) d at =
     ∙ ap (λ is. u.instance ∷ is) (instances_step us k d at)
 
 -- ---- children
-
-count_head : (p : ℕ → Bool) (x : ℕ) (xs : List ℕ)
-    → count_by p (x ∷ xs) ≡ cond (p x) 1 0 + count_by p xs
-count_head p x xs = count_joined p (x ∷ []) xs ∙ ap (λ n. n + count_by p xs) (count_one p x)
-
-count_front : (p : ℕ → Bool) (xs : List ℕ) (k : ℕ) → count_by p (take k xs) ≤ count_by p xs
-count_front p xs zero = omega arith
-count_front p [] (suc k) = omega arith
-count_front p (x ∷ xs) (suc k) =
-    omega (arith, count_head p x (take k xs), count_head p x xs, count_front p xs k)
-
--- a member that passes counts from its place on
-count_passes : (p : ℕ → Bool) (xs : List ℕ) (j k x : ℕ) → j < k → slice_get xs j ≡ Some x
-    → p x ≡ true
-    → count_by p (take j xs) + 1 ≤ count_by p (take k xs)
-count_passes p [] j k x lt at passes = absurd (cc)
-count_passes p (y ∷ ys) j zero x lt at passes = absurd (omega (arith, lt))
-count_passes p (y ∷ ys) zero (suc k) x lt at passes =
-    let same : y ≡ x = cc in
-    let one : cond {A = ℕ} (p y) 1 0 ≡ 1 = ap (λ b. cond {A = ℕ} b 1 0) (ap p same ∙ passes) in
-    let none : count_by p (take 0 (y ∷ ys)) ≡ 0 = refl in
-    omega (arith, count_head p y (take k ys), one, none)
-count_passes p (y ∷ ys) (suc j) (suc k) x lt at passes =
-    omega (arith, count_head p y (take j ys), count_head p y (take k ys), count_passes p ys j k x (omega (arith, lt)) at passes)
-
-count_whole : (p : ℕ → Bool) (xs : List ℕ) (j x : ℕ) → slice_get xs j ≡ Some x → p x ≡ true
-    → count_by p (take j xs) + 1 ≤ count_by p xs
-count_whole p xs j x at passes =
-    subst (λ ys. count_by p (take j xs) + 1 ≤ count_by p ys)
-    (take-length xs) (count_passes p xs j (length xs) x (slice_get_within xs j x at) at passes)
 
 take_streams : (dues : List Due) (k : ℕ) → streams_of (take k dues) ≡ take k (streams_of dues)
 take_streams dues zero = refl

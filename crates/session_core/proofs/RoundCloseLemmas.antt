@@ -10,6 +10,7 @@ use Rattle.lemmas.proofs.Distinct.{distinct_tail, head_is_new}
 use Rattle.lemmas.proofs.Ascending.{contains_here, contains_later}
 use Rattle.gen_lines.proofs.ReplyLemmas.{yields_are_right, numbers_are_small}
 use Rattle.gen_lines.specs.Reply as reply
+use Rattle.task_model.specs.Numbers.{is_number}
 use Rattle.gen_lines.specs.Reply.{Reply, reply_of}
 use Rattle.gen_lines.specs.declared.answer.Wanted.TheVariants as wanted
 use Rattle.instance_queue.proofs.LevelLemmas.{due_in}
@@ -33,7 +34,8 @@ use Rattle.transcript_model.specs.Names.{call_of_instance, instance_of}
 use Rattle.transcript_model.specs.Transcript.{Asked, asked, names_of, known_of, notes_of}
 use Rattle.transcript_model.specs.declared.entry.Entry.{Entry}
 use Rattle.transcript_model.specs.declared.entry.Entry.TheVariants as entry
-use Rattle.session_core.specs.Session.{AreSlotsFor, Asks}
+use Rattle.learning.specs.Learning.{Asks}
+use Rattle.session_core.specs.Session.{AreSlotsFor}
 use Rattle.session_core.specs.Slots.{Slot, wanted_of, wanted_at, asks_from, replied_entry, answers_of, all_answered}
 use Rattle.task_model.proofs.KnownLemmas.{below_names}
 
@@ -186,7 +188,7 @@ choice_no_yield false n why t vs e = absurd (cc)
 number_no_yield : (given : List (List ℕ)) (t : ℕ) (vs : List (List ℕ))
     → reply.number_reply given ≡ reply.yields t vs → ⊥
 number_no_yield [] t vs e = absurd (cc)
-number_no_yield (f ∷ []) t vs e = choice_no_yield (reply.is_number f) _ _ t vs e
+number_no_yield (f ∷ []) t vs e = choice_no_yield (is_number f) _ _ t vs e
 number_no_yield (f ∷ (g ∷ gs)) t vs e = absurd (cc)
 
 either_no_yield : (a b : Bool) (x y : Reply) (why : _) (t : ℕ) (vs : List (List ℕ))

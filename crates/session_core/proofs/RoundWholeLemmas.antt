@@ -12,8 +12,9 @@ use Rattle.transcript_model.proofs.LegalPrefixLemmas.{asked-kept}
 use Rattle.transcript_model.specs.Legal.{is_open, is_answer}
 use Rattle.transcript_model.specs.Transcript.{asked, names_of, known_of, notes_of}
 use Rattle.transcript_model.specs.declared.entry.Entry.{Entry}
-use Rattle.session_core.proofs.SessionLemmas.{count_joined, count_one}
-use Rattle.session_core.specs.Session.{IsSession, AreSlotsFor, Asks}
+use Rattle.lemmas.proofs.Counts.{count_joined, count_one}
+use Rattle.learning.specs.Learning.{Asks}
+use Rattle.session_core.specs.Session.{IsSession, AreSlotsFor}
 use Rattle.session_core.specs.Slots.{Slot, ask_for, asks_from, answers_of, all_answered}
 use Rattle.session_core.specs.State.{State, after_close}
 use Rattle.session_core.proofs.RoundCloseLemmas.{AllWait, Requested, answered_all, no_both, requested}

@@ -3,11 +3,17 @@ use Rattle.std.proofs.Common.{◌≡◌, ℕ, ◌≤◌, Bool, true, false, List
 use Rattle.std.proofs.Math.Seq.{take-length}
 use Rattle.task_model.specs.Known.{Known}
 use Rattle.task_model.specs.Streams.{Note}
+use Rattle.task_model.specs.declared.stream.Instance.{Instance}
 use Rattle.task_model.specs.declared.task.Task.{Task}
 use Rattle.transcript_model.specs.Transcript.{known_of, notes_of}
-use Rattle.session_core.specs.Learning.{CanLearn}
+use Rattle.learning.specs.Learning.{CanLearn}
 use Rattle.session_core.specs.Session.{IsSession, after_learn}
 use Rattle.session_core.specs.State.{State, with_learnt}
+
+-- the state with what another ledger keeps, of so many entries
+abbrev pub ledger_becomes : State → List Instance → Known → List Note → ℕ → Bool → State
+ledger_becomes s asked known notes learnt failed =
+    record s { asked = asked; known = known; notes = notes; learnt = learnt; failed = failed }
 
 learnt_kept : (task : Task) (s : State) (known : Known) (notes : List Note) (learnt : ℕ) (failed : Bool)
     → IsSession task s

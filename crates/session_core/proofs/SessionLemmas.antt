@@ -1,19 +1,19 @@
 -- What sends, lines and marks leave is still a session.
-use Rattle.std.proofs.Common.{◌≡◌, ℕ, ◌+◌, ◌≤◌, Bool, true, false, cond, List, [], ◌∷◌, ◌++◌, map, length, take, refl, sym, ap, ◌∙◌, arith, count_by, zero-add, length-append}
+use Rattle.std.proofs.Common.{◌≡◌, ℕ, ◌+◌, ◌≤◌, Bool, true, false, cond, List, [], ◌∷◌, ◌++◌, map, length, take, sym, ap, ◌∙◌, arith, count_by, length-append}
 use Rattle.std.proofs.Math.Seq.{take-length}
 use Rattle.std.proofs.lemmas.List.{take-append-le}
-use Rattle.std.proofs.lemmas.List.Sums.{sum_by-append}
 use Rattle.lemmas.proofs.Bools.{not_both}
+use Rattle.lemmas.proofs.Counts.{count_joined, count_one}
 use Rattle.instance_queue.specs.declared.due.Due.{Due}
 use Rattle.task_model.specs.declared.stream.Instance.{Instance}
 use Rattle.task_model.specs.declared.task.Task.{Task}
-use Rattle.transcript_model.proofs.LegalLemmas.{grows}
+use Rattle.transcript_model.proofs.LegalLemmas.{grows, mark_answers, mark_follows}
 use Rattle.transcript_model.proofs.LegalStepLemmas.{mark_adds}
-use Rattle.transcript_model.specs.Legal.{MayFollow, is_answer, is_mark}
+use Rattle.transcript_model.specs.Legal.{is_answer, is_mark}
 use Rattle.transcript_model.specs.Transcript.{asked, known_of, notes_of}
 use Rattle.transcript_model.specs.declared.entry.Entry.{Entry}
-use Rattle.transcript_model.specs.declared.entry.Entry.TheVariants as entry
-use Rattle.session_core.specs.Session.{IsSession, IsRoundOf, IsSlotFor, AreSlotsFor, Asks}
+use Rattle.learning.specs.Learning.{Asks}
+use Rattle.session_core.specs.Session.{IsSession, IsRoundOf, IsSlotFor, AreSlotsFor}
 use Rattle.session_core.specs.Slots.{Slot, sent_slot, heard_slot, at_child, is_slot_of}
 use Rattle.session_core.specs.State.{State, with_slots, after_mark}
 
@@ -107,38 +107,6 @@ failure_kept task s h =
     (λ e. absurd (cc))
 
 -- ---- marks
-
-pub mark_follows : (version : ℕ) (task : Task) (before : List Entry) (e : Entry) → is_mark e ≡ true
-    → MayFollow version task before e
-mark_follows version task before (entry.Ask number turn call) m = absurd (cc)
-mark_follows version task before (entry.Got number tuples values) m = absurd (cc)
-mark_follows version task before (entry.Value number value) m = absurd (cc)
-mark_follows version task before (entry.End number) m = absurd (cc)
-mark_follows version task before entry.Level m = tt
-mark_follows version task before (entry.Dream uses steps) m = tt
-mark_follows version task before entry.Nothing m = tt
-mark_follows version task before entry.Reset m = tt
-mark_follows version task before (entry.Pick n) m = tt
-mark_follows version task before (entry.Retire n) m = tt
-
-pub mark_answers : (e : Entry) → is_mark e ≡ true → is_answer e ≡ false
-mark_answers (entry.Ask number turn call) m = refl
-mark_answers (entry.Got number tuples values) m = absurd (cc)
-mark_answers (entry.Value number value) m = absurd (cc)
-mark_answers (entry.End number) m = absurd (cc)
-mark_answers entry.Level m = refl
-mark_answers (entry.Dream uses steps) m = refl
-mark_answers entry.Nothing m = refl
-mark_answers entry.Reset m = refl
-mark_answers (entry.Pick n) m = refl
-mark_answers (entry.Retire n) m = refl
-
-pub count_joined : {A : Type 0} (p : A → Bool) (xs ys : List A)
-    → count_by p (xs ++ ys) ≡ count_by p xs + count_by p ys
-count_joined p xs ys = sum_by-append (λ y. cond (p y) 1 0) xs ys
-
-pub count_one : {A : Type 0} (p : A → Bool) (x : A) → count_by p (x ∷ []) ≡ cond (p x) 1 0
-count_one p x = zero-add (cond (p x) 1 0)
 
 asks_kept : (task : Task) (before after : List Entry)
     → ((n : ℕ) → asked task after n ≡ asked task before n) → (n : ℕ) (i : Instance)

@@ -2,7 +2,6 @@ pub mod Events
 pub mod Ready
 pub mod Room
 pub mod Heard
-pub mod Learning
 pub mod Session
 pub mod Shown
 pub mod Slots

@@ -3,14 +3,14 @@ use Rattle.std.specs.Prelude.{◌≡◌, ℕ, ◌+◌, ◌≤◌, List, [], ◌�
 use Rattle.gen_lines.specs.Reply.{reply_of}
 use Rattle.instance_queue.specs.Level.{instances_of}
 use Rattle.instance_queue.specs.declared.due.Due.{Due}
+use Rattle.learning.specs.Learning.{Asks}
 use Rattle.pools.specs.Pools.{AreFitPools, shares_of, workers_of}
 use Rattle.task_model.specs.Fit.{IsFit}
 use Rattle.task_model.specs.declared.stream.Instance.{Instance}
-use Rattle.task_model.specs.declared.stream.Stream.{Stream}
 use Rattle.task_model.specs.declared.task.Task.{Task}
 use Rattle.transcript_model.specs.Legal.{IsLegal, HasNoneOpen, asks_of, is_answer}
 use Rattle.transcript_model.specs.Rounds.{fits}
-use Rattle.transcript_model.specs.Transcript.{asked, names_of, known_of, notes_of}
+use Rattle.transcript_model.specs.Transcript.{names_of, known_of, notes_of}
 use Rattle.transcript_model.specs.declared.entry.Entry.{Entry}
 use Rattle.transcript_model.specs.declared.head.Head.{Head}
 use Rattle.transcript_model.specs.declared.limits.TheConstants.{MOST_CALLS}
@@ -53,12 +53,6 @@ pub record IsRoundOf (task : Task) (s : State) : Type 0 where
   pub instances : s.instances ≡ instances_of dues
   pub asks : s.asks ≡ asks_from task (names_of task s.entries) (length s.asked + 1) dues
   pub slots : AreSlotsFor task s.version (length s.asked + 1) dues s.slots
-
--- The number asks this instance.
-pub record Asks (task : Task) (entries : List Entry) (number : ℕ) (i : Instance) : Type 0 where
-  pub stream : Stream
-  pub streamed : slice_get task.streams i.stream ≡ Some stream
-  pub asks : asked task entries number ≡ Some (record { stream = stream; instance = i })
 
 -- The transcript is legal, and nothing is open. What is known and noted is what the learnt front of it certifies and
 -- tells, unless the session has failed.

@@ -6,11 +6,9 @@
 mod cell;
 mod fault;
 pub mod laws;
-mod learn;
 mod room;
 mod round;
 mod session;
 
 pub use fault::{CoreFault, Heard};
-pub use learn::learn_from;
 pub use session::Session;

@@ -1,14 +1,14 @@
 //! The session.
 use crate::fault::{CoreFault, Heard};
-use crate::learn::learn_from;
 use crate::round::{Round, Scene, are_answered, cell_of, place_of, put_answers, round_of};
 use fact_store::Facts;
 use instance_queue::{Due, Queue, QueueFault};
+use learning::Ledger;
 use pools::{Workers, longest_front, workers_in};
 use std::alloc::{AllocError, Global};
 use std::marker::Model;
 use std::mem;
-use task_model::{Instance, Task};
+use task_model::Task;
 use transcript_model::{Entry, Head};
 
 /// A transcript as it grows: rounds of requests, their answers, and what is known by them. It is a
@@ -23,9 +23,9 @@ pub struct Session {
     calls: u32,
     pools: Vec<Workers>,
     entries: Vec<Entry>,
-    asked: Vec<Instance>,
-    facts: Facts,
-    queue: Queue,
+    /// What is known and noted is of the learnt front. A round's requests and answers come into the
+    /// transcript together, so that none is unanswered.
+    ledger: Ledger,
     learnt: usize,
     is_open: bool,
     round: Round,
@@ -44,7 +44,8 @@ impl Model for Session {
 
     ghost view = { shown };
 
-    ghost invariant = { λ s. IsSound (shown s) (vec_capacity s.entries) (vec_capacity s.asked) };
+    ghost invariant = { λ s. IsSound (shown s) (vec_capacity s.entries)
+        (vec_capacity s.ledger.asked) };
 }
 
 impl Session {
@@ -75,16 +76,13 @@ impl Session {
         ensures session { IfOk result (IsSession task.now) }
     {
         let pools = workers_in(alloc, head.pools.as_slice(), task.streams.len())?;
-        let facts = Facts::new(alloc, task)?;
-        let queue = Queue::new(alloc, task)?;
+        let ledger = Ledger::new(alloc, task)?;
         Ok(Session {
             version: head.version,
             calls: head.calls,
             pools,
             entries: Vec::new(alloc),
-            asked: Vec::new(alloc),
-            facts,
-            queue,
+            ledger,
             learnt: 0,
             is_open: false,
             round: Round::empty(alloc),
@@ -105,7 +103,7 @@ impl Session {
             → IsLearnt self.now → AreReady task self.now.entries dues.now
             → MayBeginRound task self.now (take result dues.now) }
     {
-        let left = self.calls as usize - self.asked.len();
+        let left = self.calls as usize - self.ledger.asked.len();
         let most = dues.len().min(left);
         longest_front(self.pools.as_slice(), &dues[..most])
     }
@@ -130,15 +128,15 @@ impl Session {
             return Err(CoreFault::Failed);
         }
         self.entries.reserve(2 * dues.len())?;
-        self.asked.reserve(dues.len())?;
+        self.ledger.asked.reserve(dues.len())?;
         let scene = Scene {
             alloc: self.alloc,
             task,
-            facts: &self.facts,
+            facts: &self.ledger.facts,
             pools: self.pools.as_slice(),
             version: self.version,
         };
-        let round = round_of(&scene, self.asked.len() as u32 + 1, dues)?;
+        let round = round_of(&scene, self.ledger.asked.len() as u32 + 1, dues)?;
         self.round = round;
         self.is_open = true;
         Ok(dues.len())
@@ -277,7 +275,7 @@ impl Session {
             cells,
         } = round;
         let _ = self.entries.append(&mut asks);
-        let _ = self.asked.append(&mut instances);
+        let _ = self.ledger.asked.append(&mut instances);
         put_answers(&mut self.entries, cells);
         self.is_open = false;
     }
@@ -303,15 +301,8 @@ impl Session {
         if self.failed {
             return Err(CoreFault::Failed);
         }
-        let learnt = learn_from(
-            self.alloc,
-            task,
-            &mut self.facts,
-            &mut self.queue,
-            self.asked.as_slice(),
-            self.entries.as_slice(),
-            self.learnt,
-        );
+        let entries = self.entries.as_slice();
+        let learnt = self.ledger.learn(self.alloc, task, entries, self.learnt);
         match learnt {
             Ok(()) => {
                 self.learnt = self.entries.len();
@@ -358,7 +349,7 @@ impl Session {
             (level.ComesOf task.now (known_of task.now self.now.entries)
             (notes_of task.now self.now.entries)) }
     {
-        self.queue.next_level(task, &self.facts)
+        self.ledger.queue.next_level(task, &self.ledger.facts)
     }
 
     /// The transcript.
@@ -372,21 +363,21 @@ impl Session {
     pub fn facts(&self) -> &Facts
         ensures { result.now.known ≡ self.now.known }
     {
-        &self.facts
+        &self.ledger.facts
     }
 
     /// What the instances were told.
     pub fn queue(&self) -> &Queue
         ensures { result.now ≡ self.now.notes }
     {
-        &self.queue
+        &self.ledger.queue
     }
 
     /// How many requests were made, those of the open round left out.
     pub fn asks(&self) -> u32
         ensures { result ≡ length self.now.asked }
     {
-        self.asked.len() as u32
+        self.ledger.asked.len() as u32
     }
 
     /// Whether a line was no answer or too long, or a `learn` found no memory.

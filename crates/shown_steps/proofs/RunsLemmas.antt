@@ -1,11 +1,11 @@
 -- The steps that calls stand for, taken one after another.
-use Rattle.std.proofs.Common.{◌≡◌, ℕ, ◌+◌, ◌<◌, List, [], ◌∷◌, ◌++◌, map, length, take, refl, sym, ap, subst, ◌∙◌, Option, Some, None, slice_get, arith, get_or, All, option_map, unwrap_or}
+use Rattle.std.proofs.Common.{◌≡◌, ℕ, ◌+◌, ◌<◌, List, [], ◌∷◌, ◌++◌, map, length, take, refl, sym, ap, subst, ◌∙◌, Option, Some, None, slice_get, arith, get_or, All, option_map}
 use Rattle.std.proofs.lemmas.List.{map-append, take_more}
 use Rattle.std.proofs.lemmas.List.Elements.{All-head, All-tail}
 use Rattle.std.proofs.lemmas.Option.{slice_get-map, same_Some, none-some}
 use Rattle.task_model.proofs.StepsLemmas.{execution_determined, parts_of_whole, step_determined, whole_of_parts}
 use Rattle.task_model.proofs.KnownLemmas.{numbers_decided}
-use Rattle.task_model.proofs.StreamsLemmas.{named_at}
+use Rattle.task_model.proofs.StreamsLemmas.{named_at, names_there}
 use Rattle.task_model.specs.Fit.{IsFit}
 use Rattle.task_model.specs.Initial.{initial_state}
 use Rattle.task_model.specs.Known.{IsCoherent, IsIn, Known, same_numbers}
@@ -37,18 +37,6 @@ use Rattle.lemmas.proofs.Members.{some_within}
 use Rattle.lemmas.proofs.Options.{and_then_some}
 
 -- ---- names of objects
-
-pub names_there : (names more : List (List ℕ)) (objects : List ℕ)
-    → map (slice_get names) objects ≡ map Some more
-    → map (name_at names) objects ≡ more
-names_there names [] [] e = refl
-names_there names [] (o ∷ os) e = absurd (cc)
-names_there names (n ∷ more) [] e = absurd (cc)
-names_there names (n ∷ more) (o ∷ os) e =
-    let first : slice_get names o ≡ Some n = cc in
-    let rest : map (slice_get names) os ≡ map Some more = cc in
-    let name : name_at names o ≡ n = ap (λ (s : Option (List ℕ)). unwrap_or s []) first in
-    λ i. name i ∷ names_there names more os rest i
 
 there_named : (names : List (List ℕ)) (objects : List ℕ) → All (IsIn names) objects
     → map (slice_get names) objects ≡ map Some (map (name_at names) objects)

@@ -8,6 +8,6 @@ mod plan;
 mod steps;
 
 pub use names::Named;
-pub use naming::{objects_of, step_of};
+pub use naming::{instance_of, objects_of, step_of, stream_named};
 pub use plan::is_plan;
 pub use steps::{Ran, Run, run_steps};

@@ -1,13 +1,13 @@
-//! What the names of a shown step stand for.
+//! What the names of a call stand for: the step of an action, or the instance of a stream.
 ghost use Rattle.std.specs.Prelude.{◌≡◌, IfOk};
 ghost use Rattle.lemmas.specs.Lists.{AreDistinct};
 ghost use Rattle.shown_steps.specs.Steps.{action_named as action_at, step_named};
 ghost use Rattle.task_model.specs.Fit.{IsFit};
-ghost use Rattle.transcript_model.specs.Names.{places_of};
+ghost use Rattle.transcript_model.specs.Names.{instance_of as instance_at, places_of, stream_named as stream_at};
 
 use crate::names::Named;
 use std::alloc::{AllocError, Global};
-use task_model::{GroundAction, Name, Objects, Task};
+use task_model::{GroundAction, Instance, Name, Objects, Task};
 use transcript_model::Call;
 
 /// The place of the task's action with this name.
@@ -61,4 +61,37 @@ pub fn step_of<T: Named>(
         return Ok(None);
     };
     Ok(Some(GroundAction { action, args }))
+}
+
+/// The place of the task's stream with this name.
+pub fn stream_named(task: &Task, name: &[u8]) -> Option<u32>
+    requires { IsFit task.now }
+    ensures { result ≡ stream_at task.now name.now }
+{
+    let streams = task.streams.as_slice();
+    match streams.iter().position(|s| name == s.name.bytes()) {
+        Some(place) => Some(place as u32),
+        None => None,
+    }
+}
+
+/// The instance that a call stands for, if its stream and its objects are known. Fails only where
+/// memory is wanting.
+pub fn instance_of<T: Named>(
+    alloc: Global,
+    task: &Task,
+    table: &T,
+    call: &Call,
+) -> Result<Option<Instance>, AllocError>
+    requires fit { IsFit task.now }
+    requires distinct { AreDistinct (T.names table.now) }
+    ensures { IfOk result (λ i. i ≡ instance_at task.now (T.names table.now) call.now) }
+{
+    let Some(stream) = stream_named(task, call.name.bytes()) else {
+        return Ok(None);
+    };
+    let Some(inputs) = objects_of(alloc, table, call.args.as_slice())? else {
+        return Ok(None);
+    };
+    Ok(Some(Instance { stream, inputs }))
 }

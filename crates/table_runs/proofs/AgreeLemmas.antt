@@ -13,7 +13,7 @@ use Rattle.lemmas.proofs.Members.{place_of, take_next}
 use Rattle.pools.specs.Pools.{Workers}
 use Rattle.round_run.proofs.DialogueRequestLemmas.{requests_counted}
 use Rattle.round_run.specs.Dialogue.{Dialogue, IsSaid, Request, bytes_to, count_to, is_to, replies_of, requests_of, wanted_by}
-use Rattle.session_core.proofs.SessionLemmas.{count_joined}
+use Rattle.lemmas.proofs.Counts.{count_joined}
 use Rattle.session_core.specs.Slots.{replied_entry}
 use Rattle.table_runs.proofs.AnswersLemmas.{answers_few}
 use Rattle.table_runs.proofs.AskingLemmas.{ReadsAs, line_of_request, request_reads, written_lines}

@@ -12,7 +12,7 @@ use Rattle.lemmas.proofs.Members.{distinct_nil, member_at, take_next}
 use Rattle.lemmas.proofs.Numbers.{in_numbers, length-numbers_from}
 use Rattle.lemmas.proofs.Pigeonhole.{pigeons}
 use Rattle.lemmas.specs.Lists.{AreDistinct, numbers_from}
-use Rattle.session_core.proofs.SessionLemmas.{count_joined, count_one}
+use Rattle.lemmas.proofs.Counts.{count_joined, count_one}
 use Rattle.task_model.specs.declared.task.Task.{Task}
 use Rattle.transcript_model.proofs.LegalNumberLemmas.{answer_asked, number_below, waiting_of}
 use Rattle.transcript_model.specs.Legal.{IsLegal, asks_of, is_answer, is_answer_to, is_ask_of}

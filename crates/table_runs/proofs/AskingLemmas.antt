@@ -7,7 +7,7 @@ use Rattle.std.proofs.lemmas.Option.{slice_get-map}
 use Rattle.std.specs.Char.{is_ascii_digit}
 use Rattle.std.specs.Fmt.{decimal}
 use Rattle.std.specs.List.{filter, join_with_byte, list_all}
-use Rattle.std.specs.Option.{option_map, unwrap_or}
+use Rattle.std.specs.Option.{option_map}
 use Rattle.std.specs.Str.Parse.{digits_value}
 use Rattle.gen_lines.proofs.FieldLemmas.{filled}
 use Rattle.gen_lines.proofs.RequestReadBack.{requests_read_back}
@@ -23,6 +23,7 @@ use Rattle.round_run.specs.Dialogue.{Request, bytes_to, is_to, text_of_request}
 use Rattle.table_runs.proofs.AskingNameLemmas.{name_printed, names_printed}
 use Rattle.table_runs.specs.Asking.{asked_by, asking_by, asking_of}
 use Rattle.task_model.proofs.KnownLemmas.{numbers_decided}
+use Rattle.task_model.proofs.StreamsLemmas.{names_there}
 use Rattle.task_model.specs.Fit.{IsFit, is_name}
 use Rattle.task_model.specs.Known.{same_numbers}
 use Rattle.task_model.specs.Streams.{name_at}
@@ -48,16 +49,6 @@ record Shows (task : Task) (names : List (List ℕ)) (call : Call) (i : Instance
   stream : Stream
   at : slice_get task.streams i.stream ≡ Some stream
 
-names_back : (names more : List (List ℕ)) (objects : List ℕ) → map (slice_get names) objects ≡ map Some more
-    → map (name_at names) objects ≡ more
-names_back names [] [] e = refl
-names_back names [] (o ∷ objects) e = absurd (cc)
-names_back names (name ∷ more) [] e = absurd (cc)
-names_back names (name ∷ more) (o ∷ objects) e =
-    let first : slice_get names o ≡ Some name = cc in
-    let rest : map (slice_get names) objects ≡ map Some more = cc in
-    λ k. ap (λ n. unwrap_or n []) first k ∷ names_back names more objects rest k
-
 call_shows : (task : Task) (fit : IsFit task) (entries : List Entry) (call : Call) (i : Instance)
     → instance_of task (names_of task entries) call ≡ Some i → Shows task (names_of task entries) call i
 call_shows task fit entries call i is =
@@ -74,7 +65,7 @@ call_shows task fit entries call i is =
     record {
       name = (let there_name : stream_name task i.stream ≡ found.0.name = rw there refl in there_name) ∙ sym named;
       objects = ap (map (slice_get names)) (sym objects) ∙ exact;
-      args = ap (map (name_at names)) (sym objects) ∙ names_back names call.args inputs.0 exact;
+      args = ap (map (name_at names)) (sym objects) ∙ names_there names call.args inputs.0 exact;
       stream = found.0;
       at = there;
     }

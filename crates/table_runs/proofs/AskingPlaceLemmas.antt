@@ -3,7 +3,7 @@ use Rattle.std.proofs.Common.{◌≡◌, ℕ, zero, suc, ◌<◌, Bool, true, fa
 use Rattle.std.specs.List.{filter}
 use Rattle.pools.specs.Pools.{Workers}
 use Rattle.round_run.specs.Dialogue.{Request, called_stream, requests_after}
-use Rattle.session_core.proofs.SessionLemmas.{count_joined, count_one}
+use Rattle.lemmas.proofs.Counts.{count_joined, count_one}
 use Rattle.task_model.specs.declared.task.Task.{Task}
 use Rattle.transcript_model.proofs.LegalNumberLemmas.{asks_more}
 use Rattle.transcript_model.specs.Legal.{asks_of, is_ask}

@@ -1,12 +1,12 @@
 -- Each request of whole turns, of any mode, goes to a child of the pools.
-use Rattle.std.proofs.Common.{◌≡◌, ℕ, zero, suc, ◌+◌, ◌<◌, ◌≤◌, inl, inr, Bool, true, false, cond, List, [], ◌∷◌, ◌++◌, map, length, take, drop, count_by, refl, sym, ap, subst, ◌∙◌, Option, None, Some, slice_get, arith, append_assoc}
-use Rattle.std.proofs.lemmas.List.{append-nil, take-append-drop}
+use Rattle.std.proofs.Common.{◌≡◌, ℕ, zero, suc, ◌+◌, ◌<◌, inl, inr, Bool, true, false, List, [], ◌∷◌, ◌++◌, map, length, take, count_by, refl, sym, ap, subst, ◌∙◌, Option, None, Some, slice_get, arith, append_assoc}
+use Rattle.std.proofs.lemmas.List.{append-nil}
 use Rattle.std.proofs.lemmas.List.Elements.{All-contains}
 use Rattle.std.proofs.lemmas.Option.{slice_get_within, slice_get-map}
 use Rattle.std.specs.Option.{option_map}
 use Rattle.instance_queue.specs.Level.{instances_of}
 use Rattle.instance_queue.specs.declared.due.Due.{Due}
-use Rattle.lemmas.proofs.Members.{append_cases, get_append, get_behind, member_at, next_taken}
+use Rattle.lemmas.proofs.Members.{append_cases, get_append, get_behind, member_at}
 use Rattle.lemmas.proofs.Options.{and_then_some}
 use Rattle.mode_turns.proofs.ModesLemmas.{as_family}
 use Rattle.mode_turns.specs.Modes.{TurnOf, nothing_kept}
@@ -14,7 +14,7 @@ use Rattle.pools.proofs.PoolsLemmas.{server_is, workers_fit}
 use Rattle.pools.specs.Pools.{AreFitPools, Workers, child_for, has_stream, server, shares_of, streams_of, workers_of}
 use Rattle.round_run.proofs.DialogueRequestLemmas.{AreReplies, closed_by, last_join, no_requests, requests_join, stream_shown}
 use Rattle.round_run.specs.Dialogue.{IsOneOf, Request, called_stream, last_round, requests_after, requests_of, workers_in}
-use Rattle.session_core.proofs.SessionLemmas.{count_joined, count_one}
+use Rattle.lemmas.proofs.Counts.{count_whole}
 use Rattle.table_runs.proofs.AgreeLemmas.{answer_is}
 use Rattle.table_runs.specs.Asking.{GoToPools}
 use Rattle.task_model.proofs.KnownLemmas.{numbers_decided}
@@ -86,14 +86,6 @@ module _ (task : Task) where
           absurd (cc)
 
 -- ---- how many of a round a pool serves
-
-count_front : (p : ℕ → Bool) (xs : List ℕ) (k x : ℕ) → slice_get xs k ≡ Some x → p x ≡ true
-    → count_by p (take k xs) + 1 ≤ count_by p xs
-count_front p xs k x at passes =
-    let next = ap (count_by p) (next_taken xs k x at) ∙ count_joined p (take k xs) (x ∷ []) in
-    let one = count_one p x ∙ ap (λ b. cond {A = ℕ} b 1 0) passes in
-    let parts = sym (ap (count_by p) (take-append-drop (k + 1) xs)) ∙ count_joined p (take (k + 1) xs) (drop (k + 1) xs) in
-    omega (arith, next, one, parts)
 
 abbrev due_of : Instance → Due
 due_of i = record { instance = i; turn = 0 }
@@ -172,7 +164,7 @@ module _ (task : Task) (pools : List Workers) (fit : IsFit task) (able : AreFitP
       let p = found.0 in
       let at : slice_get (streams_in list) k ≡ Some s.instance.stream =
       slice_get-map (λ (i : Instance). i.stream) list k ∙ ap (option_map (λ (i : Instance). i.stream)) s.there in
-      let enough = count_front (has_stream p) (streams_in list) k s.instance.stream at is.2 in
+      let enough = count_whole (has_stream p) (streams_in list) k s.instance.stream at is.2 in
       let most =
       workers_fit pools (map due_of list) (ap (fits (shares_of pools)) (instances_are list) ∙ few) is.0 p is.1 in
       let many = ap (count_by (has_stream p)) (streams_are list) in

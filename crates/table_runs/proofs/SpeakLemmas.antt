@@ -1,5 +1,5 @@
 -- Children speak by the answers of each table with which a transcript without open requests agrees.
-use Rattle.std.proofs.Common.{◌≡◌, ℕ, ◌<◌, ◌≤◌, Bool, true, false, not, ◌&&◌, ◌||◌, ◌==◌, Contains, IfSome, List, [], ◌∷◌, length, map, take, Option, Some, slice_get, refl, sym, ap, subst, ◌∙◌, arith, count_by, eqb-true, eq-eqb, inl, inr}
+use Rattle.std.proofs.Common.{◌≡◌, ℕ, ◌<◌, ◌≤◌, Bool, true, ◌||◌, ◌==◌, Contains, IfSome, List, [], ◌∷◌, length, map, take, Option, Some, slice_get, refl, sym, ap, subst, ◌∙◌, arith, count_by, eqb-true, eq-eqb, inl, inr}
 use Rattle.std.proofs.lemmas.Bool.{or_cases}
 use Rattle.std.proofs.lemmas.List.{append-nil, length-map}
 use Rattle.std.proofs.lemmas.List.Sums.{length-filter}
@@ -11,6 +11,7 @@ use Rattle.gen_lines.specs.Reply as reply
 use Rattle.gen_lines.specs.Reply.{Reply, reply_of}
 use Rattle.io_world.specs.Talks.{Talk}
 use Rattle.lemmas.proofs.Ascending.{contains_here, contains_later}
+use Rattle.lemmas.proofs.Bools.{second_too}
 use Rattle.lemmas.proofs.ListTests.{get_there}
 use Rattle.lemmas.proofs.Members.{member_at, place_of}
 use Rattle.lemmas.proofs.Options.{same_some}
@@ -21,7 +22,7 @@ use Rattle.plain_runs.specs.Own.{reply_by}
 use Rattle.pools.specs.Pools.{Workers}
 use Rattle.round_run.proofs.RollingPrintLemmas.{answers_number}
 use Rattle.round_run.specs.Dialogue.{Dialogue, IsOneOf, IsSaid, Request, bytes_to, called_stream, count_to, is_to, replies_of, requests_of, wanted_by}
-use Rattle.session_core.proofs.SessionLemmas.{count_joined, count_one}
+use Rattle.lemmas.proofs.Counts.{count_joined, count_one}
 use Rattle.session_core.specs.Slots.{replied_entry, wanted_at}
 use Rattle.table_runs.proofs.AgreeLemmas.{reads}
 use Rattle.table_runs.proofs.AskingLemmas.{line_of_request, written_lines}
@@ -130,12 +131,7 @@ module _ (version : ℕ) (task : Task) (pools : List Workers) (answers : Answers
       let asked : list_any (is_ask_of n) entries ≡ true =
       any_passes_from_place (is_ask_of n) entries a.place (entry.Ask r.0.number r.0.turn r.0.call) a.at
       (eq-eqb n r.0.number (sym r.2)) in
-      answer_listed n entries (answered (list_any (is_ask_of n) entries) (list_any (is_answer_to n) entries) asked (closed n))
-    where
-      answered : (ask answer : Bool) → ask ≡ true → (ask && not answer) ≡ false → answer ≡ true
-      answered true true a c = refl
-      answered true false a c = absurd (cc)
-      answered false answer a c = absurd (cc)
+      answer_listed n entries (second_too (list_any (is_ask_of n) entries) (list_any (is_answer_to n) entries) asked (closed n))
 
   reply_there : (k : ℕ) → k < length rs → (e : Entry) × (slice_get (replies_of entries) k ≡ Some e)
   reply_there k within =

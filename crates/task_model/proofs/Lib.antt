@@ -6,3 +6,4 @@ pub mod StreamsLemmas
 pub mod TruthLemmas
 pub mod StateOrderLemmas
 pub mod FitLemmas
+pub mod NumbersLemmas

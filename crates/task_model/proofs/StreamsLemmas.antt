@@ -27,6 +27,19 @@ named_at names o known = by (slice_get names o) refl known
     by None e none = absurd (cc)
     by (Some n) e some = e ∙ ap Some (sym (ap (λ (t : Option (List ℕ)). unwrap_or t []) e))
 
+-- the names at places that have them
+pub names_there : (names more : List (List ℕ)) (objects : List ℕ)
+    → map (slice_get names) objects ≡ map Some more
+    → map (name_at names) objects ≡ more
+names_there names [] [] e = refl
+names_there names [] (o ∷ os) e = absurd (cc)
+names_there names (n ∷ more) [] e = absurd (cc)
+names_there names (n ∷ more) (o ∷ os) e =
+    let first : slice_get names o ≡ Some n = cc in
+    let rest : map (slice_get names) os ≡ map Some more = cc in
+    let name : name_at names o ≡ n = ap (λ (s : Option (List ℕ)). unwrap_or s []) first in
+    λ i. name i ∷ names_there names more os rest i
+
 -- ---- one instance
 
 pub instances_same : (a b : Instance) → same_instance a b ≡ true → a ≡ b

@@ -7,6 +7,7 @@ pub mod Fit
 pub mod Initial
 pub mod Known
 pub mod Laws
+pub mod Numbers
 pub mod Plans
 pub mod Roles
 pub mod State

@@ -1,3 +1,5 @@
+mod MadeTalkLemmas
 mod OneLemmas
 mod SpelledLemmas
 mod SpelledRunLemmas
+mod TalkLemmas

@@ -2,30 +2,24 @@
 use Rattle.std.proofs.Common.{◌≡◌, ℕ, List, Some, sym, ap, subst, ◌∙◌, arith}
 use Rattle.command_line.proofs.RangesLemmas.{in_range}
 use Rattle.command_line.specs.Words.{SolveWords, command_of, solve}
+use Rattle.grid_laws.proofs.ProgramLemmas.{program_runs}
 use Rattle.level_run.specs.Reports.{report_of}
-use Rattle.pddlstream_app.proofs.HeadsLemmas.{head_runs}
 use Rattle.pddlstream_app.specs.Heads.{IsHeadOf}
 use Rattle.pddlstream_app.specs.Outside.{Outside}
 use Rattle.pddlstream_app.specs.Runs.{HasOutcome, shown_text}
-use Rattle.pddlstream_app.specs.Works.{Work, command_for, files_of, making, solving, words_of}
+use Rattle.pddlstream_app.specs.Works.{files_of, solving, words_of}
 use Rattle.pddlstream_app.specs.declared.status.Status.{Status}
 use Rattle.replay_laws.proofs.MapPoolLemmas.{served_shown}
-use Rattle.report_text.proofs.FormsLemmas.{report_clear, report_lines, report_text}
-use Rattle.report_text.proofs.LineTextLemmas.{lines_read, read_lines}
-use Rattle.report_text.proofs.ReportsReadBack.{lines_determine}
 use Rattle.report_text.specs.Forms.{IsFormed}
 use Rattle.report_text.specs.Texts.{text_of_report}
 use Rattle.run_laws.proofs.FormedReportLemmas.{formed}
 use Rattle.run_laws.specs.Reports.{HasCountedSteps}
 use Rattle.text_laws.specs.Laws.{OneTextOneRun}
 use Rattle.transcript_model.specs.declared.report.Report.{Report}
+use Rattle.replay_laws.proofs.SolvedLemmas.{same_work}
+use Rattle.report_text.proofs.ReportsReadBack.{same_report}
 
 -- words that mean a task is to be solved have no other work
-work_of : (words : List (List ℕ)) (asked : SolveWords) (work : Work) → command_of words ≡ Some (command_for work)
-    → command_of words ≡ Some (solve asked) → work ≡ solving asked
-work_of words asked (solving w) one two = let both = sym one ∙ two in ap solving (let e : w ≡ asked = cc in e)
-work_of words asked (making n) one two = let both = sym one ∙ two in absurd (cc)
-
 module _ (words : List (List ℕ)) (outside : Outside) (status : Status) (text : List ℕ) (asked : SolveWords)
     (meant : command_of words ≡ Some (solve asked)) (has : HasOutcome words outside status text)
     (counted : HasCountedSteps has.run.head has.run.entries) where
@@ -33,7 +27,7 @@ module _ (words : List (List ℕ)) (outside : Outside) (status : Status) (text :
   report = report_of has.run.task has.run.head has.run.entries has.outcome
 
   work : has.run.work ≡ solving asked
-  work = work_of words asked has.run.work has.run.meant meant
+  work = same_work words asked has.run.work has.run.meant meant
 
   headed : IsHeadOf outside.files.told asked has.run.task has.run.head
   headed = subst (λ w. IsHeadOf (files_of outside.files.told w) (words_of w) has.run.task has.run.head) work has.run.headed
@@ -43,7 +37,7 @@ module _ (words : List (List ℕ)) (outside : Outside) (status : Status) (text :
       let within = in_range words (solve asked) meant in
       formed has.run.task has.run.head has.run.entries has.outcome has.run.fit
       (record {
-        runnable = head_runs has.run.task outside.files.told asked has.run.head headed within;
+        runnable = program_runs has.run;
         some_depth = omega (arith, headed.depth, within.depth.0);
         depth = omega (arith, headed.depth, within.depth.1);
         pools = served_shown outside.files.told asked has.run.task has.run.head.pools headed.pools;
@@ -54,18 +48,12 @@ module _ (words : List (List ℕ)) (outside : Outside) (status : Status) (text :
   text_is = subst (λ w. text ≡ shown_text w has.run.task has.run.head has.run.entries has.outcome) work has.is
 
 -- reports in the forms with equal texts are one
-reports_one : (first second : Report) → IsFormed first → IsFormed second → text_of_report first ≡ text_of_report second
-    → first ≡ second
-reports_one first second here there same =
-    lines_determine first second here there (sym (lines_read (report_lines first) (report_clear first here))
-    ∙ ap read_lines (sym (report_text first) ∙ same ∙ report_text second) ∙ lines_read (report_lines second) (report_clear second there))
-
 pub one_run : OneTextOneRun
 one_run words others outside after status end text asked again meant also first second counted steps =
     let one = report words outside status text asked meant first counted in
     let two = report others after end text again also second steps in
     let are : one ≡ two =
-    reports_one one two (report_formed words outside status text asked meant first counted)
+    same_report one two (report_formed words outside status text asked meant first counted)
     (report_formed others after end text again also second steps)
     (sym (text_is words outside status text asked meant first counted) ∙ text_is others after end text again also second steps) in
     record {

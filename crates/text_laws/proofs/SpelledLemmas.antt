@@ -16,7 +16,7 @@ use Rattle.pools.specs.Pools.{Workers, child_for}
 use Rattle.round_run.proofs.DialogueLemmas.{bytes_more, own_bytes}
 use Rattle.round_run.proofs.DialogueRequestLemmas.{requests_counted, requests_join}
 use Rattle.round_run.specs.Dialogue.{IsSaid, Request, bytes_to, called_stream, count_to, last_round, replies_of, requests_after, requests_of, wanted_by}
-use Rattle.session_core.proofs.SessionLemmas.{count_joined}
+use Rattle.lemmas.proofs.Counts.{count_joined}
 use Rattle.session_core.specs.Slots.{replied_entry}
 use Rattle.table_runs.proofs.AgreeLemmas.{answer_is}
 use Rattle.table_runs.proofs.AnswersLemmas.{answers_few}
@@ -33,6 +33,7 @@ use Rattle.transcript_model.specs.Turns.{MayBegin, is_cut}
 use Rattle.transcript_model.specs.declared.entry.Call.{Call}
 use Rattle.transcript_model.specs.declared.entry.Entry.{Entry}
 use Rattle.transcript_model.specs.declared.entry.Entry.TheVariants as entry
+use Rattle.transcript_model.proofs.RoundsLemmas.{answer_asks}
 
 -- ---- levels
 
@@ -115,12 +116,6 @@ module _ (limits : Limits) (task : Task) where
 -- ---- what the dialogue names
 
 -- what answers a number is no request
-no_ask : (n : ℕ) (e : Entry) → is_answer_to n e ≡ true → asks_of (e ∷ []) ≡ 0
-no_ask n (entry.Got m tuples values) to = refl
-no_ask n (entry.Value m value) to = refl
-no_ask n (entry.End m) to = refl
-no_ask n e to = absurd (cc)
-
 -- what a line says to a request is one entry
 said_once : (e f : Entry) (n : ℕ) (r : Reply) (s : Reply) → r ≡ s → replied_entry n r ≡ Some e → replied_entry n s ≡ Some f
     → e ≡ f
@@ -212,7 +207,7 @@ module _ (limits : Limits) (version : ℕ) (task : Task) (pools : List Workers) 
         one,
         count_joined is_answer before (e ∷ []),
         count_joined is_ask before (e ∷ []),
-        no_ask n e to,
+        answer_asks n e to,
         requests_counted task pools [] before,
       ))
 

@@ -1,8 +1,8 @@
 -- Runs with one worker, of which the same talk is told.
-use Rattle.std.proofs.Common.{◌≡◌, ℕ, ◌<◌, IfSome, inl, inr, List, [], ◌∷◌, ◌++◌, length, map, Option, Some, slice_get, refl, sym, ap, subst, ◌∙◌, arith, true}
+use Rattle.std.proofs.Common.{◌≡◌, ℕ, ◌<◌, IfSome, inl, inr, List, [], ◌∷◌, ◌++◌, length, map, Option, slice_get, refl, sym, ap, subst, ◌∙◌, arith, true}
+use Rattle.grid_laws.proofs.OneChildLemmas.{only_child}
 use Rattle.io_world.specs.Talks.{Talk}
 use Rattle.lemmas.proofs.Ascending.{contains_here}
-use Rattle.lemmas.proofs.Members.{get_single}
 use Rattle.lemmas.proofs.Pigeonhole.{pigeons}
 use Rattle.level_course.proofs.CoursesStepLemmas.{LeadsTo, turns_lead}
 use Rattle.level_course.specs.Courses.{Course, at_first}
@@ -14,10 +14,10 @@ use Rattle.plain_runs.proofs.OneLemmas.{as_one}
 use Rattle.plain_runs.proofs.OwnLemmas.{own_agrees}
 use Rattle.plain_runs.proofs.TurnsLemmas.{as_plain}
 use Rattle.plain_runs.specs.Own.{own_rows}
-use Rattle.pools.specs.Pools.{AreFitPools, Workers, workers_of}
+use Rattle.pools.specs.Pools.{AreFitPools, workers_of}
 use Rattle.round_run.specs.Dialogue.{IsOneOf, IsSaid, replies_of, requests_of, workers_in}
 use Rattle.round_run.proofs.DialogueRequestLemmas.{requests_counted}
-use Rattle.session_core.proofs.SessionLemmas.{count_joined}
+use Rattle.lemmas.proofs.Counts.{count_joined}
 use Rattle.text_laws.proofs.SpelledLemmas.{HasLevel, IsSpelledBy, level_first, spelled_once}
 use Rattle.text_laws.specs.Spelled.{IsSpelledRun, OneWorkerSpellsOneRun}
 use Rattle.table_runs.proofs.ServedLemmas.{go_to_pools}
@@ -67,10 +67,7 @@ module _ (task : Task) (head : Head) (pool : Pool) (talk : Talk) (fit : IsFit ta
   -- the pools' only child
   child_is : (child : ℕ) → IsOneOf (workers_in head) child → child ≡ pool.first
   child_is child of =
-      let there : slice_get (workers_of pool ∷ []) of.place ≡ Some of.pool =
-      sym (ap (λ ps. slice_get (map workers_of ps) of.place) s.pools) ∙ of.at in
-      let same = (get_single (workers_of pool) of.pool of.place there).1 in
-      omega (arith, s.one, of.has.from, of.has.to, ap (λ (w : Workers). w.first) same, ap (λ (w : Workers). w.workers) same)
+      only_child (workers_of pool) child s.one (subst (λ ps. IsOneOf (map workers_of ps) child) s.pools of)
 
   only : IsOneOf (workers_in head) pool.first
   only = record {

@@ -1,13 +1,18 @@
--- What the dialogue with one child names. The law is the contract of a public function of `laws.rt`, and so is proved.
+-- What the dialogue with one child names. Each law is the contract of a public function of `laws.rt`, and so is proved.
 use Rattle.std.specs.Prelude.{◌≡◌, ℕ, ◌<◌, List, [], ◌∷◌, Option, Some}
+use Rattle.command_line.specs.Words.{command_of, generate}
 use Rattle.io_world.specs.Talks.{Talk}
 use Rattle.level_run.specs.Reports.{IsRun}
+use Rattle.pddlstream_app.specs.Outside.{Outside}
+use Rattle.pddlstream_app.specs.Runs.{HasOutcome}
+use Rattle.pddlstream_app.specs.declared.status.Status.{Status}
 use Rattle.pools.specs.Pools.{AreFitPools}
 use Rattle.round_run.specs.Dialogue.{Dialogue, workers_in}
 use Rattle.task_model.specs.Fit.{IsFit}
 use Rattle.task_model.specs.declared.task.Task.{Task}
 use Rattle.transcript_model.specs.Legal.{asks_of}
 use Rattle.transcript_model.specs.Plain.{end_of}
+use Rattle.transcript_model.specs.Rounds.{limits_of}
 use Rattle.transcript_model.specs.declared.entry.Entry.{Entry}
 use Rattle.transcript_model.specs.declared.head.Head.{Head}
 use Rattle.transcript_model.specs.declared.head.Mode.TheVariants.{Incremental}
@@ -15,6 +20,8 @@ use Rattle.transcript_model.specs.declared.head.Pool.{Pool}
 use Rattle.transcript_model.specs.declared.outcome.LimitKind.TheVariants.{States}
 use Rattle.transcript_model.specs.declared.outcome.Outcome.{Outcome}
 use Rattle.transcript_model.specs.declared.outcome.Outcome.TheVariants as outcome
+
+-- ---- runs
 
 -- A run in incremental mode whose head has this pool alone, with one worker; its dialogue, of which this child tells
 -- this talk. If it ended with the limit of states then something was asked: else no child tells anything of it.
@@ -41,3 +48,44 @@ OneWorkerSpellsOneRun =
     (spoken told : ℕ → Option Talk) → IsFit task → AreFitPools task (workers_in head)
     → IsSpelledRun task head pool talk entries o spoken → IsSpelledRun task head pool talk others p told
     → SpellsOne entries others o p
+
+-- ---- runs of the program
+
+-- The heads differ in nothing but the words that start their children.
+pub record AreAlike (head other : Head) : Type 0 where
+  pub limits : limits_of head ≡ limits_of other
+  pub workers : workers_in head ≡ workers_in other
+
+-- In incremental mode no other child can be asked than this: it is the one worker of the one pool.
+pub record AsksOneChild (head : Head) (child : ℕ) : Type 0 where
+  pub mode : head.mode ≡ Incremental
+  pub pool : Pool
+  pub pools : head.pools ≡ pool ∷ []
+  pub alone : pool.workers ≡ 1
+  pub first : pool.first ≡ child
+
+-- This is told of what was said with the child. If the run ended with the limit of states then something was asked:
+-- else nothing was said with any child, whatever is told.
+pub record HasTold {words : List (List ℕ)} {outside : Outside} {status : Status} {text : List ℕ}
+    (has : HasOutcome words outside status text) (child : ℕ) (talk : Talk) : Type 0 where
+  pub told : outside.spoken child ≡ Some talk
+  pub begun : has.outcome ≡ outcome.Limit States → 0 < asks_of has.run.entries
+
+-- Two runs of the program with outcomes, over one task and with heads that are alike, ask one child alone, and the same
+-- talk is told of it. Then they have the same entries, whatever their words, files and texts were.
+abbrev pub OneTalkOneRun : Type 0
+OneTalkOneRun =
+    (words others : List (List ℕ)) (outside after : Outside) (status end : Status) (text line : List ℕ) (child : ℕ)
+    (talk : Talk) (first : HasOutcome words outside status text) (second : HasOutcome others after end line)
+    → first.run.task ≡ second.run.task → AreAlike first.run.head second.run.head → AsksOneChild first.run.head child
+    → HasTold first child talk → HasTold second child talk
+    → SpellsOne first.run.entries second.run.entries first.outcome second.outcome
+
+-- So it is with two runs of `generate` for one number of whose child 16, the grid's generator, the same talk is told.
+abbrev pub OneTalkOneMadeRun : Type 0
+OneTalkOneMadeRun =
+    (words others : List (List ℕ)) (outside after : Outside) (status end : Status) (text line : List ℕ) (n : ℕ)
+    (talk : Talk) → command_of words ≡ Some (generate n) → command_of others ≡ Some (generate n)
+    → (first : HasOutcome words outside status text) (second : HasOutcome others after end line)
+    → HasTold first 16 talk → HasTold second 16 talk
+    → SpellsOne first.run.entries second.run.entries first.outcome second.outcome

@@ -1,5 +1,5 @@
 -- Legal transcripts: how they grow, and that no request is made twice.
-use Rattle.std.proofs.Common.{◌≡◌, ℕ, zero, suc, ◌+◌, ◌<◌, ◌⊎◌, inl, inr, arith, true, List, [], ◌∷◌, ◌++◌, take, length, refl, sym, subst, ap, ◌∙◌, Some, slice_get, eq-eqb}
+use Rattle.std.proofs.Common.{◌≡◌, ℕ, zero, suc, ◌+◌, ◌<◌, ◌⊎◌, inl, inr, arith, true, false, List, [], ◌∷◌, ◌++◌, take, length, refl, sym, subst, ap, ◌∙◌, Some, slice_get, eq-eqb}
 use Rattle.std.proofs.Math.Seq.{take-append_seam}
 use Rattle.std.proofs.lemmas.List.{take-append-le}
 use Rattle.std.proofs.lemmas.Option.{slice_get_within}
@@ -7,7 +7,7 @@ use Rattle.std.proofs.lemmas.Map.Keys.{any_passes_from_place}
 use Rattle.lemmas.proofs.Members.{push_cases, get_at_length}
 use Rattle.task_model.specs.declared.task.Task.{Task}
 use Rattle.transcript_model.specs.Laws.{GrowsLegally}
-use Rattle.transcript_model.specs.Legal.{IsLegal, MayFollow, asks_of, is_ask_of}
+use Rattle.transcript_model.specs.Legal.{IsLegal, MayFollow, asks_of, is_answer, is_ask_of, is_mark}
 use Rattle.transcript_model.specs.Transcript.{Asked, asked}
 use Rattle.transcript_model.specs.declared.entry.Call.{Call}
 use Rattle.transcript_model.specs.declared.entry.Entry.{Entry}
@@ -34,6 +34,33 @@ grows version task entries = record {
         let whole : take k (entries ++ e ∷ []) ≡ entries =
         ap (λ m. take m (entries ++ e ∷ [])) here.0 ∙ take-append_seam entries (e ∷ []) in
         subst (λ before. MayFollow version task before x) (sym whole) (subst (MayFollow version task entries) (sym here.1) may)
+
+-- ---- marks
+
+pub mark_follows : (version : ℕ) (task : Task) (before : List Entry) (e : Entry) → is_mark e ≡ true
+    → MayFollow version task before e
+mark_follows version task before (entry.Ask number turn call) m = absurd (cc)
+mark_follows version task before (entry.Got number tuples values) m = absurd (cc)
+mark_follows version task before (entry.Value number value) m = absurd (cc)
+mark_follows version task before (entry.End number) m = absurd (cc)
+mark_follows version task before entry.Level m = tt
+mark_follows version task before (entry.Dream uses steps) m = tt
+mark_follows version task before entry.Nothing m = tt
+mark_follows version task before entry.Reset m = tt
+mark_follows version task before (entry.Pick n) m = tt
+mark_follows version task before (entry.Retire n) m = tt
+
+pub mark_answers : (e : Entry) → is_mark e ≡ true → is_answer e ≡ false
+mark_answers (entry.Ask number turn call) m = refl
+mark_answers (entry.Got number tuples values) m = absurd (cc)
+mark_answers (entry.Value number value) m = absurd (cc)
+mark_answers (entry.End number) m = absurd (cc)
+mark_answers entry.Level m = refl
+mark_answers (entry.Dream uses steps) m = refl
+mark_answers entry.Nothing m = refl
+mark_answers entry.Reset m = refl
+mark_answers (entry.Pick n) m = refl
+mark_answers (entry.Retire n) m = refl
 
 -- ---- every number up to the count was asked
 

@@ -8,7 +8,7 @@ use Rattle.std.proofs.lemmas.Option.{slice_get_within}
 use Rattle.std.specs.Cmp.{first_so}
 use Rattle.std.specs.List.{list_any, flat_map}
 use Rattle.std.proofs.lemmas.Map.Keys.{any_passes_from_place}
-use Rattle.lemmas.proofs.Bools.{or_true}
+use Rattle.lemmas.proofs.Bools.{or_true, second_too}
 use Rattle.lemmas.proofs.Options.{same_some}
 use Rattle.lemmas.proofs.Members.{get_take}
 use Rattle.lemmas.proofs.ListTests.{any_found}
@@ -160,7 +160,7 @@ module _ (version : ℕ) (task : Task) (distinct : AreDistinct (declared_names t
       let asks : list_any (is_ask_of n) entries ≡ true =
       any_passes_from_place (is_ask_of n) entries j (entry.Ask n turn call) there (eq-eqb n n refl) in
       let at = any_found (is_answer_to n) entries
-      (answers (list_any (is_ask_of n) entries) (list_any (is_answer_to n) entries) asks closed) in
+      (second_too (list_any (is_ask_of n) entries) (list_any (is_answer_to n) entries) asks closed) in
       let front = take at.0 entries in
       let may = legal at.0 at.1 at.2 in
       let legal_front = legal_take version task entries at.0 legal in
@@ -182,11 +182,6 @@ module _ (version : ℕ) (task : Task) (distinct : AreDistinct (declared_names t
       let rise_early : yields_of (notes_of task (take j entries)) i ≤ yields_of (notes_of task front) i =
       subst (λ es. yields_of (notes_of task es) i ≤ yields_of (notes_of task front) i) early rise in
       (told.0, record { yield = λ t. omega (arith, rise_early, from_front.yield t); ended = from_front.ended })
-    where
-      answers : (ask answer : Bool) → ask ≡ true → (ask && not answer) ≡ false → answer ≡ true
-      answers true true a c = refl
-      answers true false a c = absurd (cc)
-      answers false answer a c = absurd (cc)
 
   -- the request at an earlier place keeps a later one from asking the same
   pub not_again : (entries : List Entry) (j k n m turn : ℕ) (call again : Call) (i : Instance)

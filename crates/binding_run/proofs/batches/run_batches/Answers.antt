@@ -1,7 +1,7 @@
 use Rattle.std.proofs.Common.{◌≡◌, ◌⊎◌, ◌<◌, ◌∙◌, [], length, subst, ap, refl, arith, inl, inr, Some, None, ℕ}
 use Rattle.binding_run.proofs.BatchesLemmas.{front_wider, ran_all, ran_cut, so_far_next, so_far_none}
 use Rattle.binding_run.proofs.StoppingLemmas.{stopped_on, stopped_wider}
-use Rattle.binding_run.specs.Batching.{Asks, IsFrontOfBatches, RanNext, RanSome}
+use Rattle.binding_run.specs.Batching.{Called, IsFrontOfBatches, RanNext, RanSome}
 use Rattle.round_run.proofs.CallsRunLemmas.{runs_still}
 use Rattle.round_run.proofs.StretchLemmas.{runs_on}
 use Rattle.round_run.proofs.StoppedLemmas.{goes_none, goes_then, handed}
@@ -94,7 +94,7 @@ returns-in-None-clause-adds g c =
     let new = c.next_batch.new.session in
     let i = c.batches.invariant in
     let e = c.in_ok-ran.ensures in
-    let asks = subst (Asks head task s new (g.H.Host.log c.batches.host) (g.H.Host.log c.next_batch.new.host)) c.in-None.is e.asks in
+    let asks = subst (Called head task s new (g.H.Host.log c.batches.host) (g.H.Host.log c.next_batch.new.host)) c.in-None.is e.asks in
     let same = asks.0 in
     let quiet = asks.1 in
     record {
@@ -135,7 +135,7 @@ returns-in-CallsSpent-clause-ran g c =
     is (e.ran so.sent so.progress)) in
     ran_cut head task c.args.real entries c.args.session.now s new c.batches.gone c.next_batch.new.gone c.args.tried.now c.batches.tried
     c.next_batch.new.tried so ran
-    (subst (Asks head task s new (g.H.Host.log c.batches.host) (g.H.Host.log c.next_batch.new.host)) is e.asks).2
+    (subst (Called head task s new (g.H.Host.log c.batches.host) (g.H.Host.log c.next_batch.new.host)) is e.asks).2
 
 pub returns-in-CallsSpent-clause-adds : goal.returns-in-CallsSpent-clause-adds
 returns-in-CallsSpent-clause-adds g c =
@@ -146,7 +146,7 @@ returns-in-CallsSpent-clause-adds g c =
     let new = c.next_batch.new.session in
     let i = c.batches.invariant in
     let e = c.in_ok-ran.ensures in
-    let asks = subst (Asks head task s new (g.H.Host.log c.batches.host) (g.H.Host.log c.next_batch.new.host))
+    let asks = subst (Called head task s new (g.H.Host.log c.batches.host) (g.H.Host.log c.next_batch.new.host))
     (c.in-Some.is ∙ ap Some c.in-CallsSpent.is) e.asks in
     record {
       goes = goes_then start.entries s.entries new.entries (g.O.Sink.taken c.args.out.now) (g.O.Sink.taken c.batches.out)
@@ -178,7 +178,7 @@ batches-preserved g c =
     let entries = c.args.entries.now in
     let e = c.in_ok-ran.ensures in
     let is = c.in-Some.is ∙ ap Some c.in-Done.is in
-    let asks = subst (Asks head task s new (g.H.Host.log c.batches.host) (g.H.Host.log c.next_batch.new.host)) is e.asks in
+    let asks = subst (Called head task s new (g.H.Host.log c.batches.host) (g.H.Host.log c.next_batch.new.host)) is e.asks in
     let ran = subst (λ r. RanSome head task r entries s new c.next_batch.new.gone c.batches.tried c.next_batch.new.tried
     so.sent Done) i.real
     (subst (RanNext head task c.batches.gone.real entries s new c.next_batch.new.gone c.batches.tried c.next_batch.new.tried so.sent)
@@ -202,7 +202,7 @@ batches-preserved g c =
 
 pub batches-smaller : goal.batches-smaller
 batches-smaller g c =
-    let asks = subst (Asks c.args.head.now c.args.task.now c.batches.session c.next_batch.new.session (g.H.Host.log c.batches.host)
+    let asks = subst (Called c.args.head.now c.args.task.now c.batches.session c.next_batch.new.session (g.H.Host.log c.batches.host)
     (g.H.Host.log c.next_batch.new.host))
     (c.in-Some.is ∙ ap Some c.in-Done.is) c.in_ok-ran.ensures.asks in
     omega (arith, asks.0, asks.1)

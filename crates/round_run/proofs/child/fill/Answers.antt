@@ -13,6 +13,6 @@ returns-in-Ok-clause-heard g c = record {
       let long : length c.hear_line.new.room ≡ c.room.result = first_of (search rules, grind (arith, common_steps)) in
       let whole : length c.hear_line.new.room + length c.args.buffer.now ≡ 1025 = omega (arith, c.room.ensures, long) in
       ap length c.push.ensures
-      ∙ filled c.args.buffer.now c.hear_line.new.room c.in-Ok.count 1025 whole c.in-Ok.ensures.count.1 c.in-Ok.ensures.line
+      ∙ filled c.args.buffer.now c.hear_line.new.room c.in-Ok.count 1025 whole c.in-Ok.ensures.room.count.1 c.in-Ok.ensures.room.line
       (ap lines_of (sym c.push.ensures) ∙ none);
 }

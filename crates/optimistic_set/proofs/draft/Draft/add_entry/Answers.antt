@@ -1,6 +1,6 @@
 use Rattle.std.proofs.Common.{◌≡◌, ◌+◌, ◌++◌, ◌∷◌, [], ◌∙◌, length, sym, ap, refl, arith}
 use Rattle.std.proofs.lemmas.Option.{same_Some}
-use Rattle.certify.proofs.FitStreamLemmas.{fit_parts}
+use Rattle.learning.proofs.FitStreamLemmas.{fit_parts}
 use Rattle.lemmas.proofs.Numbers.{length-numbers_from}
 use Rattle.lemmas.specs.Lists.{numbers_from}
 use Rattle.task_model.specs.Dreams.{placeholders}

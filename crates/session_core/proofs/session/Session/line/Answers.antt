@@ -21,8 +21,9 @@ invariant_of-self c =
     ap (λ (t : State). slot_of t.slots child) c.self.view_is ∙ c.requires.awaited.found in
     let same = slots_are s.slots child c.in-Some.place c.requires.awaited.slot c.index_mut-cell.result.now found waits
     c.index_mut-cell.ensures.value change c.hear.new.self c.self.invariant.apart c.hear.ensures.slot in
-    subst (λ xs. IsSound (with_slots s xs s.failed) (vec_capacity c.self.inside.entries) (vec_capacity c.self.inside.asked)) (sym same)
-    (sound_changed s (vec_capacity c.self.inside.entries) (vec_capacity c.self.inside.asked) child change s.failed
+    subst (λ xs. IsSound (with_slots s xs s.failed) (vec_capacity c.self.inside.entries)
+    (vec_capacity c.self.inside.ledger.asked)) (sym same)
+    (sound_changed s (vec_capacity c.self.inside.entries) (vec_capacity c.self.inside.ledger.asked) child change s.failed
     (λ t. refl) c.self.invariant)
 
 pub invariant_of-self-in-Some-hear : goal.invariant_of-self-in-Some-hear
@@ -37,8 +38,9 @@ invariant_of-self-in-Some-hear c =
     ap (λ (t : State). slot_of t.slots child) c.self.view_is ∙ c.requires.awaited.found in
     let same = slots_are s.slots child c.in-Some.place c.requires.awaited.slot c.index_mut-cell.result.now found waits
     c.index_mut-cell.ensures.value change c.hear.new.self c.self.invariant.apart c.hear.ensures.slot in
-    subst (λ xs. IsSound (with_slots s xs true) (vec_capacity c.self.inside.entries) (vec_capacity c.self.inside.asked)) (sym same)
-    (sound_changed s (vec_capacity c.self.inside.entries) (vec_capacity c.self.inside.asked) child change true (λ t. refl) c.self.invariant)
+    subst (λ xs. IsSound (with_slots s xs true) (vec_capacity c.self.inside.entries)
+    (vec_capacity c.self.inside.ledger.asked)) (sym same)
+    (sound_changed s (vec_capacity c.self.inside.entries) (vec_capacity c.self.inside.ledger.asked) child change true (λ t. refl) c.self.invariant)
 
 pub returns-in-None-clause-heard : goal.returns-in-None-clause-heard
 returns-in-None-clause-heard c =

@@ -19,8 +19,9 @@ invariant_of-self c =
     ap (λ (t : State). slot_of t.slots child) c.self.view_is ∙ c.requires.unsent.found in
     let same = slots_are s.slots child c.in-Some.place c.requires.unsent.slot c.index_mut.result.now found waits c.index_mut.ensures.value
     sent_slot c.send.new.self c.self.invariant.apart c.send.ensures in
-    subst (λ xs. IsSound (with_slots s xs s.failed) (vec_capacity c.self.inside.entries) (vec_capacity c.self.inside.asked)) (sym same)
-    (sound_changed s (vec_capacity c.self.inside.entries) (vec_capacity c.self.inside.asked) child sent_slot s.failed
+    subst (λ xs. IsSound (with_slots s xs s.failed) (vec_capacity c.self.inside.entries)
+    (vec_capacity c.self.inside.ledger.asked)) (sym same)
+    (sound_changed s (vec_capacity c.self.inside.entries) (vec_capacity c.self.inside.ledger.asked) child sent_slot s.failed
     (λ t. refl) c.self.invariant)
 
 pub returns-clause-after : goal.returns-clause-after

@@ -1,4 +1,0 @@
-pub mod FitStreamLemmas
-pub mod OutputsLemmas
-pub mod TuplesLemmas
-pub mod CertifiedLemmas

@@ -1,0 +1,7 @@
+pub mod CertifiedLemmas
+pub mod FitStreamLemmas
+pub mod LearningLemmas
+pub mod LearningTupleLemmas
+pub mod LedgersLemmas
+pub mod OutputsLemmas
+pub mod TuplesLemmas

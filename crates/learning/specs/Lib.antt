@@ -1,0 +1,5 @@
+pub mod Learning
+pub mod Ledgers
+pub mod Numbers
+pub mod Outputs
+pub mod Tuples

@@ -1,3 +1,0 @@
-pub mod TalksAnswerLemmas
-pub mod TalksAskLemmas
-pub mod LedgersLemmas
