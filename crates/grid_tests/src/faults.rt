@@ -1,5 +1,5 @@
 //! Which grid files are refused, and where.
-use grid_text::{GridFault, GridKind, read_grid};
+use grid_text::{Grid, GridFault, GridKind, Rect, read_grid};
 use std::alloc::{AllocError, Global};
 use std::process::Abort;
 use std::test::Fail;
@@ -268,22 +268,40 @@ fn a_name_has_at_most_255_bytes(rt: HostRuntime) -> Result<(), Fail> {
     Ok(())
 }
 
+/// A rectangle's corner and sides.
+fn numbers(rect: &Rect) -> [u32; 4] {
+    [rect.x, rect.y, rect.w, rect.h]
+}
+
+/// Asserts that the one block is `a` with these numbers.
+fn check_block(rt: &impl Abort, grid: &Grid, want: [u32; 4]) {
+    assert_eq!(rt; grid.blocks().len(), 1);
+    let block = &grid.blocks()[0];
+    assert_eq!(rt; block.name.bytes(), b"a".as_slice());
+    assert_eq!(rt; [block.w, block.h, block.x, block.y], want);
+}
+
+/// Asserts that the one region has these numbers.
+fn check_region(rt: &impl Abort, grid: &Grid, want: [u32; 4]) {
+    assert_eq!(rt; grid.regions().len(), 1);
+    assert_eq!(rt; numbers(&grid.regions()[0].rect()), want);
+}
+
+/// Asserts that the one obstacle has these numbers.
+fn check_obstacle(rt: &impl Abort, grid: &Grid, want: [u32; 4]) {
+    assert_eq!(rt; grid.obstacles().len(), 1);
+    assert_eq!(rt; numbers(&grid.obstacles()[0]), want);
+}
+
 #[test]
 fn a_grid_is_what_its_lines_say(rt: HostRuntime) -> Result<(), Fail> {
     let text =
         b"; a grid\r\n\ngrid  1000 0900 \r\nblock a 2 3 998 0\nregion a 1 2 3 4\nobstacle 5 6 7 8";
-    let grid = read_grid(rt.alloc(), text)?;
+    let grid = Box::new(rt.alloc(), read_grid(rt.alloc(), text)?)?;
     assert_eq!(rt; grid.width(), 1000);
     assert_eq!(rt; grid.height(), 900);
-    assert_eq!(rt; grid.blocks().len(), 1);
-    let block = &grid.blocks()[0];
-    assert_eq!(rt; block.name.bytes(), b"a".as_slice());
-    assert_eq!(rt; (block.w, block.h, block.x, block.y), (2, 3, 998, 0));
-    assert_eq!(rt; grid.regions().len(), 1);
-    let rect = grid.regions()[0].rect();
-    assert_eq!(rt; (rect.x, rect.y, rect.w, rect.h), (1, 2, 3, 4));
-    assert_eq!(rt; grid.obstacles().len(), 1);
-    let rect = grid.obstacles()[0];
-    assert_eq!(rt; (rect.x, rect.y, rect.w, rect.h), (5, 6, 7, 8));
+    check_block(&rt, &grid, [2, 3, 998, 0]);
+    check_region(&rt, &grid, [1, 2, 3, 4]);
+    check_obstacle(&rt, &grid, [5, 6, 7, 8]);
     Ok(())
 }

@@ -25,9 +25,10 @@ fn refuse<G: Generator>(rt: &impl Abort, generator: &mut G, argv: &[String])
     requires idle { G.running generator.old ≡ false }
     ensures { G.running generator.new ≡ false }
 {
-    let answer = generator.start(argv);
-    assert!(rt; answer.is_err());
-    assert_eq!(rt; answer, Err(HostFault::Failed));
+    let Err(fault) = generator.start(argv) else {
+        panic!(rt; "it started")
+    };
+    assert_eq!(rt; fault, HostFault::Failed);
 }
 
 fn begin<G: Generator>(rt: &impl Abort, generator: &mut G, argv: &[String])
@@ -83,24 +84,28 @@ fn other_words_and_refused_grids_do_not_start(rt: HostRuntime) -> Result<(), Fai
     Ok(())
 }
 
+/// Writes lines in pieces and hears their answers in pieces, until it is stopped within a line.
+fn talk_in_pieces<G: Generator>(rt: &impl Abort, generator: &mut G)
+    requires { G.running generator.old ≡ true }
+    ensures { G.running generator.new ≡ false }
+{
+    tell(rt, generator, b"next 0 gra");
+    miss(rt, generator);
+    tell(rt, generator, b"sp b1\r\nnext 39 place b1 r1\n\nnext");
+    hear(rt, generator, &mut [0; 3], b"yie");
+    hear(rt, generator, &mut [0; 64], b"ld n\nyield 39,4\nend\n");
+    miss(rt, generator);
+    assert_eq!(rt; generator.stop(), Ok(()));
+}
+
 #[test]
 fn whole_lines_are_answered_and_given_in_pieces(rt: HostRuntime) -> Result<(), Fail> {
     let alloc = rt.alloc();
+    let argv = words(alloc, "@grid", GRID)?;
     let mut generator = GridGen::new(alloc);
-    begin(&rt, &mut generator, &words(alloc, "@grid", GRID)?);
-    tell(&rt, &mut generator, b"next 0 gra");
-    miss(&rt, &mut generator);
-    tell(&rt, &mut generator, b"sp b1\r\nnext 39 place b1 r1\n\nnext");
-    hear(&rt, &mut generator, &mut [0; 3], b"yie");
-    hear(
-        &rt,
-        &mut generator,
-        &mut [0; 64],
-        b"ld n\nyield 39,4\nend\n",
-    );
-    miss(&rt, &mut generator);
-    assert_eq!(rt; generator.stop(), Ok(()));
-    begin(&rt, &mut generator, &words(alloc, "@grid", GRID)?);
+    begin(&rt, &mut generator, &argv);
+    talk_in_pieces(&rt, &mut generator);
+    begin(&rt, &mut generator, &argv);
     tell(&rt, &mut generator, b" 1 grasp b1\n");
     hear(&rt, &mut generator, &mut [0; 64], b"end\n");
     assert_eq!(rt; generator.faults(), 2);
@@ -174,9 +179,10 @@ fn a_host_that_answers_by_the_grid_answers_alike(rt: HostRuntime) -> Result<(), 
     let alloc = rt.alloc();
     let bytes = GRID.as_bytes();
     assert!(rt; bytes.len() < 1000);
-    let grid = read_grid(alloc, bytes)?;
+    let argv = words(alloc, "any", "words")?;
+    let grid = Box::new(alloc, read_grid(alloc, bytes)?)?;
     let mut host = SureHost::new(alloc, GridReplies::new(&grid));
-    start(&rt, &mut host, 3, &words(alloc, "any", "words")?);
+    start(&rt, &mut host, 3, &argv);
     converse_all(&rt, &mut host, 3);
     Ok(())
 }

@@ -2,131 +2,153 @@
 use grid_world::{GridStatus, serve};
 use io_world::{MemFiles, MemSink, MemSource};
 use std::alloc::{AllocError, Global};
+use std::process::Abort;
 use std::test::Fail;
 
 const GRID: &[u8] = b"grid 40 6\nblock b1 1 1 0 1\nregion r1 0 4 40 1\n";
 
+/// A file's path and its bytes.
+type File = (String, Vec<u8>);
+
 /// The file `g` with these bytes.
-fn one_file(alloc: Global, bytes: &[u8]) -> Result<Vec<(String, Vec<u8>)>, AllocError> {
-    let mut files = Vec::new(alloc);
-    files.push((
-        String::from_str(alloc, "g")?,
-        Vec::from_slice(alloc, bytes)?,
-    ))?;
-    Ok(files)
+fn file(alloc: Global, bytes: &[u8]) -> Result<File, AllocError> {
+    let bytes = Vec::from_slice(alloc, bytes)?;
+    Ok((String::from_str(alloc, "g")?, bytes))
 }
 
-fn words(alloc: Global, path: &str) -> Result<Vec<String>, AllocError> {
+/// Files that are the file `g` with these bytes.
+fn files(alloc: Global, bytes: &[u8]) -> Result<Box<MemFiles>, AllocError> {
+    let files = vec![in alloc; file(alloc, bytes)?]?;
+    let files = MemFiles::new(alloc, files, Vec::new(alloc));
+    Ok(Box::new(alloc, files)?)
+}
+
+/// A source of these bytes, of which the first 60 come one by one. The calls with these numbers
+/// fail.
+fn source(alloc: Global, bytes: &[u8], fails: &[u64]) -> Result<Box<MemSource>, AllocError> {
+    let bytes = Vec::from_slice(alloc, bytes)?;
+    let cuts = vec![in alloc; 1; 60]?;
+    let fails = Vec::from_slice(alloc, fails)?;
+    Ok(Box::new(alloc, MemSource::new(bytes, cuts, fails))?)
+}
+
+/// A sink with this room, which takes at most five bytes at once.
+fn sink(alloc: Global, room: usize) -> Result<Box<MemSink>, AllocError> {
+    let sink = MemSink::new(alloc, 5, room, Vec::new(alloc))?;
+    Ok(Box::new(alloc, sink)?)
+}
+
+fn words(alloc: Global, paths: &[&str]) -> Result<Vec<String>, AllocError> {
     let mut words = Vec::new(alloc);
-    words.push(String::from_str(alloc, path)?)?;
+    for path in paths {
+        words.push(String::from_str(alloc, path)?)?;
+    }
     Ok(words)
 }
 
-/// A source of these bytes, which come one by one as long as there are cuts. The call with this
-/// number fails.
-fn source(
-    alloc: Global,
-    bytes: &[u8],
-    cuts: usize,
-    fails: &[u64],
-) -> Result<MemSource, AllocError> {
-    let cuts = vec![in alloc; 1; cuts]?;
-    Ok(MemSource::new(
-        Vec::from_slice(alloc, bytes)?,
-        cuts,
-        Vec::from_slice(alloc, fails)?,
-    ))
+/// A run: its words, the bytes of the file `g`, the input, the reads that fail, the room of the
+/// sink, how the program ends, and what the sink took.
+#[derive(Clone, Copy)]
+struct Run<'a> {
+    paths: &'a [&'a str],
+    grid: &'a [u8],
+    input: &'a [u8],
+    fails: &'a [u64],
+    room: usize,
+    status: GridStatus,
+    written: &'a [u8],
 }
 
-/// What a run over a grid file, an input and a sink with some room ends with, and what the sink
-/// took.
-fn run(
+/// How the program ends over a file and a source.
+fn status_of(
     alloc: Global,
-    grid: &[u8],
-    input: &[u8],
-    fails: &[u64],
-    room: usize,
-) -> Result<(GridStatus, Vec<u8>), AllocError> {
-    let mut files = MemFiles::new(alloc, one_file(alloc, grid)?, Vec::new(alloc));
-    let mut source = source(alloc, input, 60, fails)?;
-    let mut sink = MemSink::new(alloc, 5, room, Vec::new(alloc))?;
-    let words = words(alloc, "g")?;
-    let status = serve(alloc, words.as_slice(), &mut files, &mut source, &mut sink);
-    Ok((status, Vec::from_slice(alloc, sink.taken())?))
+    run: &Run<'_>,
+    source: &mut MemSource,
+    sink: &mut MemSink,
+) -> Result<GridStatus, AllocError> {
+    let words = words(alloc, run.paths)?;
+    let mut files = files(alloc, run.grid)?;
+    Ok(serve(alloc, &words, &mut *files, source, sink))
 }
+
+/// Asserts that the run ends so and writes this.
+fn check(rt: &impl Abort, alloc: Global, run: &Run<'_>) -> Result<(), Fail> {
+    let mut source = source(alloc, run.input, run.fails)?;
+    let mut sink = sink(alloc, run.room)?;
+    let status = status_of(alloc, run, &mut source, &mut sink)?;
+    assert_eq!(rt; status, run.status, "{}", run.input.len());
+    assert_eq!(rt; sink.taken(), run.written, "{}", run.input.len());
+    Ok(())
+}
+
+/// A run that reads nothing.
+const EMPTY: Run<'static> = Run {
+    paths: &["g"],
+    grid: GRID,
+    input: b"",
+    fails: &[],
+    room: 99,
+    status: GridStatus::Done,
+    written: b"",
+};
+
+const TWO_LINES: &[u8] = b"next 0 grasp b1\nnext 1 grasp b1\n";
+
+const RUNS: [Run<'static>; 5] = [
+    Run {
+        input: b"next 0 place b1 r1\r\nnext 40 place b1 r1\n\nnext 0 grasp",
+        written: b"yield 0,4\nend\nend\n",
+        ..EMPTY
+    },
+    EMPTY,
+    Run {
+        grid: b"grid 40",
+        input: b"next 0 grasp b1\n",
+        status: GridStatus::Input,
+        ..EMPTY
+    },
+    Run {
+        input: TWO_LINES,
+        fails: &[20],
+        status: GridStatus::ReadFault,
+        written: b"yield n\n",
+        ..EMPTY
+    },
+    Run {
+        input: TWO_LINES,
+        room: 11,
+        status: GridStatus::WriteFault,
+        written: b"yield n\nyie",
+        ..EMPTY
+    },
+];
 
 #[test]
 fn each_status_has_its_cause(rt: HostRuntime) -> Result<(), Fail> {
-    let alloc = rt.alloc();
-    let long = vec![in alloc; 97u8; 4097]?;
-    let rows: [(&[u8], &[u8], &[u64], usize, GridStatus, &[u8]); 7] = [
-        (
-            GRID,
-            b"next 0 place b1 r1\r\nnext 40 place b1 r1\n\nnext 0 grasp",
-            &[],
-            99,
-            GridStatus::Done,
-            b"yield 0,4\nend\nend\n",
-        ),
-        (GRID, b"", &[], 99, GridStatus::Done, b""),
-        (
-            b"grid 40",
-            b"next 0 grasp b1\n",
-            &[],
-            99,
-            GridStatus::Input,
-            b"",
-        ),
-        (GRID, &long, &[], 99, GridStatus::Input, b""),
-        (GRID, &long[1..], &[], 99, GridStatus::Done, b""),
-        (
-            GRID,
-            b"next 0 grasp b1\nnext 1 grasp b1\n",
-            &[20],
-            99,
-            GridStatus::ReadFault,
-            b"yield n\n",
-        ),
-        (
-            GRID,
-            b"next 0 grasp b1\nnext 1 grasp b1\n",
-            &[],
-            11,
-            GridStatus::WriteFault,
-            b"yield n\nyie",
-        ),
-    ];
-    for (grid, input, fails, room, status, written) in rows {
-        let found = run(alloc, grid, input, fails, room)?;
-        assert_eq!(rt; found.0, status);
-        assert_eq!(rt; found.1.as_slice(), written);
+    for run in &RUNS {
+        check(&rt, rt.alloc(), run)?;
     }
     Ok(())
 }
 
+/// Other words than the path of the file, and how the program ends.
+const REFUSED: [(&[&str], GridStatus); 3] = [
+    (&[], GridStatus::Usage),
+    (&["g", "g"], GridStatus::Usage),
+    (&["h"], GridStatus::ReadFault),
+];
+
 #[test]
 fn words_and_files_are_refused(rt: HostRuntime) -> Result<(), Fail> {
-    let alloc = rt.alloc();
-    let mut files = MemFiles::new(alloc, one_file(alloc, GRID)?, Vec::new(alloc));
-    let mut source = source(alloc, b"next 0 grasp b1\n", 0, &[])?;
-    let mut sink = MemSink::new(alloc, 5, 9, Vec::new(alloc))?;
-    let none: Vec<String> = Vec::new(alloc);
-    let status = serve(alloc, none.as_slice(), &mut files, &mut source, &mut sink);
-    assert_eq!(rt; status, GridStatus::Usage);
-    let mut two = words(alloc, "g")?;
-    two.push(String::from_str(alloc, "g")?)?;
-    let status = serve(alloc, two.as_slice(), &mut files, &mut source, &mut sink);
-    assert_eq!(rt; status, GridStatus::Usage);
-    let missing = words(alloc, "h")?;
-    let status = serve(
-        alloc,
-        missing.as_slice(),
-        &mut files,
-        &mut source,
-        &mut sink,
-    );
-    assert_eq!(rt; status, GridStatus::ReadFault);
-    assert_eq!(rt; sink.taken(), b"".as_slice());
+    for (paths, status) in REFUSED {
+        let run = Run {
+            paths,
+            input: b"next 0 grasp b1\n",
+            status,
+            ..EMPTY
+        };
+        check(&rt, rt.alloc(), &run)?;
+    }
     Ok(())
 }
 
@@ -138,8 +160,8 @@ fn stretched(
     back: &str,
 ) -> Result<Vec<u8>, AllocError> {
     let mut bytes = Vec::from_slice(alloc, front.as_bytes())?;
-    let middle = vec![in alloc; b'a'; letters]?;
-    bytes.extend_from_slice(middle.as_slice())?;
+    let longer = bytes.len().saturating_add(letters);
+    bytes.resize(longer, b'a')?;
     bytes.extend_from_slice(back.as_bytes())?;
     Ok(bytes)
 }
@@ -171,42 +193,50 @@ const LONG: [Long; 6] = [
 
 #[test]
 fn a_line_has_at_most_4096_bytes(rt: HostRuntime) -> Result<(), Fail> {
+    let alloc = rt.alloc();
     for (front, letters, back, status, written) in LONG {
-        let input = stretched(rt.alloc(), front, letters, back)?;
-        let found = run(rt.alloc(), GRID, input.as_slice(), &[], 99)?;
-        assert_eq!(rt; found.0, status, "{letters}");
-        assert_eq!(rt; found.1.as_slice(), written.as_bytes(), "{letters}");
+        let text = stretched(alloc, front, letters, back)?;
+        let run = Run {
+            input: text.as_slice(),
+            status,
+            written: written.as_bytes(),
+            ..EMPTY
+        };
+        check(&rt, alloc, &run)?;
     }
     Ok(())
 }
 
-/// The grid with a line that is passed over, of so many bytes in all.
-fn grid_of(alloc: Global, size: usize) -> Result<Vec<u8>, AllocError> {
-    stretched(alloc, "grid 9 9\n;", size.saturating_sub(10), "")
-}
+/// How many bytes a grid file has, most of them in a line that is passed over, how the program
+/// ends, and what it answers.
+const SIZES: [(usize, GridStatus, &[u8]); 2] = [
+    (4_194_304, GridStatus::Done, b"end\n"),
+    (4_194_305, GridStatus::ReadFault, b""),
+];
 
 #[test]
 fn a_grid_file_has_at_most_4_mib(rt: HostRuntime) -> Result<(), Fail> {
-    let longest = grid_of(rt.alloc(), 4_194_304)?;
-    let found = run(rt.alloc(), longest.as_slice(), b"\n", &[], 99)?;
-    assert_eq!(rt; found.0, GridStatus::Done);
-    assert_eq!(rt; found.1.as_slice(), b"end\n".as_slice());
-    let longer = grid_of(rt.alloc(), 4_194_305)?;
-    let found = run(rt.alloc(), longer.as_slice(), b"\n", &[], 99)?;
-    assert_eq!(rt; found.0, GridStatus::ReadFault);
-    assert_eq!(rt; found.1.as_slice(), b"".as_slice());
+    let alloc = rt.alloc();
+    for (size, status, written) in SIZES {
+        let text = stretched(alloc, "grid 9 9\n;", size.saturating_sub(10), "")?;
+        let run = Run {
+            grid: text.as_slice(),
+            input: b"\n",
+            status,
+            written,
+            ..EMPTY
+        };
+        check(&rt, alloc, &run)?;
+    }
     Ok(())
 }
 
 #[test]
 fn a_hundred_thousand_lines_are_the_limit(rt: HostRuntime) -> Result<(), Fail> {
-    let alloc = rt.alloc();
-    let lines = vec![in alloc; 10u8; 100_001]?;
-    let mut files = MemFiles::new(alloc, one_file(alloc, GRID)?, Vec::new(alloc));
-    let mut source = source(alloc, &lines, 0, &[])?;
-    let mut sink = MemSink::new(alloc, 500, 500_000, Vec::new(alloc))?;
-    let words = words(alloc, "g")?;
-    let status = serve(alloc, words.as_slice(), &mut files, &mut source, &mut sink);
+    let lines = vec![in rt.alloc(); 10u8; 100_001]?;
+    let mut source = source(rt.alloc(), &lines, &[])?;
+    let mut sink = sink(rt.alloc(), 500_000)?;
+    let status = status_of(rt.alloc(), &EMPTY, &mut source, &mut sink)?;
     assert_eq!(rt; status, GridStatus::Limit);
     assert_eq!(rt; sink.taken().len(), 400_000);
     Ok(())
