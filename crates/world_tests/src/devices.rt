@@ -1,4 +1,5 @@
 //! The adapters, on the file system, on standard output and on readers that are interrupted.
+use crate::reads::{is_read, refuses};
 use io_world::{
     FileFault, Files, RealFiles, RealSink, RealSource, Sink, Source, SourceFault, read_some,
     write_all,
@@ -14,30 +15,27 @@ fn real_files_are_read_whole_or_refused(rt: HostRuntime) -> Result<(), Fail> {
     let path = format!(in alloc; "/tmp/lidcliff-io-{number}")?;
     fs::write(&rt, path.as_str(), "five\n")?;
     let mut files = RealFiles::new(alloc, &rt);
-    let whole = files.read(path.as_str(), 5);
-    let long = files.read(path.as_str(), 4);
+    let whole = is_read(&mut files, path.as_str(), 5, b"five\n");
+    let long = is_read(&mut files, path.as_str(), 4, b"");
     fs::remove_file(&rt, path.as_str())?;
-    assert_eq!(rt; whole?.as_slice(), b"five\n".as_slice());
-    assert!(rt; matches!(long, Err(FileFault::TooLong)));
+    assert_eq!(rt; whole, Ok(true));
+    assert_eq!(rt; long, Err(FileFault::TooLong));
     assert_eq!(rt; files.faults(), 0);
-    assert!(rt; matches!(files.read(path.as_str(), 5), Err(FileFault::Failed)));
-    assert_eq!(rt; files.faults(), 1);
+    refuses(&rt, &mut files, path.as_str(), 5, FileFault::Failed, 1);
     Ok(())
 }
 
 #[test]
 fn a_directory_is_no_file(rt: HostRuntime) -> Result<(), Fail> {
     let mut files = RealFiles::new(rt.alloc(), &rt);
-    assert!(rt; matches!(files.read("/tmp", 5), Err(FileFault::Failed)));
-    assert_eq!(rt; files.faults(), 1);
+    refuses(&rt, &mut files, "/tmp", 5, FileFault::Failed, 1);
     Ok(())
 }
 
 #[test]
 fn a_file_without_end_is_too_long(rt: HostRuntime) -> Result<(), Fail> {
     let mut files = RealFiles::new(rt.alloc(), &rt);
-    assert!(rt; matches!(files.read("/dev/zero", 10_000), Err(FileFault::TooLong)));
-    assert_eq!(rt; files.faults(), 0);
+    refuses(&rt, &mut files, "/dev/zero", 10_000, FileFault::TooLong, 0);
     Ok(())
 }
 

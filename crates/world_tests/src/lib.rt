@@ -8,4 +8,6 @@ mod memory;
 #[cfg(test)]
 mod programs;
 #[cfg(test)]
+mod reads;
+#[cfg(test)]
 mod scripts;

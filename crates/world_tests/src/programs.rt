@@ -1,5 +1,5 @@
 //! Real children, alone and as members of a host.
-ghost use Rattle.std.specs.Prelude.{◌≡◌, ◌<◌, true, false, length, is_ok, IfOk};
+ghost use Rattle.std.specs.Prelude.{◌≡◌, ◌<◌, ℕ, true, false, length, is_ok, IfOk};
 ghost use Rattle.io_world.specs.Talks.{Becomes, Same};
 
 use gen_host::{BoxHost, ChildGen, Generator, add_idle};
@@ -12,11 +12,10 @@ use std::test::Fail;
 fn shell(alloc: Global, text: &str) -> Result<Vec<String>, AllocError>
     ensures { IfOk result (λ words. 0 < length words.items) }
 {
-    let mut words = Vec::new(alloc);
-    words.push(String::from_str(alloc, "sh")?)?;
-    words.push(String::from_str(alloc, "-c")?)?;
-    words.push(String::from_str(alloc, text)?)?;
-    Ok(words)
+    let program = String::from_str(alloc, "sh")?;
+    let option = String::from_str(alloc, "-c")?;
+    let text = String::from_str(alloc, text)?;
+    Ok(vec![in alloc; program, option, text]?)
 }
 
 /// Starts a generator.
@@ -52,8 +51,9 @@ fn miss<G: Generator>(rt: &impl Abort, generator: &mut G)
 #[test]
 fn a_program_answers_a_line(rt: HostRuntime) -> Result<(), Fail> {
     let alloc = rt.alloc();
+    let argv = shell(alloc, "read x; echo yield left")?;
     let mut child = ChildGen::new(alloc, &rt);
-    begin(&rt, &mut child, &shell(alloc, "read x; echo yield left")?);
+    begin(&rt, &mut child, &argv);
     assert_eq!(rt; child.send(b"next 0 grip cup\n"), Ok(16));
     hear(&rt, &mut child, b"yield left\n");
     miss(&rt, &mut child);
@@ -65,12 +65,9 @@ fn a_program_answers_a_line(rt: HostRuntime) -> Result<(), Fail> {
 #[test]
 fn a_program_that_dies_in_its_answer_fails(rt: HostRuntime) -> Result<(), Fail> {
     let alloc = rt.alloc();
+    let argv = shell(alloc, "read x; printf yie; exit 3")?;
     let mut child = ChildGen::new(alloc, &rt);
-    begin(
-        &rt,
-        &mut child,
-        &shell(alloc, "read x; printf yie; exit 3")?,
-    );
+    begin(&rt, &mut child, &argv);
     assert_eq!(rt; child.send(b"next 0 grip cup\n"), Ok(16));
     hear(&rt, &mut child, b"yie");
     miss(&rt, &mut child);
@@ -81,8 +78,7 @@ fn a_program_that_dies_in_its_answer_fails(rt: HostRuntime) -> Result<(), Fail> 
 #[test]
 fn a_program_that_is_not_there_does_not_start(rt: HostRuntime) -> Result<(), Fail> {
     let alloc = rt.alloc();
-    let mut words = Vec::new(alloc);
-    words.push(String::from_str(alloc, "/no/such/program")?)?;
+    let words = vec![in alloc; String::from_str(alloc, "/no/such/program")?]?;
     let mut child = ChildGen::new(alloc, &rt);
     assert_eq!(rt; child.start(&words), Err(HostFault::Failed));
     assert_eq!(rt; child.faults(), 1);
@@ -92,9 +88,10 @@ fn a_program_that_is_not_there_does_not_start(rt: HostRuntime) -> Result<(), Fai
 #[test]
 fn a_write_to_a_program_that_is_gone_fails(rt: HostRuntime) -> Result<(), Fail> {
     let alloc = rt.alloc();
+    let argv = shell(alloc, "exec <&-; exit 0")?;
     let mut child = ChildGen::new(alloc, &rt);
     // The program closes its input first: no program reads it once its output has ended.
-    begin(&rt, &mut child, &shell(alloc, "exec <&-; exit 0")?);
+    begin(&rt, &mut child, &argv);
     miss(&rt, &mut child);
     assert_eq!(rt; child.send(b"next 0 grip cup\n"), Err(HostFault::Failed));
     assert_eq!(rt; child.faults(), 2);
@@ -125,6 +122,22 @@ fn converse<H: Host>(rt: &impl Abort, host: &mut H, child: u8, line: &[u8])
     assert_eq!(rt; room.get(..line.len()), Some(line));
 }
 
+/// Starts the first and the last child of a host by these words, which are to answer each line by
+/// itself, talks with both by turns, and stops them.
+fn keep_apart<H: Host>(rt: &impl Abort, host: &mut H, argv: &[String])
+    requires words { 0 < length argv.now }
+    requires idle { (k : ℕ) → H.running host.old k ≡ false }
+{
+    start(rt, host, 0, argv);
+    start(rt, host, 16, argv);
+    converse(rt, host, 0, b"to 0\n");
+    converse(rt, host, 16, b"to 16\n");
+    converse(rt, host, 0, b"again\n");
+    assert_eq!(rt; host.stop(0), Ok(()));
+    converse(rt, host, 16, b"still\n");
+    assert_eq!(rt; host.stop(16), Ok(()));
+}
+
 #[test]
 fn children_of_a_host_are_kept_apart(rt: HostRuntime) -> Result<(), Fail> {
     let alloc = rt.alloc();
@@ -138,14 +151,7 @@ fn children_of_a_host_are_kept_apart(rt: HostRuntime) -> Result<(), Fail> {
     assert_eq!(rt; members.len(), 17);
     let mut host = BoxHost::new(members);
     let cat = shell(alloc, "exec cat")?;
-    start(&rt, &mut host, 0, &cat);
-    start(&rt, &mut host, 16, &cat);
-    converse(&rt, &mut host, 0, b"to 0\n");
-    converse(&rt, &mut host, 16, b"to 16\n");
-    converse(&rt, &mut host, 0, b"again\n");
-    assert_eq!(rt; host.stop(0), Ok(()));
-    converse(&rt, &mut host, 16, b"still\n");
-    assert_eq!(rt; host.stop(16), Ok(()));
+    keep_apart(&rt, &mut host, &cat);
     assert_eq!(rt; host.faults(), 0);
     Ok(())
 }
@@ -162,8 +168,7 @@ fn a_host_adds_up_the_faults_of_its_children(rt: HostRuntime) -> Result<(), Fail
     }
     assert_eq!(rt; members.len(), 17);
     let mut host = BoxHost::new(members);
-    let mut words = Vec::new(alloc);
-    words.push(String::from_str(alloc, "/no/such/program")?)?;
+    let words = vec![in alloc; String::from_str(alloc, "/no/such/program")?]?;
     assert_eq!(rt; host.start(3, &words), Err(HostFault::Failed));
     assert_eq!(rt; host.start(16, &words), Err(HostFault::Failed));
     assert_eq!(rt; host.start(3, &words), Err(HostFault::Failed));

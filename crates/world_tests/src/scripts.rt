@@ -60,12 +60,11 @@ fn miss<H: Host>(rt: &impl Abort, host: &mut H, child: u8)
 fn words(alloc: Global) -> Result<Vec<String>, AllocError>
     ensures { IfOk result (λ words. 0 < length words.items) }
 {
-    let mut words = Vec::new(alloc);
-    words.push(String::from_str(alloc, "prog")?)?;
-    Ok(words)
+    Ok(vec![in alloc; String::from_str(alloc, "prog")?]?)
 }
 
-fn script(alloc: Global, bytes: &[u8], cuts: Vec<usize>) -> Result<Script, AllocError> {
+fn script(alloc: Global, bytes: &[u8], cuts: &[usize]) -> Result<Script, AllocError> {
+    let cuts = Vec::from_slice(alloc, cuts)?;
     Ok(Script {
         bytes: Vec::from_slice(alloc, bytes)?,
         cuts,
@@ -76,9 +75,11 @@ fn script(alloc: Global, bytes: &[u8], cuts: Vec<usize>) -> Result<Script, Alloc
 #[test]
 fn a_script_is_given_in_pieces_and_then_fails(rt: HostRuntime) -> Result<(), Fail> {
     let alloc = rt.alloc();
-    let first = script(alloc, b"yield left\n", vec![in alloc; 3, 0]?)?;
-    let mut host = ScriptHost::new(alloc, vec![in alloc; first]?, vec![in alloc; 4]?);
-    begin(&rt, &mut host, 0, &words(alloc)?);
+    let argv = words(alloc)?;
+    let fails = vec![in alloc; 4]?;
+    let scripts = vec![in alloc; script(alloc, b"yield left\n", &[3, 0])?]?;
+    let mut host = ScriptHost::new(alloc, scripts, fails);
+    begin(&rt, &mut host, 0, &argv);
     tell(&rt, &mut host, 0, b"next 0 grip cup\n", Ok(16));
     hear(&rt, &mut host, 0, b"yie");
     hear(&rt, &mut host, 0, b"ld left\n");
@@ -91,9 +92,9 @@ fn a_script_is_given_in_pieces_and_then_fails(rt: HostRuntime) -> Result<(), Fai
 #[test]
 fn a_start_plays_the_script_from_its_beginning(rt: HostRuntime) -> Result<(), Fail> {
     let alloc = rt.alloc();
-    let first = script(alloc, b"end\n", vec![in alloc; 3]?)?;
-    let mut host = ScriptHost::new(alloc, vec![in alloc; first]?, Vec::new(alloc));
     let argv = words(alloc)?;
+    let scripts = vec![in alloc; script(alloc, b"end\n", &[3])?]?;
+    let mut host = ScriptHost::new(alloc, scripts, Vec::new(alloc));
     begin(&rt, &mut host, 0, &argv);
     hear(&rt, &mut host, 0, b"end");
     assert_eq!(rt; host.stop(0), Ok(()));
@@ -105,20 +106,33 @@ fn a_start_plays_the_script_from_its_beginning(rt: HostRuntime) -> Result<(), Fa
 #[test]
 fn a_child_without_a_script_does_not_start(rt: HostRuntime) -> Result<(), Fail> {
     let alloc = rt.alloc();
+    let argv = words(alloc)?;
     let mut host = ScriptHost::new(alloc, Vec::new(alloc), Vec::new(alloc));
-    assert_eq!(rt; host.start(3, &words(alloc)?), Err(HostFault::Failed));
+    assert_eq!(rt; host.start(3, &argv), Err(HostFault::Failed));
     assert_eq!(rt; host.faults(), 1);
     Ok(())
+}
+
+/// A script whose bytes before 8 and behind are held back until lines were written.
+fn needy_script(alloc: Global) -> Result<Script, AllocError> {
+    let needs = vec![in alloc; (0, 1, 1), (8, 0, 2)]?;
+    Ok(Script {
+        bytes: Vec::from_slice(alloc, b"yield a\nend\n")?,
+        cuts: Vec::new(alloc),
+        needs,
+    })
+}
+
+fn needy_scripts(alloc: Global) -> Result<Vec<Script>, AllocError> {
+    let first = needy_script(alloc)?;
+    Ok(vec![in alloc; first, script(alloc, b"end\n", &[])?]?)
 }
 
 #[test]
 fn needs_hold_bytes_back(rt: HostRuntime) -> Result<(), Fail> {
     let alloc = rt.alloc();
-    let mut first = script(alloc, b"yield a\nend\n", Vec::new(alloc))?;
-    first.needs = vec![in alloc; (0, 1, 1), (8, 0, 2)]?;
-    let second = script(alloc, b"end\n", Vec::new(alloc))?;
-    let mut host = ScriptHost::new(alloc, vec![in alloc; first, second]?, Vec::new(alloc));
     let argv = words(alloc)?;
+    let mut host = ScriptHost::new(alloc, needy_scripts(alloc)?, Vec::new(alloc));
     begin(&rt, &mut host, 0, &argv);
     begin(&rt, &mut host, 1, &argv);
     tell(&rt, &mut host, 0, b"one\n", Ok(4));
@@ -132,22 +146,26 @@ fn needs_hold_bytes_back(rt: HostRuntime) -> Result<(), Fail> {
     Ok(())
 }
 
+/// Hears a line in 10 bytes, and the next one in no more than a room of three has.
+fn hear_lines<H: Host>(rt: &impl Abort, host: &mut H)
+    requires { H.running host.old 0 ≡ true }
+{
+    let mut room = [0; 16];
+    assert_eq!(rt; hear_line(host, 0, &mut room, 0), Ok(10));
+    assert_eq!(rt; &room[..10], b"yield a b\n".as_slice());
+    assert_eq!(rt; hear_line(host, 0, &mut [0; 3], 0), Ok(3));
+    assert_eq!(rt; hear_line(host, 0, &mut room, 1), Err(HostFault::Failed));
+}
+
 #[test]
 fn a_line_is_heard_over_several_reads(rt: HostRuntime) -> Result<(), Fail> {
     let alloc = rt.alloc();
-    let first = script(alloc, b"yield a b\nend", vec![in alloc; 2, 3, 5, 3]?)?;
-    let mut host = ScriptHost::new(alloc, vec![in alloc; first]?, Vec::new(alloc));
-    let mut room = [0; 16];
-    let mut short = [0; 3];
-    begin(&rt, &mut host, 0, &words(alloc)?);
+    let argv = words(alloc)?;
+    let scripts = vec![in alloc; script(alloc, b"yield a b\nend", &[2, 3, 5, 3])?]?;
+    let mut host = ScriptHost::new(alloc, scripts, Vec::new(alloc));
+    begin(&rt, &mut host, 0, &argv);
     assert_eq!(rt; send_all(&mut host, 0, b"next 0 grip cup\n"), Ok(()));
-    assert_eq!(rt; hear_line(&mut host, 0, &mut room, 0), Ok(10));
-    assert_eq!(rt; &room[..10], b"yield a b\n".as_slice());
-    assert_eq!(rt; hear_line(&mut host, 0, &mut short, 0), Ok(3));
-    assert_eq!(rt;
-        hear_line(&mut host, 0, &mut room, 1),
-        Err(HostFault::Failed)
-    );
+    hear_lines(&rt, &mut host);
     Ok(())
 }
 
@@ -166,8 +184,9 @@ impl AnswerBy for Echo {
 #[test]
 fn requests_are_answered_line_by_line(rt: HostRuntime) -> Result<(), Fail> {
     let alloc = rt.alloc();
+    let argv = words(alloc)?;
     let mut host = SureHost::new(alloc, Echo);
-    begin(&rt, &mut host, 5, &words(alloc)?);
+    begin(&rt, &mut host, 5, &argv);
     tell(&rt, &mut host, 5, b"a\nbc", Ok(4));
     hear(&rt, &mut host, 5, b"a\n");
     hear(&rt, &mut host, 5, b"end\n");
