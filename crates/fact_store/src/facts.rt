@@ -60,13 +60,23 @@ impl Facts {
         ensures { IfOk result (λ facts. facts.known ≡ initial_known task.now) }
     {
         let mut facts = Facts::empty(alloc);
-        let problem = &task.problem;
-        facts.reserve(problem.objects.len())?;
-        add_names(&mut facts, alloc, problem.objects.as_slice())?;
-        add_objects(&mut facts, alloc, &task.domain, problem.objects.as_slice())?;
-        add_static(&mut facts, &task.domain, problem.init.as_slice())?;
-        add_values(&mut facts, &task.domain, problem.values.as_slice())?;
+        facts.fill(alloc, task)?;
         Ok(facts)
+    }
+
+    /// Puts what is known at first of a task into a store that knows nothing.
+    fn fill(&mut self, alloc: Global, task: &Task) -> Result<(), AllocError>
+        requires fit { IsFit task.now }
+        requires empty { self.old.known ≡ record { names = []; facts = []; values = [] } }
+        ensures { OnOk result (self.new.known ≡ initial_known task.now) }
+    {
+        let problem = &task.problem;
+        self.reserve(problem.objects.len())?;
+        add_names(self, alloc, problem.objects.as_slice())?;
+        add_objects(self, alloc, &task.domain, problem.objects.as_slice())?;
+        add_static(self, &task.domain, problem.init.as_slice())?;
+        add_values(self, &task.domain, problem.values.as_slice())?;
+        Ok(())
     }
 
     /// The store that knows nothing, which takes no memory.

@@ -1,8 +1,7 @@
 //! What words there are, and what a list's first word makes of the list.
-ghost use Rattle.std.specs.Prelude.{◌≡◌, Some, None, if◌then◌else◌};
+ghost use Rattle.std.specs.Prelude.{◌≡◌};
 ghost use Rattle.std.specs.Char.{is_ascii_digit};
 ghost use Rattle.std.specs.List.{list_all};
-ghost use Rattle.std.specs.Str.Parse.{digits_value};
 ghost use Rattle.task_model.specs.Fit as fit;
 ghost use Rattle.form_reader.specs.Words as specs;
 

@@ -1,6 +1,8 @@
 // A generator that is a program of its own.
-ghost use Rattle.std.specs.Prelude.{◌≡◌, ◌+◌, ◌<◌, ◌≤◌, min, length, false, None, is_some};
-ghost use Rattle.io_world.specs.Faults.{last_count};
+ghost use Rattle.std.specs.Prelude.{◌≡◌, ◌+◌, ◌<◌, ◌≤◌, min, length, take, true, false, is_ok, is_some, option_map, IfOk, MatchResult};
+ghost use Rattle.gen_host.specs.Children.{untold};
+ghost use Rattle.io_world.specs.Faults.{last_count, Counts, HasCause};
+ghost use Rattle.io_world.specs.Talks.{Talk, silence, wrote_more, heard_more};
 ghost use Rattle.io_world.specs.declared.host.HostFault.TheVariants.{Failed};
 
 use crate::Generator;
@@ -78,9 +80,18 @@ impl<R: Processes + Drop> Generator for ChildGen<R> {
 
     ghost running = { λ s. is_some s.running };
 
-    ghost spoken = { λ s. None };
+    ghost spoken = { λ s. untold };
 
-    fn start(&mut self, argv: &[String]) -> Result<(), HostFault> {
+    fn start(&mut self, argv: &[String]) -> Result<(), HostFault>
+        requires words { 0 < length argv.now }
+        requires idle { is_some self.old.running ≡ false }
+        ensures running { is_some self.new.running ≡ is_ok result }
+        ensures spoken { MatchResult result
+            (λ _. untold ≡ option_map (λ (talk : Talk). silence) untold)
+            (λ _. untold ≡ untold) }
+        ensures cause { HasCause Failed last_count self.old.faults self.new.faults result }
+        ensures counts { Counts Failed last_count self.old.faults self.new.faults result }
+    {
         let Ok(mut command) = command(self.alloc, argv) else {
             return Err(HostFault::Memory);
         };
@@ -91,7 +102,17 @@ impl<R: Processes + Drop> Generator for ChildGen<R> {
         Ok(())
     }
 
-    fn send(&mut self, bytes: &[u8]) -> Result<usize, HostFault> {
+    fn send(&mut self, bytes: &[u8]) -> Result<usize, HostFault>
+        requires some { 0 < length bytes.now }
+        requires runs { is_some self.old.running ≡ true }
+        ensures count { IfOk result (λ n. (0 < n) × (n ≤ length bytes.now)) }
+        ensures running { is_some self.new.running ≡ true }
+        ensures spoken { MatchResult result
+            (λ n. untold ≡ option_map (wrote_more (take n bytes.now)) untold)
+            (λ _. untold ≡ untold) }
+        ensures cause { HasCause Failed last_count self.old.faults self.new.faults result }
+        ensures counts { Counts Failed last_count self.old.faults self.new.faults result }
+    {
         if let Some(running) = &mut self.running {
             if let Some(count) = write_some(&mut running.input, bytes) {
                 return Ok(count);
@@ -100,7 +121,17 @@ impl<R: Processes + Drop> Generator for ChildGen<R> {
         Err(failed(&mut self.faults))
     }
 
-    fn receive(&mut self, room: &mut [u8]) -> Result<usize, HostFault> {
+    fn receive(&mut self, room: &mut [u8]) -> Result<usize, HostFault>
+        requires some { 0 < length room.old }
+        requires runs { is_some self.old.running ≡ true }
+        ensures count { IfOk result (λ n. (0 < n) × (n ≤ length room.new)) }
+        ensures running { is_some self.new.running ≡ true }
+        ensures spoken { MatchResult result
+            (λ n. untold ≡ option_map (heard_more (take n room.new)) untold)
+            (λ _. untold ≡ untold) }
+        ensures cause { HasCause Failed last_count self.old.faults self.new.faults result }
+        ensures counts { Counts Failed last_count self.old.faults self.new.faults result }
+    {
         if let Some(running) = &mut self.running {
             if let Some(count) = read_some(&mut running.output, room) {
                 if count > 0 {
@@ -112,7 +143,13 @@ impl<R: Processes + Drop> Generator for ChildGen<R> {
     }
 
     /// It closes the pipes, and waits for the end of the program.
-    fn stop(&mut self) -> Result<(), HostFault> {
+    fn stop(&mut self) -> Result<(), HostFault>
+        requires runs { is_some self.old.running ≡ true }
+        ensures running { is_some self.new.running ≡ false }
+        ensures spoken { untold ≡ untold }
+        ensures cause { HasCause Failed last_count self.old.faults self.new.faults result }
+        ensures counts { Counts Failed last_count self.old.faults self.new.faults result }
+    {
         if let Some(running) = self.running.take() {
             if ended(running) {
                 return Ok(());

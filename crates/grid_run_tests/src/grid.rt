@@ -7,6 +7,7 @@ use io_world::{Host, Script, ScriptHost, SureHost};
 use pddlstream_app::Status;
 use run_rows::{CUP, Given, ran_over};
 use std::alloc::{AllocError, Global};
+use std::fmt::Write;
 use std::process::Abort;
 use std::test::Fail;
 use worked_tasks::{GRID, Texts};
@@ -102,33 +103,26 @@ const SECOND: [Ask; 39] = [
     ("0 clear b3 home-b3 b3 #5,4", "yield"),
 ];
 
+/// The request's line.
+fn push_ask(text: &mut String, number: usize, ask: &str) -> Result<(), AllocError> {
+    write!(text, "ask {number} {ask}\n")
+}
+
 /// The answer's line.
-fn push_answer(
-    alloc: Global,
-    text: &mut String,
-    number: usize,
-    answer: &str,
-) -> Result<(), AllocError> {
-    let line = match answer.strip_prefix("yield") {
-        Some(values) => format!(in alloc; "got {number}{values}\n")?,
-        None => format!(in alloc; "end {number}\n")?,
-    };
-    text.push_str(line.as_str())
+fn push_answer(text: &mut String, number: usize, answer: &str) -> Result<(), AllocError> {
+    match answer.strip_prefix("yield") {
+        Some(values) => write!(text, "got {number}{values}\n"),
+        None => write!(text, "end {number}\n"),
+    }
 }
 
 /// The lines of a round: its requests, and then its answers.
-fn push_round(
-    alloc: Global,
-    text: &mut String,
-    first: usize,
-    round: &[Ask],
-) -> Result<(), AllocError> {
+fn push_round(text: &mut String, first: usize, round: &[Ask]) -> Result<(), AllocError> {
     for (place, (ask, _)) in round.iter().enumerate() {
-        let number = first.saturating_add(place);
-        text.push_str(format!(in alloc; "ask {number} {ask}\n")?.as_str())?;
+        push_ask(text, first.saturating_add(place), ask)?;
     }
     for (place, (_, answer)) in round.iter().enumerate() {
-        push_answer(alloc, text, first.saturating_add(place), answer)?;
+        push_answer(text, first.saturating_add(place), answer)?;
     }
     Ok(())
 }
@@ -142,7 +136,6 @@ fn round_at(level: &[Ask], place: usize, workers: usize) -> &[Ask] {
 /// The lines of a level, whose first request has this number: rounds of as many requests as there
 /// are workers.
 fn push_level(
-    alloc: Global,
     text: &mut String,
     first: usize,
     level: &[Ask],
@@ -152,7 +145,7 @@ fn push_level(
     for place in 0..level.len() {
         if place.checked_rem(workers) == Some(0) {
             let round = round_at(level, place, workers);
-            push_round(alloc, text, first.saturating_add(place), round)?;
+            push_round(text, first.saturating_add(place), round)?;
         }
     }
     Ok(())
@@ -163,8 +156,8 @@ fn report(alloc: Global, workers: usize) -> Result<String, AllocError> {
     let mut text = format!(in alloc;
         "pddlstream 1 incremental\nlimits 10000 100000 3\npool {workers} place grasp reach clear\n"
     )?;
-    push_level(alloc, &mut text, 1, &FIRST, workers)?;
-    push_level(alloc, &mut text, 16, &SECOND, workers)?;
+    push_level(&mut text, 1, &FIRST, workers)?;
+    push_level(&mut text, 16, &SECOND, workers)?;
     text.push_str("plan ")?;
     Ok(text)
 }
@@ -183,6 +176,17 @@ fn rounds_in(report: &[u8]) -> usize {
     rounds
 }
 
+/// Asserts that the text begins as the report by so many workers up to its plan.
+fn check_text(rt: &impl Abort, alloc: Global, text: &[u8], workers: usize) -> Result<(), Fail> {
+    let want = report(alloc, workers)?;
+    assert_eq!(rt;
+        text.get(..want.len()),
+        Some(want.as_bytes()),
+        "{workers} workers"
+    );
+    Ok(())
+}
+
 /// Asserts that the run over this host asks so, in so many rounds, and ends in a plan.
 fn check_run<H: Host>(
     rt: &impl Abort,
@@ -196,31 +200,34 @@ fn check_run<H: Host>(
     ensures { (k : ℕ) → H.running host.new k ≡ false }
 {
     let (text, status) = ran_over(alloc, given, host)?;
-    let want = report(alloc, workers)?;
-    assert_eq!(rt;
-        text.get(..want.len()),
-        Some(want.as_bytes()),
-        "{workers} workers"
-    );
     assert_eq!(rt; rounds_in(text.as_slice()), rounds);
     assert_eq!(rt; status, Status::Plan);
-    Ok(())
+    check_text(rt, alloc, text.as_slice(), workers)
 }
 
-/// Maps of one pool, its workers, and the rounds.
-const MAPS: [(&'static str, usize, usize); 3] = [
+/// The three blocks with a map of one pool, its workers, and the rounds.
+const MAPS: [(Given<'static>, usize, usize); 3] = [
     (
-        "{\"pools\":[{\"run\":[\"g\"],\"streams\":[\"place\",\"grasp\",\"reach\",\"clear\"]}]}",
+        Given {
+            map: "{\"pools\":[{\"run\":[\"g\"],\"streams\":[\"place\",\"grasp\",\"reach\",\"clear\"]}]}",
+            ..THREE
+        },
         1,
         54,
     ),
     (
-        "{\"pools\":[{\"run\":[\"g\"],\"workers\":2,\"streams\":[\"place\",\"grasp\",\"reach\",\"clear\"]}]}",
+        Given {
+            map: "{\"pools\":[{\"run\":[\"g\"],\"workers\":2,\"streams\":[\"place\",\"grasp\",\"reach\",\"clear\"]}]}",
+            ..THREE
+        },
         2,
         28,
     ),
     (
-        "{\"pools\":[{\"run\":[\"g\"],\"workers\":3,\"streams\":[\"place\",\"grasp\",\"reach\",\"clear\"]}]}",
+        Given {
+            map: "{\"pools\":[{\"run\":[\"g\"],\"workers\":3,\"streams\":[\"place\",\"grasp\",\"reach\",\"clear\"]}]}",
+            ..THREE
+        },
         3,
         18,
     ),
@@ -232,14 +239,25 @@ fn grid_of_three(rt: &impl Abort, alloc: Global) -> Result<Box<Grid>, Fail> {
     Ok(Box::new(alloc, read_grid(alloc, bytes)?)?)
 }
 
+/// Asserts that a run over a host that answers by the grid asks so, in so many rounds, and ends in
+/// a plan.
+fn check_grid_run(
+    rt: &impl Abort,
+    alloc: Global,
+    grid: &Grid,
+    given: &Given<'_>,
+    workers: usize,
+    rounds: usize,
+) -> Result<(), Fail> {
+    let mut host = SureHost::new(alloc, GridReplies::new(grid));
+    check_run(rt, alloc, given, &mut host, workers, rounds)
+}
+
 #[test]
 fn workers_that_answer_by_the_grid_share_the_same_requests(rt: HostRuntime) -> Result<(), Fail> {
-    let alloc = rt.alloc();
-    let grid = grid_of_three(&rt, alloc)?;
-    for (map, workers, rounds) in MAPS {
-        let given = Given { map, ..THREE };
-        let mut host = SureHost::new(alloc, GridReplies::new(&grid));
-        check_run(&rt, alloc, &given, &mut host, workers, rounds)?;
+    let grid = grid_of_three(&rt, rt.alloc())?;
+    for (given, workers, rounds) in &MAPS {
+        check_grid_run(&rt, rt.alloc(), &grid, given, *workers, *rounds)?;
     }
     Ok(())
 }
@@ -255,31 +273,43 @@ fn push_share(text: &mut Vec<u8>, level: &[Ask], child: usize) -> Result<(), All
     Ok(())
 }
 
-/// What one of three children says. The first two say nothing before a line was written to the
-/// third.
-fn share(alloc: Global, child: usize) -> Result<Script, AllocError> {
+/// What one of three children says.
+fn said(alloc: Global, child: usize) -> Result<Vec<u8>, AllocError> {
     let mut bytes = Vec::new(alloc);
     push_share(&mut bytes, &FIRST, child)?;
     push_share(&mut bytes, &SECOND, child)?;
+    Ok(bytes)
+}
+
+/// The script of one of three children. The first two say nothing before a line was written to the
+/// third.
+fn share(alloc: Global, child: usize) -> Result<Script, AllocError> {
     let needs: &[(usize, u8, u64)] = if child < 2 { &[(0, 2, 1)] } else { &[] };
+    let needs = Vec::from_slice(alloc, needs)?;
+    let bytes = said(alloc, child)?;
     Ok(Script {
         bytes,
         cuts: Vec::new(alloc),
-        needs: Vec::from_slice(alloc, needs)?,
+        needs,
     })
+}
+
+/// The scripts of the three.
+fn shares(alloc: Global) -> Result<Vec<Script>, AllocError> {
+    let mut scripts = Vec::new(alloc);
+    for child in 0..3 {
+        scripts.push(share(alloc, child)?)?;
+    }
+    Ok(scripts)
 }
 
 #[test]
 fn children_may_wait_until_the_third_was_asked(rt: HostRuntime) -> Result<(), Fail> {
     let alloc = rt.alloc();
-    let mut scripts = Vec::new(alloc);
-    for child in 0..3 {
-        scripts.push(share(alloc, child)?)?;
-    }
+    let scripts = shares(alloc)?;
     let mut host = ScriptHost::new(alloc, scripts, Vec::new(alloc));
-    let (map, workers, rounds) = MAPS[2];
-    let given = Given { map, ..THREE };
-    check_run(&rt, alloc, &given, &mut host, workers, rounds)
+    let [_, _, (given, workers, rounds)] = &MAPS;
+    check_run(&rt, alloc, given, &mut host, *workers, *rounds)
 }
 
 /// The grid's generator as the last child, by a map and by the words.
@@ -294,6 +324,15 @@ const BY_FILE: [Given<'static>; 2] = [
     },
 ];
 
+/// Asserts that both runs ask so over this host, one after the other.
+fn check_by_file<H: Host>(rt: &impl Abort, alloc: Global, host: &mut H) -> Result<(), Fail>
+    requires { (k : ℕ) → H.running host.old k ≡ false }
+{
+    let [by_map, by_words] = &BY_FILE;
+    check_run(rt, alloc, by_map, host, 1, 54)?;
+    check_run(rt, alloc, by_words, host, 1, 54)
+}
+
 #[test]
 fn the_generator_in_the_process_answers_by_the_grids_file(rt: HostRuntime) -> Result<(), Fail> {
     let alloc = rt.alloc();
@@ -303,7 +342,5 @@ fn the_generator_in_the_process_answers_by_the_grids_file(rt: HostRuntime) -> Re
     }
     assert_eq!(rt; members.len(), 17);
     let mut host = BoxHost::new(members);
-    let [by_map, by_words] = &BY_FILE;
-    check_run(&rt, alloc, by_map, &mut host, 1, 54)?;
-    check_run(&rt, alloc, by_words, &mut host, 1, 54)
+    check_by_file(&rt, alloc, &mut host)
 }

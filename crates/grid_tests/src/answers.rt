@@ -1,4 +1,6 @@
 //! What requests are answered.
+ghost use Rattle.std.specs.Prelude.{◌<◌, length};
+
 use grid_world::{Grid, GridAnswer, Side, grid_answer, grid_task, read_grid};
 use std::alloc::{AllocError, Global};
 use std::process::Abort;
@@ -36,11 +38,19 @@ fn check_rows(rt: &impl Abort, alloc: Global, grid: &Grid, rows: &[Row]) -> Resu
     Ok(())
 }
 
+/// The grid of this text.
+fn grid_in(alloc: Global, text: &[u8]) -> Result<Box<Grid>, Fail>
+    requires { length text.now < 1000 }
+{
+    let grid = read_grid(alloc, text)?;
+    Ok(Box::new(alloc, grid)?)
+}
+
 fn grid_of_three(rt: &impl Abort, alloc: Global) -> Result<Box<Grid>, Fail> {
     let task = grid_task(alloc, 3)?;
-    assert!(rt; task.grid.len() < 1000);
-    let grid = read_grid(alloc, task.grid.as_slice())?;
-    Ok(Box::new(alloc, grid)?)
+    let text = task.grid.as_slice();
+    assert!(rt; text.len() < 1000);
+    grid_in(alloc, text)
 }
 
 const WORKED: [Row; 25] = [
@@ -79,8 +89,7 @@ fn requests_on_the_grid_of_three_are_answered(rt: HostRuntime) -> Result<(), Fai
 
 fn small_grid(alloc: Global) -> Result<Box<Grid>, Fail> {
     let text = b"grid 4 3\nblock b 2 1 0 0\nblock c 1 1 0 0\nregion r 0 0 4 3\nobstacle 1 1 1 1";
-    let grid = read_grid(alloc, text)?;
-    Ok(Box::new(alloc, grid)?)
+    grid_in(alloc, text)
 }
 
 /// Corners by y and then x, and rectangles that touch.

@@ -13,10 +13,16 @@ const GRID: &str = "grid 40 6\nblock b1 1 1 0 1\nregion r1 0 4 40 1\n";
 fn words(alloc: Global, first: &str, second: &str) -> Result<Vec<String>, AllocError>
     ensures { IfOk result (λ words. 0 < length words.items) }
 {
-    let mut words = Vec::new(alloc);
-    words.push(String::from_str(alloc, first)?)?;
-    words.push(String::from_str(alloc, second)?)?;
-    Ok(words)
+    let first = String::from_str(alloc, first)?;
+    let second = String::from_str(alloc, second)?;
+    Ok(vec![in alloc; first, second]?)
+}
+
+/// The word `@grid` alone.
+fn one_word(alloc: Global) -> Result<Vec<String>, AllocError>
+    ensures { IfOk result (λ words. 0 < length words.items) }
+{
+    Ok(vec![in alloc; String::from_str(alloc, "@grid")?]?)
 }
 
 /// Starts a generator, which is to refuse the words.
@@ -29,6 +35,22 @@ fn refuse<G: Generator>(rt: &impl Abort, generator: &mut G, argv: &[String])
         panic!(rt; "it started")
     };
     assert_eq!(rt; fault, HostFault::Failed);
+}
+
+/// The same by these two words.
+fn refuse_words<G: Generator>(
+    rt: &impl Abort,
+    alloc: Global,
+    generator: &mut G,
+    first: &str,
+    second: &str,
+) -> Result<(), AllocError>
+    requires { G.running generator.old ≡ false }
+    ensures { G.running generator.new ≡ false }
+{
+    let argv = words(alloc, first, second)?;
+    refuse(rt, generator, &argv);
+    Ok(())
 }
 
 fn begin<G: Generator>(rt: &impl Abort, generator: &mut G, argv: &[String])
@@ -72,14 +94,12 @@ fn miss<G: Generator>(rt: &impl Abort, generator: &mut G)
 #[test]
 fn other_words_and_refused_grids_do_not_start(rt: HostRuntime) -> Result<(), Fail> {
     let alloc = rt.alloc();
-    let mut generator = GridGen::new(alloc);
-    refuse(&rt, &mut generator, &words(alloc, "grid", GRID)?);
-    refuse(&rt, &mut generator, &words(alloc, "@grid", "grid 0 6")?);
-    refuse(&rt, &mut generator, &words(alloc, "@grid", "")?);
-    let mut few = words(alloc, "@grid", GRID)?;
-    few.truncate(1);
-    assert!(rt; few.len() == 1);
-    refuse(&rt, &mut generator, &few);
+    let mut generator = Box::new(alloc, GridGen::new(alloc))?;
+    refuse_words(&rt, alloc, &mut *generator, "grid", GRID)?;
+    refuse_words(&rt, alloc, &mut *generator, "@grid", "grid 0 6")?;
+    refuse_words(&rt, alloc, &mut *generator, "@grid", "")?;
+    let few = one_word(alloc)?;
+    refuse(&rt, &mut *generator, &few);
     assert_eq!(rt; generator.faults(), 4);
     Ok(())
 }
@@ -159,6 +179,17 @@ fn converse_all<H: Host>(rt: &impl Abort, host: &mut H, child: u8)
     );
 }
 
+/// Starts the last child of a host, and hears the answers of the worked row and no fault.
+fn serve_as_last<H: Host>(rt: &impl Abort, alloc: Global, host: &mut H) -> Result<(), Fail>
+    requires { H.running host.old 16 ≡ false }
+{
+    let argv = words(alloc, "@grid", GRID)?;
+    start(rt, host, 16, &argv);
+    converse_all(rt, host, 16);
+    assert_eq!(rt; host.faults(), 0);
+    Ok(())
+}
+
 #[test]
 fn a_host_holds_the_grid_as_its_last_child(rt: HostRuntime) -> Result<(), Fail> {
     let alloc = rt.alloc();
@@ -168,10 +199,7 @@ fn a_host_holds_the_grid_as_its_last_child(rt: HostRuntime) -> Result<(), Fail> 
     }
     assert_eq!(rt; members.len(), 17);
     let mut host = BoxHost::new(members);
-    start(&rt, &mut host, 16, &words(alloc, "@grid", GRID)?);
-    converse_all(&rt, &mut host, 16);
-    assert_eq!(rt; host.faults(), 0);
-    Ok(())
+    serve_as_last(&rt, alloc, &mut host)
 }
 
 #[test]
@@ -179,8 +207,8 @@ fn a_host_that_answers_by_the_grid_answers_alike(rt: HostRuntime) -> Result<(), 
     let alloc = rt.alloc();
     let bytes = GRID.as_bytes();
     assert!(rt; bytes.len() < 1000);
-    let argv = words(alloc, "any", "words")?;
     let grid = Box::new(alloc, read_grid(alloc, bytes)?)?;
+    let argv = words(alloc, "any", "words")?;
     let mut host = SureHost::new(alloc, GridReplies::new(&grid));
     start(&rt, &mut host, 3, &argv);
     converse_all(&rt, &mut host, 3);

@@ -131,23 +131,32 @@ fn each_status_has_its_cause(rt: HostRuntime) -> Result<(), Fail> {
     Ok(())
 }
 
-/// Other words than the path of the file, and how the program ends.
-const REFUSED: [(&[&str], GridStatus); 3] = [
-    (&[], GridStatus::Usage),
-    (&["g", "g"], GridStatus::Usage),
-    (&["h"], GridStatus::ReadFault),
+/// A run by no words.
+const WORDLESS: Run<'static> = Run {
+    paths: &[],
+    input: b"next 0 grasp b1\n",
+    status: GridStatus::Usage,
+    ..EMPTY
+};
+
+/// Runs by other words than the path of the file.
+const REFUSED: [Run<'static>; 3] = [
+    WORDLESS,
+    Run {
+        paths: &["g", "g"],
+        ..WORDLESS
+    },
+    Run {
+        paths: &["h"],
+        status: GridStatus::ReadFault,
+        ..WORDLESS
+    },
 ];
 
 #[test]
 fn words_and_files_are_refused(rt: HostRuntime) -> Result<(), Fail> {
-    for (paths, status) in REFUSED {
-        let run = Run {
-            paths,
-            input: b"next 0 grasp b1\n",
-            status,
-            ..EMPTY
-        };
-        check(&rt, rt.alloc(), &run)?;
+    for run in &REFUSED {
+        check(&rt, rt.alloc(), run)?;
     }
     Ok(())
 }
@@ -194,11 +203,11 @@ const LONG: [Long; 6] = [
 #[test]
 fn a_line_has_at_most_4096_bytes(rt: HostRuntime) -> Result<(), Fail> {
     let alloc = rt.alloc();
-    for (front, letters, back, status, written) in LONG {
-        let text = stretched(alloc, front, letters, back)?;
+    for (front, letters, back, status, written) in &LONG {
+        let text = stretched(alloc, front, *letters, back)?;
         let run = Run {
             input: text.as_slice(),
-            status,
+            status: *status,
             written: written.as_bytes(),
             ..EMPTY
         };
@@ -217,13 +226,13 @@ const SIZES: [(usize, GridStatus, &[u8]); 2] = [
 #[test]
 fn a_grid_file_has_at_most_4_mib(rt: HostRuntime) -> Result<(), Fail> {
     let alloc = rt.alloc();
-    for (size, status, written) in SIZES {
+    for (size, status, written) in &SIZES {
         let text = stretched(alloc, "grid 9 9\n;", size.saturating_sub(10), "")?;
         let run = Run {
             grid: text.as_slice(),
             input: b"\n",
-            status,
-            written,
+            status: *status,
+            written: *written,
             ..EMPTY
         };
         check(&rt, alloc, &run)?;

@@ -1,5 +1,7 @@
 //! The tasks of all numbers.
 use grid_text::{GridTask, grid_task};
+use std::alloc::{AllocError, Global};
+use std::process::Abort;
 use std::test::Fail;
 
 fn lengths(task: &GridTask) -> (usize, usize, usize, usize) {
@@ -11,17 +13,29 @@ fn lengths(task: &GridTask) -> (usize, usize, usize, usize) {
     )
 }
 
+/// The lengths of the domain, the problem, the streams and the grid of the task of this number.
+fn lengths_of(
+    rt: &impl Abort,
+    alloc: Global,
+    number: u32,
+) -> Result<(usize, usize, usize, usize), AllocError> {
+    assert!(rt; 1 <= number && number <= 12);
+    let task = grid_task(alloc, number)?;
+    Ok(lengths(&task))
+}
+
+/// Numbers of blocks, and how long the texts are.
+const LENGTHS: [(u32, (usize, usize, usize, usize)); 4] = [
+    (1, (1185, 187, 562, 61)),
+    (2, (1185, 263, 562, 113)),
+    (3, (1185, 339, 562, 165)),
+    (12, (1185, 1057, 562, 661)),
+];
+
 #[test]
 fn texts_have_their_lengths(rt: HostRuntime) -> Result<(), Fail> {
-    let rows = [
-        (1, (1185, 187, 562, 61)),
-        (2, (1185, 263, 562, 113)),
-        (3, (1185, 339, 562, 165)),
-        (12, (1185, 1057, 562, 661)),
-    ];
-    for (number, want) in rows {
-        let task = grid_task(rt.alloc(), number)?;
-        assert_eq!(rt; lengths(&task), want);
+    for (number, want) in &LENGTHS {
+        assert_eq!(rt; lengths_of(&rt, rt.alloc(), *number)?, *want);
     }
     Ok(())
 }

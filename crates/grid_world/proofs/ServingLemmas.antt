@@ -1,14 +1,15 @@
 -- Lines of a source are answered one by one.
-use Rattle.std.proofs.Common.{◌≡◌, ℕ, ◌+◌, ◌<◌, ◌≤◌, List, [], ◌∷◌, ◌++◌, length, drop, take, refl, sym, ap, ◌∙◌, subst, arith, Option, Some, None, position, append-nil, length-append, get_or, map}
+use Rattle.std.proofs.Common.{◌≡◌, ℕ, ◌+◌, ◌-◌, ◌<◌, ◌≤◌, List, [], ◌∷◌, ◌++◌, length, drop, take, refl, sym, ap, ◌∙◌, subst, arith, Option, Some, None, All, position, append-nil, length-append, get_or, map}
 use Rattle.std.specs.Io.BufRead.{strip_last}
 use Rattle.std.specs.Io.KnownBytes.{Appends, Consumes, IsAtEnd}
 use Rattle.std.specs.List.{after_first}
 use Rattle.std.proofs.KnownBytes.{Appends-nil, Appends-trans, Consumes-nil, Consumes-trans}
 use Rattle.std.proofs.lemmas.Grind.{flat_map-append}
+use Rattle.std.proofs.lemmas.List.Elements.{All-nil, All-push}
 use Rattle.std.proofs.Math.Seq.{take-append-add}
 use Rattle.gen_lines.specs.Cutting.{Cut, fresh, pushed, took}
 use Rattle.gen_lines.specs.Lines.{is_feed, lines_of, unfinished}
-use Rattle.gen_lines.proofs.LinesLemmas.{after_some, lines_none, lines_some}
+use Rattle.gen_lines.proofs.LinesLemmas.{after_some, line_short, lines_none, lines_some}
 use Rattle.gen_lines.proofs.CuttingLemmas.{whole}
 use Rattle.grid_text.specs.Grids.{GridFile}
 use Rattle.grid_world.specs.AnswerLines.{line_of_answer, replies_to, answer_to_line}
@@ -24,13 +25,14 @@ pub record Stands (grid : GridFile) (before after old new : Option (List ℕ)) (
   pub answered : List (List ℕ)
   pub cut : Cut all answered held
   pub from : Consumes before after all
+  pub short : All (λ line. length line < 4097) answered
   pub wrote : Appends old new (replies_to grid answered)
   pub count : length answered ≡ n
 
 pub stands_first : (grid : GridFile) (left taken : Option (List ℕ))
     → Stands grid left left taken taken [] 0
 stands_first grid left taken = record
-    { all = []; answered = []; cut = fresh; from = Consumes-nil left; wrote = Appends-nil taken; count = refl }
+    { all = []; answered = []; cut = fresh; from = Consumes-nil left; short = All-nil _; wrote = Appends-nil taken; count = refl }
 
 pub stands_filled : (grid : GridFile) (before mid after old new : Option (List ℕ)) (held more : List ℕ) (n : ℕ)
     → Stands grid before mid old new held n → Came mid after held more
@@ -40,6 +42,7 @@ stands_filled grid before mid after old new held more n s c = record {
   answered = s.answered;
   cut = subst (Cut (s.all ++ c.more) s.answered) (sym c.held) (pushed s.cut c.more);
   from = Consumes-trans before mid after s.all c.more s.from c.from;
+  short = s.short;
   wrote = s.wrote;
   count = s.count;
 }
@@ -47,6 +50,12 @@ stands_filled grid before mid after old new held more n s c = record {
 -- the line before a line feed
 abbrev pub line_at : ℕ → List ℕ → List ℕ
 line_at end held = strip_last 13 (take end held)
+
+-- a line is shorter than what is held
+line_shorter : (held : List ℕ) (end : ℕ) → position is_feed held ≡ Some end → length held ≤ 4097 → length (line_at end held) < 4097
+line_shorter held end feed few =
+    let at : end ≡ 0 + end - 0 = omega arith in
+    omega (arith, line_short held (line_at end held) 0 end feed (ap (λ k. line_at k held) at), few)
 
 cut_more : (all held : List ℕ) (answered : List (List ℕ)) (end : ℕ) → Cut all answered held
     → position is_feed held ≡ Some end
@@ -63,14 +72,15 @@ replies_more grid answered line =
     ∙ ap (λ t. replies_to grid answered ++ t) (append-nil (answer_to_line grid line))
 
 pub stands_answered : (grid : GridFile) (before after old mid new : Option (List ℕ)) (held : List ℕ) (n end : ℕ)
-    → Stands grid before after old mid held n → position is_feed held ≡ Some end
+    → Stands grid before after old mid held n → position is_feed held ≡ Some end → length held ≤ 4097
     → Appends mid new (answer_to_line grid (line_at end held))
     → Stands grid before after old new (drop (end + 1) held) (n + 1)
-stands_answered grid before after old mid new held n end s feed w = record {
+stands_answered grid before after old mid new held n end s feed few w = record {
   all = s.all;
   answered = s.answered ++ line_at end held ∷ [];
   cut = cut_more s.all held s.answered end s.cut feed;
   from = s.from;
+  short = All-push (λ line. length line < 4097) s.answered (line_at end held) s.short (line_shorter held end feed few);
   wrote = subst (Appends old new) (sym (replies_more grid s.answered (line_at end held)))
       (Appends-trans old mid new (replies_to grid s.answered) (answer_to_line grid (line_at end held)) s.wrote w);
   count = omega (arith, s.count, length-append s.answered (line_at end held ∷ []));
@@ -97,15 +107,17 @@ ends_with grid before after old new held n status s few wrote so = record {
   behind = lines_of held;
   lines = lines_whole s.all held s.answered s.cut;
   few = omega (arith, s.count, few);
+  short = s.short;
   wrote = wrote s.answered s.wrote;
   ends = so s.answered (unfinished s.all) s.count (whole s.all s.answered held s.cut).remains;
 }
 
 pub ends_done : (grid : GridFile) (before after old new : Option (List ℕ)) (held : List ℕ) (n : ℕ)
     → Stands grid before after old new held n → n ≤ 100000 → position is_feed held ≡ None
-    → IsAtEnd after → AnswersLines grid before after old new Done
-ends_done grid before after old new held n s few none ended =
-    ends_with grid before after old new held n Done s few (λ a w. w) (λ a r c h. (lines_none held none, ended))
+    → IsAtEnd after → length held < 4097 → AnswersLines grid before after old new Done
+ends_done grid before after old new held n s few none ended short =
+    ends_with grid before after old new held n Done s few
+    (λ a w. w) (λ a r c h. (lines_none held none, ended, omega (arith, ap length (h (lines_none held none)), short)))
 
 pub ends_input : (grid : GridFile) (before after old new : Option (List ℕ)) (held : List ℕ) (n : ℕ)
     → Stands grid before after old new held n → n ≤ 100000 → position is_feed held ≡ None
@@ -122,19 +134,20 @@ ends_limit grid before after old new held n s full =
 
 pub ends_read : (grid : GridFile) (before after old new : Option (List ℕ)) (held : List ℕ) (n : ℕ)
     → Stands grid before after old new held n → n ≤ 100000 → position is_feed held ≡ None
-    → AnswersLines grid before after old new ReadFault
-ends_read grid before after old new held n s few none =
-    ends_with grid before after old new held n ReadFault s few (λ a w. w) (λ a r c h. lines_none held none)
+    → length held < 4097 → AnswersLines grid before after old new ReadFault
+ends_read grid before after old new held n s few none short =
+    ends_with grid before after old new held n ReadFault s few
+    (λ a w. w) (λ a r c h. (lines_none held none, omega (arith, ap length (h (lines_none held none)), short)))
 
 part_more : (text reply : List ℕ) (n : ℕ)
     → take (length text + n) (text ++ reply) ≡ text ++ take n reply
 part_more text reply n = take-append-add text reply n
 
 pub ends_write : (grid : GridFile) (before after old mid new : Option (List ℕ)) (held : List ℕ) (n end k : ℕ)
-    → Stands grid before after old mid held n → n < 100000 → position is_feed held ≡ Some end →
+    → Stands grid before after old mid held n → n < 100000 → position is_feed held ≡ Some end → length held ≤ 4097 →
     k < length (answer_to_line grid (line_at end held)) → Appends mid new (take k (answer_to_line grid (line_at end held)))
     → AnswersLines grid before after old new WriteFault
-ends_write grid before after old mid new held n end k s few feed short w =
+ends_write grid before after old mid new held n end k s few feed held_few short w =
     let line = line_at end held in
     let text = replies_to grid s.answered in
     let all : replies_to grid (s.answered ++ line ∷ []) ≡ text ++ answer_to_line grid line = replies_more grid s.answered line in
@@ -148,6 +161,7 @@ ends_write grid before after old mid new held n end k s few feed short w =
       behind = lines_of (drop (end + 1) held);
       lines = lines_whole s.all (drop (end + 1) held) (s.answered ++ line ∷ []) cut;
       few = omega (arith, s.count, length-append s.answered (line ∷ []), few);
+      short = All-push (λ line. length line < 4097) s.answered line s.short (line_shorter held end feed held_few);
       wrote = (
         length text + k,
         omega (arith, ap length all, length-append text (answer_to_line grid line), short),

@@ -23,9 +23,9 @@ pub record Came (before after : Option (List ℕ)) (old new : List ℕ) : Type 0
 -- how the wait ended, by what is held and what is left
 abbrev pub FillsSo : List ℕ → Option (List ℕ) → Filled → Type 0
 FillsSo held left (Line end) = (position is_feed held ≡ Some end) × (end < 4097)
-FillsSo held left End = (position is_feed held ≡ None) × IsAtEnd left
+FillsSo held left End = (position is_feed held ≡ None) × IsAtEnd left × (length held < 4097)
 FillsSo held left TooLong = (position is_feed held ≡ None) × (length held ≡ 4097)
-FillsSo held left Failed = position is_feed held ≡ None
+FillsSo held left Failed = (position is_feed held ≡ None) × (length held < 4097)
 
 -- the count of faults never falls, and it rose where the source failed
 pub record IsCaused (before after : ℕ) (filled : Filled) : Type 0 where

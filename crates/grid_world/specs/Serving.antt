@@ -1,5 +1,5 @@
 -- What the program does with its file, its input and its output.
-use Rattle.std.specs.Prelude.{◌≡◌, ℕ, ◌<◌, ◌≤◌, ◌⊎◌, List, [], ◌∷◌, ◌++◌, length, take, Result, Ok, Err, Option, Some, IfSome}
+use Rattle.std.specs.Prelude.{◌≡◌, ℕ, ◌<◌, ◌≤◌, ◌⊎◌, List, [], ◌∷◌, ◌++◌, All, length, take, Result, Ok, Err, Option, Some, IfSome}
 use Rattle.std.specs.Io.KnownBytes.{Appends, Consumes, IsAtEnd}
 use Rattle.io_world.specs.Faults.{last_count, Extends, Rose}
 use Rattle.io_world.specs.FileMap.{Asked, FileMap, HasMore}
@@ -11,7 +11,7 @@ use Rattle.grid_text.specs.Grids.{GridFile}
 use Rattle.grid_text.specs.declared.fault.GridFault.TheVariants.{At}
 use Rattle.grid_text.specs.declared.fault.GridKind.{GridKind}
 use Rattle.grid_world.specs.AnswerLines.{replies_to}
-use Rattle.grid_world.specs.declared.service.TheConstants.{MOST_LINES}
+use Rattle.grid_world.specs.declared.service.TheConstants.{GRID_BYTES, MOST_LINES}
 use Rattle.grid_world.specs.declared.status.GridStatus.{GridStatus}
 use Rattle.grid_world.specs.declared.status.GridStatus.TheVariants.{Done, Limit, Usage, Input, ReadFault, WriteFault, Memory}
 
@@ -37,16 +37,16 @@ Wrote Memory text old new = Appends old new text
 -- How the answers ended: by the lines that were answered, those that were read behind them, the bytes behind the last
 -- line feed, and what the source has left.
 abbrev pub EndsSo : GridStatus → List (List ℕ) → List (List ℕ) → List ℕ → Option (List ℕ) → Type 0
-EndsSo Done answered behind rest left = (behind ≡ []) × IsAtEnd left
+EndsSo Done answered behind rest left = (behind ≡ []) × IsAtEnd left × (length rest < 4097)
 EndsSo Limit answered behind rest left = length answered ≡ MOST_LINES
 EndsSo Usage answered behind rest left = ⊥
 EndsSo Input answered behind rest left = (behind ≡ []) × (4097 ≤ length rest)
-EndsSo ReadFault answered behind rest left = behind ≡ []
+EndsSo ReadFault answered behind rest left = (behind ≡ []) × (length rest < 4097)
 EndsSo WriteFault answered behind rest left = 0 < length answered
 EndsSo Memory answered behind rest left = answered ≡ []
 
--- Of the bytes that were read, which the source had next, the first lines were answered, at most 100,000; their answers
--- were written in order, and nothing else.
+-- Of the bytes that were read, which the source had next, the first lines were answered, at most 100,000, each shorter
+-- than 4,097 bytes; their answers were written in order, and nothing else.
 pub record AnswersLines (grid : GridFile) (before after old new : Option (List ℕ)) (status : GridStatus) : Type 0 where
   pub read : List ℕ
   pub from : Consumes before after read
@@ -54,6 +54,7 @@ pub record AnswersLines (grid : GridFile) (before after old new : Option (List �
   pub behind : List (List ℕ)
   pub lines : lines_of read ≡ answered ++ behind
   pub few : length answered ≤ MOST_LINES
+  pub short : All (λ line. length line < 4097) answered
   pub wrote : Wrote status (replies_to grid answered) old new
   pub ends : EndsSo status answered behind (unfinished read) after
 
@@ -111,16 +112,16 @@ GridSo outside bytes status =
     HasServed outside bytes status ⊎ IsGridRefused outside bytes status
     ⊎ HasStopped outside status Memory
 
--- what was done by what the read of the file answered
+-- what was done by what the read of the file answered, which is at most 4 MiB
 abbrev pub FileSo : ServedOutside → List ℕ → GridStatus → Result (Unit {0}) FileFault → Type 0
 FileSo outside path status (Ok u) =
-    (bytes : List ℕ) × IfSome outside.told (λ files. files path ≡ Some bytes)
+    (bytes : List ℕ) × (length bytes ≤ GRID_BYTES) × IfSome outside.told (λ files. files path ≡ Some bytes)
     × GridSo outside bytes status
 FileSo outside path status (Err fault.Failed) =
     HasStopped outside status ReadFault × Rose last_count outside.files_old outside.files_new
 FileSo outside path status (Err fault.TooLong) =
     HasStopped outside status ReadFault
-    × IfSome outside.told (λ files. HasMore (files path) 4194304)
+    × IfSome outside.told (λ files. HasMore (files path) GRID_BYTES)
 FileSo outside path status (Err fault.Memory) = HasStopped outside status Memory
 
 -- the one file was asked for

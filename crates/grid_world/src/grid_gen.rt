@@ -1,11 +1,11 @@
 //! The generator in the process.
-ghost use Rattle.std.specs.Prelude.{◌≡◌, ℕ, ◌<◌, ◌≤◌, List, None, Some, codes, false, is_ok, length, map, option_map, string_bytes, take, true, IfErr, IfOk, IsErrOf, MatchOption, MatchResult, OnOk};
+ghost use Rattle.std.specs.Prelude.{◌≡◌, ◌+◌, ℕ, ◌<◌, ◌≤◌, List, ◌++◌, None, Some, codes, false, is_ok, length, map, min, option_map, string_bytes, take, true, IfErr, IfOk, IsErrOf, MatchOption, MatchResult, OnErr, OnOk};
 ghost use Rattle.std.specs.Str.{bytes_eq};
-ghost use Rattle.io_world.specs.Faults.{last_count, HasCause, Rose};
+ghost use Rattle.io_world.specs.Faults.{last_count, Counts, HasCause};
 ghost use Rattle.io_world.specs.Talks.{Talk, heard_more, silence, wrote_more};
 ghost use Rattle.io_world.specs.declared.host.HostFault.TheVariants.{Failed, Memory};
 ghost use Rattle.grid_world.specs.Generators as specs;
-ghost use Rattle.grid_world.specs.Sessions.{is_session_running, talk_of};
+ghost use Rattle.grid_world.specs.Sessions.{SessionState, is_session_running, talk_of};
 
 use crate::talk::Session;
 use gen_host::Generator;
@@ -53,7 +53,7 @@ impl GridGen {
         ensures fault { result ≡ Failed }
         ensures session { self.new.session ≡ self.old.session }
         ensures later { self.old.faults ≤ self.new.faults }
-        ensures count { Rose last_count self.old.faults self.new.faults }
+        ensures count { self.new.faults ≡ min (self.old.faults + 1) last_count }
     {
         self.faults.raise();
         HostFault::Failed
@@ -81,6 +81,8 @@ impl Generator for GridGen {
         ensures starts { OnOk result
             (specs.StartsGrid (map string_bytes argv.now) self.new.session) }
         ensures refused { IsErrOf result Failed → specs.RefusesStart (map string_bytes argv.now) }
+        ensures kept { OnErr result (self.new.session ≡ self.old.session) }
+        ensures counts { Counts Failed last_count self.old.faults self.new.faults result }
     {
         let Some(text) = grid_text_in(argv) else {
             return Err(self.failed());
@@ -107,6 +109,11 @@ impl Generator for GridGen {
             (λ _. Some (talk_of self.new.session) ≡ Some (talk_of self.old.session)) }
         ensures cause { HasCause Failed last_count self.old.faults self.new.faults result }
         ensures all { IfOk result (λ n. n ≡ length bytes.now) }
+        ensures sent { OnOk result (self.new ≡ record self.old {
+          session = option_map
+              (λ (s : SessionState). record s { written = s.written ++ bytes.now })
+              self.old.session;
+        }) }
         ensures memory { IfErr result (λ fault. (fault ≡ Memory) × (self.new ≡ self.old)) }
     {
         let Some(session) = &mut self.session else {
@@ -131,6 +138,12 @@ impl Generator for GridGen {
         ensures cause { HasCause Failed last_count self.old.faults self.new.faults result }
         ensures failed { IfErr result (λ fault. (fault ≡ Failed)
             × specs.NothingLeft self.old.session) }
+        ensures given { IfOk result (λ n. self.new ≡ record self.old {
+          session = option_map
+              (λ (s : SessionState). record s { given = s.given + n }) self.old.session;
+        }) }
+        ensures kept { OnErr result (self.new.session ≡ self.old.session) }
+        ensures counts { Counts Failed last_count self.old.faults self.new.faults result }
     {
         let Some(session) = &mut self.session else {
             unreachable!()
@@ -147,6 +160,10 @@ impl Generator for GridGen {
         ensures spoken { Some (talk_of self.new.session) ≡ Some (talk_of self.old.session) }
         ensures cause { HasCause Failed last_count self.old.faults self.new.faults result }
         ensures sure { is_ok result ≡ true }
+        ensures stopped { self.new ≡ record self.old {
+          session = option_map
+              (λ (s : SessionState). record s { running = false }) self.old.session;
+        } }
     {
         if let Some(session) = &mut self.session {
             session.stop();

@@ -80,6 +80,7 @@ impl Held {
     pub(crate) fn fill<S: Source>(&mut self, source: &mut S) -> Filled
         ensures came { Came (S.left source.old) (S.left source.new) self.old self.new }
         ensures so { FillsSo self.new (S.left source.new) result }
+        ensures few { length self.new ≤ HELD_BYTES }
         ensures cause { IsCaused (S.faults source.old) (S.faults source.new) result }
     {
         'reads: loop {

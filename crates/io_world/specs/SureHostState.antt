@@ -26,15 +26,16 @@ runs children child = (child_of children child).running
 
 -- A call on a child is refused only for want of memory. It leaves the function and the other children as they were and,
 -- where it is done, the log as whole as before.
-pub record ServesCall {A T : Type 0} (child : ℕ) (old new : SureHostState A) (result : Result T HostFault) : Type 0 where
+pub record ServesCall {A T : Type 0} (child : ℕ) (old new : SureHostState A) (result : Result T HostFault)
+    : Type 0 where
   pub sure : IfErr result (λ fault. fault ≡ Memory)
   pub others : (k : ℕ) → k ≢ child → child_of new.children k ≡ child_of old.children k
   pub whole : OnOk result (new.calls.whole ≡ old.calls.whole)
   pub answers : new.answers ≡ old.answers
 
 -- A child that is written to takes all of these bytes and answers each request that became whole, or is as it was.
-pub record TakesRequests (answers : List ℕ → List ℕ) (bytes : List ℕ) (old new : SureChild) (result : Result ℕ HostFault)
-    : Type 0 where
+pub record TakesRequests (answers : List ℕ → List ℕ) (bytes : List ℕ) (old new : SureChild)
+    (result : Result ℕ HostFault) : Type 0 where
   pub all : IfOk result (λ n. n ≡ length bytes)
   pub replies : OnOk result (Replies answers bytes old.reply new.reply)
   pub kept : OnErr result (new ≡ old)

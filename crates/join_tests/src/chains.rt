@@ -42,7 +42,7 @@ fn an_action_over_a_chain_has_997_tuples(rt: HostRuntime) -> Result<(), Fail> {
     let alloc = rt.alloc();
     let task = chained(alloc)?;
     let facts = Box::new(alloc, Facts::new(alloc, &task)?)?;
-    let state = initial(alloc, &task)?;
+    let state = Box::new(alloc, initial(alloc, &task)?)?;
     let steps = applicable(alloc, &task, &*facts, &state)?;
     assert_eq!(rt; steps.len(), 997);
     Ok(())

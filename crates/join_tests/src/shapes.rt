@@ -1,13 +1,15 @@
 //! Streams and actions whose atoms share variables, or have one twice, a constant, none in common,
 //! or no atoms.
+ghost use Rattle.task_model.specs.Fit.{IsFit};
+
 use fact_store::Facts;
 use grounder::{Candidates, applicable};
-use instance_queue::Queue;
+use instance_queue::{Due, Queue};
 use plan_check::initial;
-use std::alloc::Global;
+use std::alloc::{AllocError, Global};
 use std::process::Abort;
 use std::test::Fail;
-use task_model::{GroundAction, Obj};
+use task_model::{GroundAction, Obj, State, Task};
 use worked_tasks::{Texts, task};
 
 /// The edges o1 to o2, o2 to o2 and o2 to o3; o3 is marked; o1 and o2 have the type `spot`, below
@@ -33,7 +35,9 @@ const EDGES: Texts<'static> = Texts {
 };
 
 /// What is found, by the place of the stream or the action, and the objects.
-const FOUND: [(u32, &[u32]); 9] = [
+type Row = (u32, &'static [u32]);
+
+const FOUND: [Row; 9] = [
     (0, &[1, 2, 2]),
     (0, &[1, 2, 3]),
     (0, &[2, 2, 2]),
@@ -46,12 +50,36 @@ const FOUND: [(u32, &[u32]); 9] = [
 ];
 
 /// The objects by their places.
-fn places(alloc: Global, objects: &[Obj]) -> Result<Vec<u32>, Fail> {
+fn places(alloc: Global, objects: &[Obj]) -> Result<Vec<u32>, AllocError> {
     let mut places = Vec::new(alloc);
     for object in objects {
         places.push(object.place())?;
     }
     Ok(places)
+}
+
+/// Asserts that this is found: the stream or the action of this place, with these objects.
+fn check_found(
+    rt: &impl Abort,
+    alloc: Global,
+    number: u32,
+    objects: &[Obj],
+    want: &Row,
+) -> Result<(), Fail> {
+    let places = places(alloc, objects)?;
+    assert_eq!(rt; number, want.0);
+    assert_eq!(rt; places.as_slice(), want.1);
+    Ok(())
+}
+
+/// Asserts that these are the instances that are to be found.
+fn check_dues(rt: &impl Abort, alloc: Global, dues: &[Due]) -> Result<(), Fail> {
+    assert_eq!(rt; dues.len(), FOUND.len());
+    for (due, want) in dues.iter().zip(FOUND.iter()) {
+        let instance = &due.instance;
+        check_found(rt, alloc, instance.stream, instance.inputs.as_slice(), want)?;
+    }
+    Ok(())
 }
 
 #[test]
@@ -61,23 +89,14 @@ fn a_level_has_each_instance_once(rt: HostRuntime) -> Result<(), Fail> {
     let facts = Box::new(alloc, Facts::new(alloc, &task)?)?;
     let queue = Box::new(alloc, Queue::new(alloc, &task)?)?;
     let dues = queue.next_level(&task, &facts)?;
-    assert_eq!(rt; dues.len(), FOUND.len());
-    for (due, want) in dues.iter().zip(FOUND) {
-        assert_eq!(rt; due.instance.stream, want.0);
-        assert_eq!(rt;
-            places(alloc, due.instance.inputs.as_slice())?.as_slice(),
-            want.1
-        );
-    }
-    Ok(())
+    check_dues(&rt, alloc, dues.as_slice())
 }
 
 /// Asserts that these are the steps that are to be found.
 fn check_steps(rt: &impl Abort, alloc: Global, steps: &[GroundAction]) -> Result<(), Fail> {
     assert_eq!(rt; steps.len(), FOUND.len());
-    for (step, want) in steps.iter().zip(FOUND) {
-        assert_eq!(rt; step.action, want.0);
-        assert_eq!(rt; places(alloc, step.args.as_slice())?.as_slice(), want.1);
+    for (step, want) in steps.iter().zip(FOUND.iter()) {
+        check_found(rt, alloc, step.action, step.args.as_slice(), want)?;
     }
     Ok(())
 }
@@ -87,9 +106,25 @@ fn an_action_has_each_tuple_once(rt: HostRuntime) -> Result<(), Fail> {
     let alloc = rt.alloc();
     let task = task(alloc, &EDGES)?;
     let facts = Box::new(alloc, Facts::new(alloc, &task)?)?;
-    let state = initial(alloc, &task)?;
+    let state = Box::new(alloc, initial(alloc, &task)?)?;
     let steps = applicable(alloc, &task, &*facts, &state)?;
     check_steps(&rt, alloc, steps.as_slice())
+}
+
+/// Asserts that these steps are found where so many candidates may be kept.
+fn check_candidates(
+    rt: &impl Abort,
+    alloc: Global,
+    task: &Task,
+    facts: &Facts,
+    state: &State,
+    most: usize,
+) -> Result<(), Fail>
+    requires { IsFit task.now }
+{
+    let candidates = Candidates::new(alloc, task, facts, most)?;
+    let steps = candidates.applicable(alloc, task, facts, state)?;
+    check_steps(rt, alloc, steps.as_slice())
 }
 
 #[test]
@@ -97,13 +132,10 @@ fn candidates_give_the_same_steps_however_many_are_kept(rt: HostRuntime) -> Resu
     let alloc = rt.alloc();
     let task = task(alloc, &EDGES)?;
     let facts = Box::new(alloc, Facts::new(alloc, &task)?)?;
-    let state = initial(alloc, &task)?;
-    for most in [100, 6, 0] {
-        let candidates = Candidates::new(alloc, &task, &*facts, most)?;
-        let steps = candidates.applicable(alloc, &task, &*facts, &state)?;
-        check_steps(&rt, alloc, steps.as_slice())?;
-    }
-    Ok(())
+    let state = Box::new(alloc, initial(alloc, &task)?)?;
+    check_candidates(&rt, alloc, &task, &facts, &state, 100)?;
+    check_candidates(&rt, alloc, &task, &facts, &state, 6)?;
+    check_candidates(&rt, alloc, &task, &facts, &state, 0)
 }
 
 /// How many candidates are kept of each action where 6 may be: of `path`, `loop` and `both` all;
@@ -111,12 +143,8 @@ fn candidates_give_the_same_steps_however_many_are_kept(rt: HostRuntime) -> Resu
 /// there.
 const KEPT: [Option<usize>; 6] = [Some(4), Some(1), Some(1), None, Some(0), None];
 
-#[test]
-fn candidates_are_kept_up_to_the_most(rt: HostRuntime) -> Result<(), Fail> {
-    let alloc = rt.alloc();
-    let task = task(alloc, &EDGES)?;
-    let facts = Box::new(alloc, Facts::new(alloc, &task)?)?;
-    let candidates = Candidates::new(alloc, &task, &*facts, 6)?;
+/// How many are kept of each action.
+fn kept(alloc: Global, candidates: &Candidates) -> Result<Vec<Option<usize>>, AllocError> {
     let mut kept = Vec::new(alloc);
     for rows in candidates.actions.as_slice() {
         kept.push(match rows {
@@ -124,6 +152,16 @@ fn candidates_are_kept_up_to_the_most(rt: HostRuntime) -> Result<(), Fail> {
             None => None,
         })?;
     }
+    Ok(kept)
+}
+
+#[test]
+fn candidates_are_kept_up_to_the_most(rt: HostRuntime) -> Result<(), Fail> {
+    let alloc = rt.alloc();
+    let task = task(alloc, &EDGES)?;
+    let facts = Box::new(alloc, Facts::new(alloc, &task)?)?;
+    let candidates = Candidates::new(alloc, &task, &*facts, 6)?;
+    let kept = kept(alloc, &candidates)?;
     assert_eq!(rt; kept.as_slice(), KEPT.as_slice());
     Ok(())
 }

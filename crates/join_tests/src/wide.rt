@@ -1,11 +1,12 @@
 //! Streams of eight inputs, actions of sixteen parameters, and types with many supertypes.
 use fact_store::Facts;
 use grounder::applicable;
-use instance_queue::Queue;
+use instance_queue::{Due, Queue};
 use plan_check::initial;
 use std::alloc::{AllocError, Global};
+use std::fmt::Write;
 use std::test::Fail;
-use task_model::Obj;
+use task_model::{GroundAction, Obj};
 use worked_tasks::{Texts, task};
 
 /// A chain of ten objects, three rows of eight, two marks, and what leads from and to the constant
@@ -184,18 +185,32 @@ const TYPED_STEPS: &str = "0 q
 /// Adds a line of a number and the names of objects, which are letters by their places; `-` where
 /// there is none.
 fn push_line(
-    alloc: Global,
     text: &mut String,
     number: u32,
     objects: &[Obj],
     names: &str,
 ) -> Result<(), AllocError> {
-    text.push_str(format!(in alloc; "{number} ")?.as_str())?;
+    write!(text, "{number} ")?;
     for object in objects {
         let name = names.as_bytes().get(object.place() as usize);
         text.push(name.copied().unwrap_or(b'?') as char)?;
     }
     text.push_str(if objects.is_empty() { "-\n" } else { "\n" })
+}
+
+/// Instances, a line each.
+fn due_lines(alloc: Global, dues: &[Due], names: &str) -> Result<String, Fail> {
+    let mut text = String::new(alloc);
+    for due in dues {
+        let instance = &due.instance;
+        push_line(
+            &mut text,
+            instance.stream,
+            instance.inputs.as_slice(),
+            names,
+        )?;
+    }
+    Ok(text)
 }
 
 /// The instances of the first level, a line each.
@@ -204,10 +219,14 @@ fn level(alloc: Global, texts: &Texts<'_>, names: &str) -> Result<String, Fail> 
     let facts = Box::new(alloc, Facts::new(alloc, &task)?)?;
     let queue = Box::new(alloc, Queue::new(alloc, &task)?)?;
     let dues = queue.next_level(&task, &facts)?;
+    due_lines(alloc, dues.as_slice(), names)
+}
+
+/// Steps, a line each.
+fn step_lines(alloc: Global, steps: &[GroundAction], names: &str) -> Result<String, Fail> {
     let mut text = String::new(alloc);
-    for due in dues.iter() {
-        let inputs = due.instance.inputs.as_slice();
-        push_line(alloc, &mut text, due.instance.stream, inputs, names)?;
+    for step in steps {
+        push_line(&mut text, step.action, step.args.as_slice(), names)?;
     }
     Ok(text)
 }
@@ -216,13 +235,9 @@ fn level(alloc: Global, texts: &Texts<'_>, names: &str) -> Result<String, Fail> 
 fn steps(alloc: Global, texts: &Texts<'_>, names: &str) -> Result<String, Fail> {
     let task = task(alloc, texts)?;
     let facts = Box::new(alloc, Facts::new(alloc, &task)?)?;
-    let state = initial(alloc, &task)?;
+    let state = Box::new(alloc, initial(alloc, &task)?)?;
     let steps = applicable(alloc, &task, &*facts, &state)?;
-    let mut text = String::new(alloc);
-    for step in steps.iter() {
-        push_line(alloc, &mut text, step.action, step.args.as_slice(), names)?;
-    }
-    Ok(text)
+    step_lines(alloc, steps.as_slice(), names)
 }
 
 #[test]

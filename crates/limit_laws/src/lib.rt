@@ -1,14 +1,17 @@
-//! The limits have the values that the documents tell. Contracts cite a limit by its name, so that
-//! no clause of theirs fixes its value; this law does.
+//! The limits have the values that the documents tell, and the grid's tasks the texts. Contracts
+//! cite a constant by its name, so that no clause of theirs fixes its value; these laws do.
 #![tactic(auto)]
 
 ghost use Rattle.command_line.specs.declared.number.TheConstants.{DEFAULT_CALLS, DEFAULT_DEPTH, DEFAULT_STATES};
 ghost use Rattle.fact_store.specs.declared.facts.TheConstants.{MOST_NAMES};
 ghost use Rattle.gen_lines.specs.declared.line_buf.TheConstants.{LINE_BYTES};
 ghost use Rattle.gen_lines.specs.declared.values.TheConstants.{VALUE_BYTES};
+ghost use Rattle.grid_text.specs.Tasks.{grid_task};
+ghost use Rattle.grid_world.specs.declared.service.TheConstants.{MOST_LINES};
 ghost use Rattle.io_world.specs.declared.host.TheConstants.{CHILDREN};
+ghost use Rattle.limit_laws.specs.GridTexts.{grid_domain, grid_streams};
 ghost use Rattle.report_reader.specs.declared.reader.TheConstants.{REPORT_BYTES};
-ghost use Rattle.std.specs.Prelude.{◌≡◌, ◌*◌, ◌^◌};
+ghost use Rattle.std.specs.Prelude.{ℕ, ◌≡◌, ◌*◌, ◌^◌};
 ghost use Rattle.task_model.specs.declared.limits.TheConstants.{LARGEST_NUMBER, MOST_DUE, MOST_STATES};
 ghost use Rattle.task_reader.specs.declared.texts.TheConstants.{TEXT_BYTES};
 ghost use Rattle.transcript_model.specs.declared.limits.TheConstants.{MOST_CALLS, MOST_DEPTH, WORKERS};
@@ -16,7 +19,7 @@ ghost use Rattle.transcript_model.specs.declared.limits.TheConstants.{MOST_CALLS
 /// Costs and values are at most 1,000,000, and as many instances may be due; a search goes through
 /// at most 200,000 states; a run makes at most 100,000 requests, of pools with at most 16 workers
 /// and children below 17; entries are supposed at most 8 deep; a value has at most 64 bytes, and
-/// fewer than 2^32 - 2^18 objects have names.
+/// fewer than 2^32 - 2^18 objects have names. The grid's program answers at most 100,000 lines.
 pub fn limits_have_their_values()
     ensures numbers { LARGEST_NUMBER ≡ 1000000 }
     ensures due { MOST_DUE ≡ 1000000 }
@@ -27,6 +30,7 @@ pub fn limits_have_their_values()
     ensures children { CHILDREN ≡ 17 }
     ensures value { VALUE_BYTES ≡ 64 }
     ensures names { MOST_NAMES ≡ 4294705152 }
+    ensures lines { MOST_LINES ≡ 100000 }
 {}
 
 /// Where the words name no limit, a run makes at most 10,000 requests, a search goes through at
@@ -43,4 +47,10 @@ pub fn lengths_have_their_values()
     ensures texts { TEXT_BYTES ≡ 4 * 2 ^ 20 }
     ensures reports { REPORT_BYTES ≡ 256 * 2 ^ 20 }
     ensures lines { LINE_BYTES ≡ 1025 }
+{}
+
+/// The task of the grid of each number has this domain and these streams.
+pub fn grid_tasks_have_these_texts()
+    ensures domain { (number : ℕ) → (grid_task number).domain ≡ grid_domain }
+    ensures streams { (number : ℕ) → (grid_task number).streams ≡ grid_streams }
 {}

@@ -10,40 +10,52 @@ fn name(alloc: Global, text: &str) -> Result<Name, AllocError> {
     Ok(Name::new(Vec::from_slice(alloc, text.as_bytes())?))
 }
 
-fn domain(alloc: Global) -> Result<Domain, AllocError> {
-    let mut sorts = Vec::new(alloc);
-    sorts.push(Sort {
-        name: name(alloc, "object")?,
+/// The type `object` alone.
+fn sorts(alloc: Global) -> Result<Seq<Sort>, AllocError> {
+    let name = name(alloc, "object")?;
+    let sort = Sort {
+        name,
         above: none(alloc),
-    })?;
-    Ok(Domain {
-        name: name(alloc, "d")?,
-        sorts: Seq::from_vec(sorts),
+    };
+    Ok(Seq::from_vec(vec![in alloc; sort]?))
+}
+
+fn domain(alloc: Global) -> Result<Box<Domain>, AllocError> {
+    let sorts = sorts(alloc)?;
+    let name = name(alloc, "d")?;
+    let domain = Domain {
+        name,
+        sorts,
         predicates: none(alloc),
         functions: none(alloc),
         constants: none(alloc),
         derived: none(alloc),
         actions: none(alloc),
         roles: none(alloc),
-    })
+    };
+    Ok(Box::new(alloc, domain)?)
 }
 
-fn problem(alloc: Global) -> Result<Problem, AllocError> {
-    Ok(Problem {
-        name: name(alloc, "p")?,
+fn problem(alloc: Global) -> Result<Box<Problem>, AllocError> {
+    let name = name(alloc, "p")?;
+    let goal = Formula {
+        node: FormulaNode::All(Vec::new(alloc)),
+    };
+    let problem = Problem {
+        name,
         objects: none(alloc),
         init: none(alloc),
         values: none(alloc),
-        goal: Formula {
-            node: FormulaNode::All(Vec::new(alloc)),
-        },
+        goal,
         metric: false,
-    })
+    };
+    Ok(Box::new(alloc, problem)?)
 }
 
 fn stream(alloc: Global, text: &str) -> Result<Stream, AllocError> {
+    let name = name(alloc, text)?;
     Ok(Stream {
-        name: name(alloc, text)?,
+        name,
         inputs: none(alloc),
         outputs: none(alloc),
         domain: none(alloc),
@@ -52,20 +64,26 @@ fn stream(alloc: Global, text: &str) -> Result<Stream, AllocError> {
     })
 }
 
-/// The task of streams with these names, which are parted by spaces.
-pub(crate) fn task_of(alloc: Global, names: &str) -> Result<Box<Task>, AllocError> {
+/// Streams with these names, which are parted by spaces.
+fn streams(alloc: Global, names: &str) -> Result<Seq<Stream>, AllocError> {
     let mut streams = Vec::new(alloc);
     for text in names.split(' ') {
         if !text.is_empty() {
             streams.push(stream(alloc, text)?)?;
         }
     }
+    Ok(Seq::from_vec(streams))
+}
+
+/// The task of streams with these names, which are parted by spaces.
+pub(crate) fn task_of(alloc: Global, names: &str) -> Result<Box<Task>, AllocError> {
     let domain = domain(alloc)?;
     let problem = problem(alloc)?;
+    let streams = streams(alloc, names)?;
     let task = Task {
-        domain,
-        problem,
-        streams: Seq::from_vec(streams),
+        domain: Box::into_inner(domain),
+        problem: Box::into_inner(problem),
+        streams,
     };
     Ok(Box::new(alloc, task)?)
 }

@@ -2,7 +2,7 @@
 use crate::rows::told;
 use crate::tasks::task_of;
 use fit_check::is_fit;
-use std::alloc::Global;
+use std::alloc::{AllocError, Global};
 use std::process::Abort;
 use std::test::Fail;
 use stream_map::one_pool;
@@ -45,32 +45,53 @@ fn told_of(alloc: Global, streams: &str, words: &[String], workers: u8) -> Resul
     told(alloc, &task, &one_pool(alloc, &task, words, workers))
 }
 
+/// The words of a line.
+fn words_in(alloc: Global, line: &str) -> Result<Vec<String>, AllocError> {
+    let mut words = Vec::new(alloc);
+    for word in line.split(' ') {
+        if !word.is_empty() {
+            words.push(String::from_str(alloc, if word == "_" { "" } else { word })?)?;
+        }
+    }
+    Ok(words)
+}
+
+/// What the words of a line give.
+fn told_line(alloc: Global, streams: &str, line: &str, workers: u8) -> Result<String, Fail> {
+    let words = words_in(alloc, line)?;
+    told_of(alloc, streams, words.as_slice(), workers)
+}
+
 fn check_rows(rt: &impl Abort, alloc: Global, rows: &[Row]) -> Result<(), Fail> {
     for (streams, line, workers, wanted) in rows {
-        let mut words = Vec::new(alloc);
-        for word in line.split(' ') {
-            if !word.is_empty() {
-                words.push(String::from_str(alloc, if word == "_" { "" } else { word })?)?;
-            }
-        }
-        let got = told_of(alloc, streams, words.as_slice(), *workers)?;
+        let got = told_line(alloc, streams, line, *workers)?;
         assert!(rt; got.as_str() == *wanted, "{line} {workers}: {got}");
     }
     Ok(())
+}
+
+/// So many words, each of them `w`.
+fn same_words(alloc: Global, count: u32) -> Result<Vec<String>, AllocError> {
+    let mut words = Vec::new(alloc);
+    for _ in 0..count {
+        words.push(String::from_str(alloc, "w")?)?;
+    }
+    Ok(words)
+}
+
+/// What so many words give, each of them `w`.
+fn told_same(alloc: Global, count: u32) -> Result<String, Fail> {
+    let words = same_words(alloc, count)?;
+    told_of(alloc, "place", words.as_slice(), 1)
 }
 
 #[test]
 fn words_give_a_pool_or_their_first_fault(rt: HostRuntime) -> Result<(), Fail> {
     let alloc = rt.alloc();
     check_rows(&rt, alloc, &WORDS)?;
-    let mut words = Vec::new(alloc);
-    for _ in 0..64 {
-        words.push(String::from_str(alloc, "w")?)?;
-    }
-    let most = told_of(alloc, "place", words.as_slice(), 1)?;
+    let most = told_same(alloc, 64)?;
     assert!(rt; most.as_str().starts_with("0 1 place : w w w"));
-    words.push(String::from_str(alloc, "w")?)?;
-    let more = told_of(alloc, "place", words.as_slice(), 1)?;
+    let more = told_same(alloc, 65)?;
     assert!(rt; more.as_str() == "shape");
     Ok(())
 }

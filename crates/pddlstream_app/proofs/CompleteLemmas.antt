@@ -122,7 +122,7 @@ plain_ends : {words : List (List ℕ)} {outside : Outside} {status : Status} {te
 plain_ends answers end given h known_end is = record {
   run = h.run;
   plain = λ mode.
-      let p = h.tabled.plain answers (given.said h.run h.talks) mode known_end in
+      let p = h.tabled.plain answers (given.said h.run h.outcome h.turns h.talks) mode known_end in
       let both : Some p.end ≡ Some end = sym p.ends ∙ is in
       let same : p.end ≡ end = cc in
       (p.plain, subst (IsPlainRun h.run.task answers h.run.head.calls [] p.plain) same p.run);
@@ -138,7 +138,7 @@ outcome_settles answers given h outcome.NoPlan is =
     plain_ends answers no_plan given h
     (λ far. absurd (let no : outcome.NoPlan ≡ outcome.Limit States = sym is ∙ far in cc)) (ap end_of is)
 outcome_settles answers given h (outcome.Limit kind) is =
-    absurd (subst IsSettledOutcome is (h.tabled.settled answers (given.said h.run h.talks) (given.few h.run)))
+    absurd (subst IsSettledOutcome is (h.tabled.settled answers (given.said h.run h.outcome h.turns h.talks) (given.few h.run)))
 
 module _ {words : List (List ℕ)} {outside : Outside} {host_rose sink_rose : Type 0}
     (well : GoesWell words outside host_rose sink_rose) where

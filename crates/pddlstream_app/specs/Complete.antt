@@ -2,6 +2,7 @@
 use Rattle.std.specs.Prelude.{◌≡◌, ℕ, List, [], Option, Some, ⊤}
 use Rattle.gen_lines.specs.declared.answer.Why.{Why}
 use Rattle.io_world.specs.FileMap.{FileMap}
+use Rattle.level_run.specs.Reports.{IsRun}
 use Rattle.round_run.specs.Dialogue.{Dialogue, workers_in}
 use Rattle.table_runs.specs.Asking.{AnsweredBy}
 use Rattle.task_model.specs.declared.task.Task.{Task}
@@ -10,6 +11,7 @@ use Rattle.transcript_model.specs.Tables.{Answers, IsBounded}
 use Rattle.transcript_model.specs.declared.entry.Entry.{Entry}
 use Rattle.transcript_model.specs.declared.head.Mode.TheVariants.{Incremental}
 use Rattle.transcript_model.specs.declared.head.Pool.{Pool}
+use Rattle.transcript_model.specs.declared.outcome.Outcome.{Outcome}
 use Rattle.command_line.specs.Words.{SolveWords, command_of, solve}
 use Rattle.pddlstream_app.specs.Heads.{AreServed}
 use Rattle.pddlstream_app.specs.Inputs.{IsTaskOf}
@@ -40,11 +42,11 @@ pub record GoesWell (words : List (List ℕ)) (outside : Outside) (host_rose sin
   pub written : ¬ sink_rose
   pub answered : OnlyAnswers words outside
 
--- Answers, as those of a table, and whichever run's dialogue it was that was said with the children: each child that
--- was asked answered so, and every transcript that agrees with the answers stays within the limits of calls and of
--- states.
+-- Answers, as those of a table. Whichever run with an outcome it was whose dialogue was said with the children, each
+-- child that was asked in it answered so; and every transcript that agrees with the answers stays within the limits of
+-- calls and of states.
 pub record AreGivenAnswers (words : List (List ℕ)) (outside : Outside) (answers : Answers) : Type 0 where
-  pub said : (run : ProgramRun words outside.files.told)
+  pub said : (run : ProgramRun words outside.files.told) (o : Outcome) → IsRun run.task run.head run.entries o
       → Dialogue run.task run.head.version (workers_in run.head) run.entries outside.spoken
       → AnsweredBy run.head.version run.task (workers_in run.head) answers run.entries outside.spoken
   pub few : (run : ProgramRun words outside.files.told)

@@ -175,6 +175,50 @@ fn ask_level(
     Ok(level)
 }
 
+/// Asks for these, takes the answers and adds the level.
+fn add_level(
+    alloc: Global,
+    state: &mut State,
+    table: &Table,
+    calls: &[Call],
+    levels: &mut Vec<Vec<Asked>>,
+) -> Result<(), AllocError> {
+    let level = ask_level(alloc, state, table, calls)?;
+    for asked in &level {
+        state.take(asked);
+    }
+    levels.push(level)?;
+    Ok(())
+}
+
+/// Adds the next level, if the run goes on, with at most as many requests as calls are left.
+/// Answers how the run ends, where it ends here.
+fn step(
+    alloc: Global,
+    state: &mut State,
+    table: &Table,
+    left: &mut usize,
+    levels: &mut Vec<Vec<Asked>>,
+) -> Result<Option<End>, AllocError> {
+    if state.is_solved(table.goal) {
+        return Ok(Some(End::Plan));
+    }
+    let due = state.due(alloc)?;
+    if due.is_empty() {
+        return Ok(Some(End::NoPlan));
+    }
+    if *left == 0 {
+        return Ok(Some(End::Calls));
+    }
+    let some = due.get(..*left).unwrap_or(due.as_slice());
+    add_level(alloc, state, table, some, levels)?;
+    if *left < due.len() {
+        return Ok(Some(End::Calls));
+    }
+    *left = left.saturating_sub(due.len());
+    Ok(None)
+}
+
 /// The levels of the plain run over the table, and how it ends. It has at most 16, since each but
 /// the last makes or ends something.
 pub fn plain_run(alloc: Global, table: &Table) -> Result<(Vec<Vec<Asked>>, End), AllocError> {
@@ -182,26 +226,9 @@ pub fn plain_run(alloc: Global, table: &Table) -> Result<(Vec<Vec<Asked>>, End),
     let mut levels = Vec::new(alloc);
     let mut left = table.calls;
     for _ in 0..16 {
-        if state.is_solved(table.goal) {
-            return Ok((levels, End::Plan));
+        if let Some(end) = step(alloc, &mut state, table, &mut left, &mut levels)? {
+            return Ok((levels, end));
         }
-        let due = state.due(alloc)?;
-        if due.is_empty() {
-            return Ok((levels, End::NoPlan));
-        }
-        if left == 0 {
-            break;
-        }
-        let some = due.get(..left).unwrap_or(due.as_slice());
-        let level = ask_level(alloc, &state, table, some)?;
-        for asked in &level {
-            state.take(asked);
-        }
-        levels.push(level)?;
-        if left < due.len() {
-            break;
-        }
-        left = left.saturating_sub(due.len());
     }
     Ok((levels, End::Calls))
 }

@@ -45,12 +45,27 @@ fn put(
     }
 }
 
+/// Whether a fact about the object of this number is known.
+fn has(
+    alloc: Global,
+    facts: &Facts,
+    kind: Kind,
+    name: u32,
+    object: u32,
+) -> Result<bool, AllocError> {
+    let fact = fact(alloc, kind, name, Obj::new(object))?;
+    Ok(facts.has(&fact))
+}
+
+/// Names that are given one after another, each with its number.
+const NAMED: [(&[u8], u32); 3] = [(b"cup", 0), (b"#v", 1), (b"cup", 0)];
+
 #[test]
 fn names_have_numbers(rt: HostRuntime) -> Result<(), Fail> {
     let mut facts = no_objects(rt.alloc())?;
-    assert_eq!(rt; named(&mut facts, rt.alloc(), b"cup")?, 0);
-    assert_eq!(rt; named(&mut facts, rt.alloc(), b"#v")?, 1);
-    assert_eq!(rt; named(&mut facts, rt.alloc(), b"cup")?, 0);
+    for (text, number) in &NAMED {
+        assert_eq!(rt; named(&mut facts, rt.alloc(), text)?, *number);
+    }
     Ok(())
 }
 
@@ -60,8 +75,8 @@ fn facts_are_found(rt: HostRuntime) -> Result<(), Fail> {
     named(&mut facts, rt.alloc(), b"cup")?;
     named(&mut facts, rt.alloc(), b"#v")?;
     put(&mut facts, rt.alloc(), Kind::Predicate, 4, b"#v")?;
-    assert!(rt; facts.has(&fact(rt.alloc(), Kind::Predicate, 4, Obj::new(1))?));
-    assert!(rt; !facts.has(&fact(rt.alloc(), Kind::Sort, 4, Obj::new(1))?));
+    assert!(rt; has(rt.alloc(), &facts, Kind::Predicate, 4, 1)?);
+    assert!(rt; !has(rt.alloc(), &facts, Kind::Sort, 4, 1)?);
     assert_eq!(rt; facts.matches(4, 1, Obj::new(1)), 0);
     assert_eq!(rt; facts.matches(4, 0, Obj::new(1)), 1);
     Ok(())

@@ -9,7 +9,7 @@ use formula_memo::{Memo, holds_memo, holds_once};
 use plan_check::initial;
 use std::alloc::{AllocError, Global};
 use std::test::Fail;
-use task_model::{Fact, Kind, Name, Row, Task};
+use task_model::{Fact, Kind, Name, Row, State, Task};
 use worked_tasks::{Texts, task};
 
 /// Of the predicates, (seen ?x) alone is static: (found) where some ?x is seen, (hidden) where
@@ -53,27 +53,34 @@ fn generate(facts: &mut Facts, alloc: Global) -> Result<(), AllocError>
     Ok(())
 }
 
-/// Whether the goal is true in the initial state, as every judge says. Where two of them differ,
-/// this fails.
-fn is_true(alloc: Global, task: &Task, facts: &Facts) -> Result<bool, AllocError>
+/// Whether the goal is true in the state, as every judge says. Where two of them differ, this
+/// fails.
+fn is_true_in(alloc: Global, task: &Task, facts: &Facts, state: &State) -> Result<bool, AllocError>
     requires { IsFit task.now }
 {
-    let state = initial(alloc, task)?;
     let goal = &task.problem.goal;
     let mut env = Env::new(&[]);
     let mut memo = Memo::new(alloc)?;
-    let remembered = holds_memo(task, facts, &state, &mut memo, goal, &mut env)?;
+    let remembered = holds_memo(task, facts, state, &mut memo, goal, &mut env)?;
     memo.clear();
-    let anew = holds_memo(task, facts, &state, &mut memo, goal, &mut env)?;
-    let plain = holds(task, facts, &state, goal, &mut env);
+    let anew = holds_memo(task, facts, state, &mut memo, goal, &mut env)?;
+    let plain = holds(task, facts, state, goal, &mut env);
     if remembered == plain
         && anew == plain
-        && holds_once(task, facts, &state, goal, &mut env) == plain
+        && holds_once(task, facts, state, goal, &mut env) == plain
     {
         Ok(plain)
     } else {
         Err(AllocError)
     }
+}
+
+/// The same in the initial state.
+fn is_true(alloc: Global, task: &Task, facts: &Facts) -> Result<bool, AllocError>
+    requires { IsFit task.now }
+{
+    let state = Box::new(alloc, initial(alloc, task)?)?;
+    is_true_in(alloc, task, facts, &state)
 }
 
 /// Whether the goal is true at first, and whether it is where `#v` is known too.
@@ -142,8 +149,8 @@ const GOALS: [(&str, (bool, bool)); 6] = [
 
 #[test]
 fn truth_is_judged_over_generated_objects_too(rt: HostRuntime) -> Result<(), Fail> {
-    for (problem, want) in GOALS {
-        assert_eq!(rt; judged(rt.alloc(), problem)?, want);
+    for (problem, want) in &GOALS {
+        assert_eq!(rt; judged(rt.alloc(), problem)?, *want);
     }
     Ok(())
 }

@@ -46,25 +46,34 @@ type Steps<'a> = &'a [(u32, &'a [u32])];
 
 /// The step of the action of this number over the objects at these places.
 fn step(alloc: Global, action: u32, places: &[u32]) -> Result<GroundAction, AllocError> {
-    let mut objects = Vec::new(alloc);
+    let mut args = Wide::empty(alloc);
     for place in places {
-        objects.push(Obj::new(*place))?;
+        args.push(Obj::new(*place))?;
     }
-    let args = Wide::new(alloc, objects.as_slice())?;
     Ok(GroundAction { action, args })
 }
 
-fn plan_of(alloc: Global, plan: Steps<'_>) -> Result<Plan, AllocError> {
+fn plan_of(alloc: Global, plan: Steps<'_>) -> Result<Box<Plan>, AllocError> {
     let mut steps = Vec::new(alloc);
     for (action, places) in plan {
         steps.push(step(alloc, *action, *places)?)?;
     }
-    Ok(Plan {
-        steps: Seq::from_vec(steps),
-    })
+    let steps = Seq::from_vec(steps);
+    Ok(Box::new(alloc, Plan { steps })?)
 }
 
 /// What the plan costs, or why it isn't valid. Of a plan of ten steps or more nothing is said.
+fn judged_in(alloc: Global, task: &Task, plan: &Plan) -> Result<Result<u64, CheckFault>, AllocError>
+    requires { IsFit task.now }
+{
+    if plan.steps.len() > 9 {
+        return Err(AllocError);
+    }
+    let facts = known(alloc, task)?;
+    Ok(check(alloc, task, &*facts, plan))
+}
+
+/// The same of the plan of these steps over the task of these texts.
 fn judged(
     alloc: Global,
     texts: &Texts<'_>,
@@ -72,11 +81,7 @@ fn judged(
 ) -> Result<Result<u64, CheckFault>, Fail> {
     let task = task(alloc, texts)?;
     let plan = plan_of(alloc, plan)?;
-    if plan.steps.len() > 9 {
-        return Err(Fail::from(AllocError));
-    }
-    let facts = known(alloc, &task)?;
-    Ok(check(alloc, &task, &*facts, &plan))
+    Ok(judged_in(alloc, &task, &plan)?)
 }
 
 const ONCE: Steps<'static> = &[(0, &[])];
@@ -91,24 +96,29 @@ const VALID: [(Texts<'static>, Steps<'static>, u64); 4] = [
 
 #[test]
 fn a_plan_costs_the_value_of_the_function(rt: HostRuntime) -> Result<(), Fail> {
-    for (texts, plan, cost) in VALID {
-        assert_eq!(rt; judged(rt.alloc(), &texts, plan)?, Ok(cost));
+    for (texts, plan, cost) in &VALID {
+        assert_eq!(rt; judged(rt.alloc(), texts, plan)?, Ok(*cost));
     }
     Ok(())
 }
 
+/// Plans that aren't valid, each with its first fault.
+const INVALID: [(Texts<'static>, Steps<'static>, CheckFault); 6] = [
+    (KEEP, &[], CheckFault::Goal),
+    (KEEP, &[(1, &[])], CheckFault::NoAction(0)),
+    (KEEP, &[(0, &[0])], CheckFault::Args(0)),
+    (KEEP, &[(0, &[]), (1, &[0])], CheckFault::NoAction(1)),
+    (WITHOUT_P, ONCE, CheckFault::Condition(0)),
+    (WITHOUT_VALUE, ONCE, CheckFault::NoCost(0)),
+];
+
 #[test]
 fn the_first_fault_of_a_plan_is_told(rt: HostRuntime) -> Result<(), Fail> {
-    let rows: [(Texts<'static>, Steps<'static>, CheckFault); 6] = [
-        (KEEP, &[], CheckFault::Goal),
-        (KEEP, &[(1, &[])], CheckFault::NoAction(0)),
-        (KEEP, &[(0, &[0])], CheckFault::Args(0)),
-        (KEEP, &[(0, &[]), (1, &[0])], CheckFault::NoAction(1)),
-        (WITHOUT_P, ONCE, CheckFault::Condition(0)),
-        (WITHOUT_VALUE, ONCE, CheckFault::NoCost(0)),
-    ];
-    for (texts, plan, fault) in rows {
-        assert_eq!(rt; judged(rt.alloc(), &texts, plan)?, Err(fault));
+    for (texts, plan, want) in &INVALID {
+        let Err(fault) = judged(rt.alloc(), texts, plan)? else {
+            panic!(rt; "the plan is valid");
+        };
+        assert_eq!(rt; fault, *want);
     }
     Ok(())
 }

@@ -77,9 +77,9 @@ const REQUESTS: [(u32, &[u8], &[u8]); 3] = [
 
 #[test]
 fn a_request_names_the_stream_and_its_inputs(rt: HostRuntime) -> Result<(), Fail> {
-    for (number, text, want) in REQUESTS {
-        let request = request_for(rt.alloc(), number, text)?;
-        assert_eq!(rt; request.as_slice(), want);
+    for (number, text, want) in &REQUESTS {
+        let request = request_for(rt.alloc(), *number, text)?;
+        assert_eq!(rt; request.as_slice(), *want);
     }
     Ok(())
 }
@@ -93,10 +93,11 @@ fn weigh(alloc: Global, facts: &mut Facts, cup: Obj, value: u32) -> Result<bool,
 }
 
 /// The weight of the cup, at first and then, once it is also said to be `value`; and whether that
-/// was new.
-fn weighed(alloc: Global, value: u32) -> Result<(Option<u32>, bool, Option<u32>), Fail>
-    requires { value < 99 }
-{
+/// was new. Of a weight of 99 or more nothing is said.
+fn weighed(alloc: Global, value: u32) -> Result<(Option<u32>, bool, Option<u32>), Fail> {
+    if value >= 99 {
+        return Err(Fail::from(AllocError));
+    }
     let task = task(alloc, &HANDS)?;
     let mut facts = known(alloc, &task)?;
     let Some(cup) = facts.object_of(b"cup") else {
@@ -107,11 +108,18 @@ fn weighed(alloc: Global, value: u32) -> Result<(Option<u32>, bool, Option<u32>)
     Ok((before, fresh, facts.value(0, &[cup])))
 }
 
+/// Weights that are said, each with the weight at first, whether it is new, and the weight then.
+const WEIGHTS: [(u32, (Option<u32>, bool, Option<u32>)); 3] = [
+    (9, (Some(7), true, Some(7))),
+    (5, (Some(7), true, Some(5))),
+    (7, (Some(7), false, Some(7))),
+];
+
 #[test]
 fn the_least_value_counts(rt: HostRuntime) -> Result<(), Fail> {
-    assert_eq!(rt; weighed(rt.alloc(), 9)?, (Some(7), true, Some(7)));
-    assert_eq!(rt; weighed(rt.alloc(), 5)?, (Some(7), true, Some(5)));
-    assert_eq!(rt; weighed(rt.alloc(), 7)?, (Some(7), false, Some(7)));
+    for (value, want) in &WEIGHTS {
+        assert_eq!(rt; weighed(rt.alloc(), *value)?, *want);
+    }
     Ok(())
 }
 
@@ -146,8 +154,8 @@ const NAMED: [(&[u8], Option<u32>); 5] = [
 
 #[test]
 fn no_object_has_a_name_that_is_not_there(rt: HostRuntime) -> Result<(), Fail> {
-    for (text, want) in NAMED {
-        assert_eq!(rt; found(rt.alloc(), text)?, want);
+    for (text, want) in &NAMED {
+        assert_eq!(rt; found(rt.alloc(), text)?, *want);
     }
     Ok(())
 }
@@ -182,12 +190,17 @@ fn typed_twice(alloc: Global, sort: u32) -> Result<[(bool, usize); 2], Fail> {
     Ok([first, second])
 }
 
+/// Types, each with what is answered where it is said of the cup, and said again.
+const TYPED: [(u32, [(bool, usize); 2]); 2] = [
+    (BLOCK, [(false, 1), (false, 1)]),
+    (CUBE, [(true, 1), (false, 1)]),
+];
+
 #[test]
 fn a_fact_that_is_there_is_not_new(rt: HostRuntime) -> Result<(), Fail> {
-    let block = typed_twice(rt.alloc(), BLOCK)?;
-    assert_eq!(rt; block, [(false, 1), (false, 1)]);
-    let cube = typed_twice(rt.alloc(), CUBE)?;
-    assert_eq!(rt; cube, [(true, 1), (false, 1)]);
+    for (sort, want) in &TYPED {
+        assert_eq!(rt; typed_twice(rt.alloc(), *sort)?, *want);
+    }
     Ok(())
 }
 
@@ -202,35 +215,43 @@ fn add_cubes(alloc: Global, facts: &mut Facts) -> Result<(), AllocError>
     Ok(())
 }
 
-/// The objects that have this type at first, and once these cubes are known. Of ten objects or more
-/// nothing is said.
-fn listed_in(alloc: Global, task: &Task, sort: u32) -> Result<(Vec<Obj>, Vec<Obj>), AllocError>
+/// Whether these are the objects of this type, in the order in which that became known.
+fn are_listed(alloc: Global, facts: &Facts, sort: u32, want: &[Obj]) -> Result<bool, AllocError> {
+    let objects = facts.objects_with(alloc, sort)?;
+    Ok(objects.as_slice() == want)
+}
+
+/// Whether these are the objects of this type at first, and whether those are once these cubes are
+/// known. Of ten objects or more nothing is said.
+fn listed_in(
+    alloc: Global,
+    task: &Task,
+    sort: u32,
+    first: &[Obj],
+    then: &[Obj],
+) -> Result<(bool, bool), AllocError>
     requires { IsFit task.now }
 {
     if task.problem.objects.len() > 9 {
         return Err(AllocError);
     }
     let mut facts = known(alloc, task)?;
-    let before = facts.objects_with(alloc, sort)?;
+    let before = are_listed(alloc, &facts, sort, first)?;
     add_cubes(alloc, &mut facts)?;
-    let after = facts.objects_with(alloc, sort)?;
+    let after = are_listed(alloc, &facts, sort, then)?;
     Ok((before, after))
 }
 
 /// The same over the task of this module.
-fn listed(alloc: Global, sort: u32) -> Result<(Vec<Obj>, Vec<Obj>), Fail> {
+fn listed(alloc: Global, sort: u32, first: &[Obj], then: &[Obj]) -> Result<(bool, bool), Fail> {
     let task = task(alloc, &HANDS)?;
-    Ok(listed_in(alloc, &task, sort)?)
+    Ok(listed_in(alloc, &task, sort, first, then)?)
 }
 
 #[test]
 fn objects_are_listed_as_their_type_became_known(rt: HostRuntime) -> Result<(), Fail> {
     let (cup, plate) = (Obj::new(0), Obj::new(1));
-    let (before, after) = listed(rt.alloc(), CUBE)?;
-    assert_eq!(rt; before.len(), 0);
-    assert_eq!(rt; after.as_slice(), [plate, cup].as_slice());
-    let (before, after) = listed(rt.alloc(), BLOCK)?;
-    assert_eq!(rt; before.as_slice(), [cup].as_slice());
-    assert_eq!(rt; after.as_slice(), [cup].as_slice());
+    assert_eq!(rt; listed(rt.alloc(), CUBE, &[], &[plate, cup])?, (true, true));
+    assert_eq!(rt; listed(rt.alloc(), BLOCK, &[cup], &[cup])?, (true, true));
     Ok(())
 }

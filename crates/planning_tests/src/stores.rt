@@ -4,15 +4,25 @@ use std::alloc::{AllocError, Global};
 use std::test::Fail;
 use task_model::{Atom, Obj, Row, State};
 
+/// The atom of this predicate and this object.
+fn atom(alloc: Global, pred: u32, place: u32) -> Result<Atom, AllocError> {
+    let args = Row::new(alloc, &[Obj::new(place)])?;
+    Ok(Atom { pred, args })
+}
+
 /// The state in which one predicate is true of these objects.
 fn state(alloc: Global, places: &[u32]) -> Result<State, AllocError> {
     let mut state = State::new(alloc);
     for place in places {
-        let mut args = Row::empty(alloc);
-        args.push(Obj::new(*place))?;
-        state.add(Atom { pred: 1, args })?;
+        state.add(atom(alloc, 1, *place)?)?;
     }
     Ok(state)
+}
+
+/// The store without states.
+fn empty(alloc: Global) -> Result<Box<StateStore>, AllocError> {
+    let store = StateStore::new(alloc)?;
+    Ok(Box::new(alloc, store)?)
 }
 
 /// Where the store keeps the state, and whether it is new there; None where the store is full.
@@ -33,30 +43,41 @@ fn kept(
     put(store, state(alloc, places)?)
 }
 
+/// States that are put in one after another, each with its place and whether it is new there.
+const STATES: [(&[u32], (u32, bool)); 5] = [
+    (&[], (0, true)),
+    (&[4, 2], (1, true)),
+    (&[2], (2, true)),
+    (&[2, 4], (1, false)),
+    (&[], (0, false)),
+];
+
 #[test]
 fn each_state_is_kept_once(rt: HostRuntime) -> Result<(), Fail> {
-    let rows: [(&[u32], (u32, bool)); 5] = [
-        (&[], (0, true)),
-        (&[4, 2], (1, true)),
-        (&[2], (2, true)),
-        (&[2, 4], (1, false)),
-        (&[], (0, false)),
-    ];
-    let mut store = StateStore::new(rt.alloc())?;
-    for (places, wanted) in rows {
-        assert_eq!(rt; kept(rt.alloc(), &mut store, places)?, Some(wanted));
+    let mut store = empty(rt.alloc())?;
+    for (places, wanted) in &STATES {
+        assert_eq!(rt; kept(rt.alloc(), &mut store, places)?, Some(*wanted));
     }
     Ok(())
 }
 
+/// Whether the state at a place has these atoms, in this order. Where the store has none there, it
+/// hasn't.
+fn is_state_of(store: &StateStore, id: u32, atoms: &[Atom]) -> Result<bool, AllocError> {
+    if id as usize >= store.len() {
+        return Ok(false);
+    }
+    let state = store.get(id)?;
+    Ok(state.as_slice() == atoms)
+}
+
 #[test]
 fn a_place_gives_its_state(rt: HostRuntime) -> Result<(), Fail> {
-    let mut store = StateStore::new(rt.alloc())?;
-    store.intern(state(rt.alloc(), &[7])?)?;
-    let (id, _) = store.intern(state(rt.alloc(), &[3, 9])?)?;
-    let state = store.get(id)?;
-    assert_eq!(rt; state.len(), 2);
-    assert_eq!(rt; state.atom(1).args.as_slice(), [Obj::new(9)].as_slice());
+    let want = atoms(rt.alloc(), &[3, 9])?;
+    let mut store = empty(rt.alloc())?;
+    assert_eq!(rt; kept(rt.alloc(), &mut store, &[7])?, Some((0, true)));
+    assert_eq!(rt; kept(rt.alloc(), &mut store, &[3, 9])?, Some((1, true)));
+    assert!(rt; is_state_of(&store, 1, &want)?);
     Ok(())
 }
 
@@ -64,9 +85,7 @@ fn a_place_gives_its_state(rt: HostRuntime) -> Result<(), Fail> {
 fn atoms(alloc: Global, places: &[u32]) -> Result<Vec<Atom>, AllocError> {
     let mut atoms = Vec::new(alloc);
     for place in places {
-        let mut args = Row::empty(alloc);
-        args.push(Obj::new(*place))?;
-        atoms.push(Atom { pred: 1, args })?;
+        atoms.push(atom(alloc, 1, *place)?)?;
     }
     Ok(atoms)
 }
@@ -92,22 +111,23 @@ fn changed(
 /// new.
 type Change<'a> = (u32, &'a [u32], &'a [u32], (u32, bool));
 
+const CHANGES: [Change<'static>; 7] = [
+    (0, &[2], &[3], (1, true)),
+    (1, &[3], &[2], (0, false)),
+    (0, &[4], &[4], (0, false)),
+    (0, &[9], &[2, 2], (0, false)),
+    (0, &[4, 2], &[], (2, true)),
+    (2, &[], &[4, 3], (1, false)),
+    (2, &[], &[3], (3, true)),
+];
+
 #[test]
 fn a_changed_state_is_kept_once(rt: HostRuntime) -> Result<(), Fail> {
-    let changes: [Change<'_>; 7] = [
-        (0, &[2], &[3], (1, true)),
-        (1, &[3], &[2], (0, false)),
-        (0, &[4], &[4], (0, false)),
-        (0, &[9], &[2, 2], (0, false)),
-        (0, &[4, 2], &[], (2, true)),
-        (2, &[], &[4, 3], (1, false)),
-        (2, &[], &[3], (3, true)),
-    ];
-    let mut store = StateStore::new(rt.alloc())?;
+    let mut store = empty(rt.alloc())?;
     assert_eq!(rt; kept(rt.alloc(), &mut store, &[2, 4])?, Some((0, true)));
-    for (from, gone, come, wanted) in changes {
-        let found = changed(rt.alloc(), &mut store, from, gone, come)?;
-        assert_eq!(rt; found, Some(wanted));
+    for (from, gone, come, wanted) in &CHANGES {
+        let found = changed(rt.alloc(), &mut store, *from, gone, come)?;
+        assert_eq!(rt; found, Some(*wanted));
     }
     assert_eq!(rt; kept(rt.alloc(), &mut store, &[3, 4])?, Some((1, false)));
     assert_eq!(rt; kept(rt.alloc(), &mut store, &[])?, Some((2, false)));
@@ -118,9 +138,7 @@ fn a_changed_state_is_kept_once(rt: HostRuntime) -> Result<(), Fail> {
 fn switches(alloc: Global, number: u32) -> Result<State, AllocError> {
     let mut atoms = Vec::with_capacity(alloc, 18)?;
     for switch in 0..18_u32 {
-        let mut args = Row::empty(alloc);
-        args.push(Obj::new(number >> switch & 1))?;
-        atoms.push(Atom { pred: switch, args })?;
+        atoms.push(atom(alloc, switch, number >> switch & 1)?)?;
     }
     Ok(State::from_atoms(atoms))
 }
@@ -138,7 +156,7 @@ fn are_put(alloc: Global, store: &mut StateStore, fresh: bool) -> Result<bool, A
 
 #[test]
 fn states_put_in_four_times_keep_their_200_000_numbers(rt: HostRuntime) -> Result<(), Fail> {
-    let mut store = Box::new(rt.alloc(), StateStore::new(rt.alloc())?)?;
+    let mut store = empty(rt.alloc())?;
     assert!(rt; are_put(rt.alloc(), &mut store, true)?);
     for _ in 0..3 {
         assert!(rt; are_put(rt.alloc(), &mut store, false)?);

@@ -2,7 +2,7 @@
 use fit_check::is_fit;
 use std::alloc::{AllocError, Global};
 use std::test::Fail;
-use task_model::{Derived, Formula, FormulaNode, Name, Row, Seq, Stream, Valued};
+use task_model::{Derived, Formula, FormulaNode, Name, Row, Seq, Stream, Task, Valued};
 use worked_tasks::{KEEP, Texts, task};
 
 /// A derived predicate.
@@ -12,55 +12,42 @@ const SPELLED: Texts<'static> = Texts {
     streams: "(define (stream empty))",
 };
 
-/// The derived predicate (p) with this body.
-fn items(alloc: Global, body: Formula) -> Result<Seq<Derived>, AllocError> {
+fn boxed(alloc: Global, node: FormulaNode) -> Result<Box<Formula>, AllocError> {
+    Ok(Box::new(alloc, Formula { node })?)
+}
+
+/// The condition that is always true, with so many negations around it.
+fn negated(alloc: Global, count: u8) -> Result<Box<Formula>, AllocError> {
+    let mut formula = boxed(alloc, FormulaNode::All(Vec::new(alloc)))?;
+    for _ in 0..count {
+        formula = boxed(alloc, FormulaNode::Not(formula))?;
+    }
+    Ok(formula)
+}
+
+/// The atom (p).
+fn derived_atom(alloc: Global) -> Result<Box<Formula>, AllocError> {
+    let args = Seq::from_vec(Vec::new(alloc));
+    boxed(alloc, FormulaNode::Atom { pred: 0, args })
+}
+
+/// Gives the derived predicate (p) this body.
+fn give_body(alloc: Global, task: &mut Task, body: Box<Formula>) -> Result<(), AllocError> {
     let mut items = Vec::new(alloc);
     items.push(Derived {
         pred: 0,
         params: Seq::from_vec(Vec::new(alloc)),
-        body,
+        body: Box::into_inner(body),
     })?;
-    Ok(Seq::from_vec(items))
+    task.domain.derived = Seq::from_vec(items);
+    Ok(())
 }
 
 /// Whether the task is fit whose derived predicate has this body.
-fn is_fit_body(alloc: Global, body: Formula) -> Result<bool, Fail> {
-    let items = items(alloc, body)?;
+fn is_fit_body(alloc: Global, body: Box<Formula>) -> Result<bool, Fail> {
     let mut task = task(alloc, &SPELLED)?;
-    task.domain.derived = items;
+    give_body(alloc, &mut task, body)?;
     Ok(is_fit(alloc, &task)?)
-}
-
-fn always(alloc: Global) -> Formula {
-    Formula {
-        node: FormulaNode::All(Vec::new(alloc)),
-    }
-}
-
-fn not(alloc: Global, part: Formula) -> Result<Formula, AllocError> {
-    let part = Box::new(alloc, part)?;
-    Ok(Formula {
-        node: FormulaNode::Not(part),
-    })
-}
-
-/// The atom (p).
-fn derived_atom(alloc: Global) -> Formula {
-    Formula {
-        node: FormulaNode::Atom {
-            pred: 0,
-            args: Seq::from_vec(Vec::new(alloc)),
-        },
-    }
-}
-
-/// The condition that is always true, with so many negations around it.
-fn negated(alloc: Global, count: u8) -> Result<Formula, AllocError> {
-    let mut formula = always(alloc);
-    for _ in 0..count {
-        formula = not(alloc, formula)?;
-    }
-    Ok(formula)
 }
 
 #[test]
@@ -72,7 +59,7 @@ fn conditions_are_at_most_64_deep(rt: HostRuntime) -> Result<(), Fail> {
 
 #[test]
 fn no_derived_predicate_rests_on_itself(rt: HostRuntime) -> Result<(), Fail> {
-    assert!(rt; !is_fit_body(rt.alloc(), derived_atom(rt.alloc()))?);
+    assert!(rt; !is_fit_body(rt.alloc(), derived_atom(rt.alloc())?)?);
     Ok(())
 }
 
@@ -92,9 +79,8 @@ fn streams(alloc: Global, outputs: &[u32]) -> Result<Seq<Stream>, AllocError> {
 
 /// Whether the task is fit with a stream that has these outputs.
 fn is_fit_stream(alloc: Global, outputs: &[u32]) -> Result<bool, Fail> {
-    let streams = streams(alloc, outputs)?;
     let mut task = task(alloc, &SPELLED)?;
-    task.streams = streams;
+    task.streams = streams(alloc, outputs)?;
     Ok(is_fit(alloc, &task)?)
 }
 
@@ -119,9 +105,8 @@ fn values(alloc: Global, given: &[u32]) -> Result<Seq<Valued>, AllocError> {
 
 /// Whether the task is fit whose function has these values.
 fn is_fit_valued(alloc: Global, given: &[u32]) -> Result<bool, Fail> {
-    let values = values(alloc, given)?;
     let mut task = task(alloc, &KEEP)?;
-    task.problem.values = values;
+    task.problem.values = values(alloc, given)?;
     Ok(is_fit(alloc, &task)?)
 }
 

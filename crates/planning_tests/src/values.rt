@@ -27,9 +27,9 @@ fn add(alloc: Global, state: &mut State, pred: u32, places: &[u32]) -> Result<bo
     state.add(atom(alloc, pred, places)?)
 }
 
-/// Takes an atom of one argument out, and answers whether it was there.
-fn remove(alloc: Global, state: &mut State, pred: u32, place: u32) -> Result<bool, AllocError> {
-    let atom = atom(alloc, pred, &[place])?;
+/// Takes an atom out, and answers whether it was there.
+fn remove(alloc: Global, state: &mut State, pred: u32, places: &[u32]) -> Result<bool, AllocError> {
+    let atom = atom(alloc, pred, places)?;
     Ok(state.remove(&atom))
 }
 
@@ -39,49 +39,90 @@ fn has(alloc: Global, state: &State, pred: u32, places: &[u32]) -> Result<bool, 
     Ok(state.has(&atom))
 }
 
+/// What is done with an atom.
+enum Deed {
+    Add,
+    Has,
+    Remove,
+}
+
+/// Does so with the atom, and answers what it answers.
+fn done(
+    alloc: Global,
+    state: &mut State,
+    deed: &Deed,
+    pred: u32,
+    places: &[u32],
+) -> Result<bool, AllocError> {
+    match deed {
+        Deed::Add => add(alloc, state, pred, places),
+        Deed::Has => has(alloc, state, pred, places),
+        Deed::Remove => remove(alloc, state, pred, places),
+    }
+}
+
+/// What is done one after another with the atom of a predicate and some objects, each with what it
+/// answers, and how many atoms there are then.
+const DEEDS: [(Deed, u32, &[u32], bool, usize); 7] = [
+    (Deed::Add, 2, &[1], true, 1),
+    (Deed::Add, 1, &[7, 8], true, 2),
+    (Deed::Add, 2, &[1], false, 2),
+    (Deed::Has, 1, &[7, 8], true, 2),
+    (Deed::Has, 1, &[8, 7], false, 2),
+    (Deed::Remove, 2, &[1], true, 1),
+    (Deed::Remove, 2, &[1], false, 1),
+];
+
 #[test]
 fn a_state_is_a_set(rt: HostRuntime) -> Result<(), Fail> {
     let mut state = empty(rt.alloc())?;
     assert_eq!(rt; state.len(), 0);
-    assert!(rt; add(rt.alloc(), &mut state, 2, &[1])?);
-    assert!(rt; add(rt.alloc(), &mut state, 1, &[7, 8])?);
-    assert!(rt; !add(rt.alloc(), &mut state, 2, &[1])?);
-    assert_eq!(rt; state.len(), 2);
-    assert!(rt; has(rt.alloc(), &state, 1, &[7, 8])?);
-    assert!(rt; !has(rt.alloc(), &state, 1, &[8, 7])?);
-    assert!(rt; remove(rt.alloc(), &mut state, 2, 1)?);
-    assert!(rt; !remove(rt.alloc(), &mut state, 2, 1)?);
-    assert_eq!(rt; state.len(), 1);
+    for (deed, pred, places, want, count) in &DEEDS {
+        assert_eq!(rt; done(rt.alloc(), &mut state, deed, *pred, places)?, *want);
+        assert_eq!(rt; state.len(), *count);
+    }
     Ok(())
 }
 
-/// Whether the atom is this one of one argument.
-fn is_atom(alloc: Global, found: &Atom, pred: u32, place: u32) -> Result<bool, AllocError> {
-    let atom = atom(alloc, pred, &[place])?;
-    Ok(*found == atom)
+/// The state of these atoms, each of a predicate and one object, which are added in this order.
+fn state_of(alloc: Global, added: &[(u32, u32)]) -> Result<Box<State>, AllocError> {
+    let mut state = empty(alloc)?;
+    for (pred, place) in added {
+        add(alloc, &mut state, *pred, &[*place])?;
+    }
+    Ok(state)
 }
+
+/// Whether the state's atom at a place is this one, of a predicate and one object.
+fn is_atom(
+    alloc: Global,
+    state: &State,
+    at: usize,
+    pred: u32,
+    place: u32,
+) -> Result<bool, AllocError> {
+    let atom = atom(alloc, pred, &[place])?;
+    Ok(state.as_slice().get(at) == Some(&atom))
+}
+
+/// Predicates and objects of atoms, in the order of the atoms.
+const LISTED: [(u32, u32); 4] = [(1, 4), (1, 5), (2, 9), (3, 0)];
 
 #[test]
 fn a_state_lists_its_atoms_in_order(rt: HostRuntime) -> Result<(), Fail> {
-    let mut state = empty(rt.alloc())?;
-    for (pred, place) in [(3, 0), (1, 5), (1, 4), (2, 9)] {
-        add(rt.alloc(), &mut state, pred, &[place])?;
-    }
+    let state = state_of(rt.alloc(), &[(3, 0), (1, 5), (1, 4), (2, 9)])?;
     assert_eq!(rt; state.len(), 4);
-    assert!(rt; is_atom(rt.alloc(), state.atom(0), 1, 4)?);
-    assert!(rt; is_atom(rt.alloc(), state.atom(1), 1, 5)?);
-    assert!(rt; is_atom(rt.alloc(), state.atom(2), 2, 9)?);
-    assert!(rt; is_atom(rt.alloc(), state.atom(3), 3, 0)?);
+    for (at, (pred, place)) in LISTED.iter().enumerate() {
+        assert!(rt; is_atom(rt.alloc(), &state, at, *pred, *place)?, "{at}");
+    }
     Ok(())
 }
 
 #[test]
 fn a_copy_of_a_state_is_equal_and_apart(rt: HostRuntime) -> Result<(), Fail> {
-    let mut state = empty(rt.alloc())?;
-    add(rt.alloc(), &mut state, 1, &[1])?;
-    add(rt.alloc(), &mut state, 2, &[2])?;
+    let mut state = state_of(rt.alloc(), &[(1, 1), (2, 2)])?;
     let copy = Box::new(rt.alloc(), state.copy()?)?;
-    remove(rt.alloc(), &mut state, 1, 1)?;
+    remove(rt.alloc(), &mut state, 1, &[1])?;
     assert_eq!(rt; copy.len(), 2);
     assert!(rt; has(rt.alloc(), &copy, 1, &[1])?);
     assert_eq!(rt; state.len(), 1);

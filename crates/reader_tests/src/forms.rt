@@ -1,8 +1,8 @@
 //! Which texts are refused for their forms, and where.
 use crate::marked::{Marked, unmarked};
+use crate::reading::tree_of;
 use crate::refused_forms::{DOMAINS, NUMBER, SHAPE, UNSUPPORTED};
 use form_reader::{Fault, InputKind, TextKind, check_form};
-use sexpr_text::read_tree;
 use std::alloc::Global;
 use std::test::Fail;
 
@@ -261,7 +261,7 @@ fn is_refused_so(
     marked: &[u8],
 ) -> Result<bool, Fail> {
     let (bytes, place) = unmarked(alloc, marked)?;
-    let tree = read_tree(alloc, bytes.as_slice())?;
+    let tree = tree_of(alloc, bytes.as_slice())?;
     let wanted = place.map(|place| Fault { place, kind });
     Ok(check_form(text, &tree) == wanted)
 }
@@ -276,22 +276,26 @@ fn first_wrong(alloc: Global, text: TextKind, rows: &[Marked]) -> Result<Option<
     Ok(None)
 }
 
+/// The refused texts of each kind.
+const REFUSED: [(TextKind, &[Marked]); 3] = [
+    (TextKind::Domain, &DOMAINS),
+    (TextKind::Problem, &PROBLEMS),
+    (TextKind::Streams, &STREAMS),
+];
+
 #[test]
 fn texts_of_each_kind_have_the_marked_fault(rt: HostRuntime) -> Result<(), Fail> {
-    assert_eq!(rt; first_wrong(rt.alloc(), TextKind::Domain, &DOMAINS)?, None);
-    assert_eq!(rt;
-        first_wrong(rt.alloc(), TextKind::Problem, &PROBLEMS)?,
-        None
-    );
-    assert_eq!(rt; first_wrong(rt.alloc(), TextKind::Streams, &STREAMS)?, None);
+    for (text, rows) in &REFUSED {
+        assert_eq!(rt; first_wrong(rt.alloc(), *text, rows)?, None);
+    }
     Ok(())
 }
 
 #[test]
 fn right_texts_have_no_fault(rt: HostRuntime) -> Result<(), Fail> {
-    for (text, bytes) in RIGHT {
-        let tree = read_tree(rt.alloc(), bytes)?;
-        assert_eq!(rt; check_form(text, &tree), None);
+    for (text, bytes) in &RIGHT {
+        let tree = tree_of(rt.alloc(), bytes)?;
+        assert_eq!(rt; check_form(*text, &tree), None);
     }
     Ok(())
 }

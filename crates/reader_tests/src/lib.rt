@@ -11,6 +11,8 @@ mod marked;
 #[cfg(test)]
 mod problems;
 #[cfg(test)]
+mod reading;
+#[cfg(test)]
 mod refused_domains;
 #[cfg(test)]
 mod refused_forms;

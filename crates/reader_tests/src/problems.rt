@@ -1,20 +1,19 @@
 //! Which problems are refused, and where, and what a problem holds.
 use crate::marked::{fault_at, unmarked};
+use crate::reading::{domain_of, problem_of, tree_of};
 use crate::refused_problems::{DOMAIN, REFUSED};
 use crate::shown::{write_formula, write_name, write_numbers};
-use domain_reader::read_domain;
 use form_reader::{InputFault, InputKind};
 use problem_reader::read_problem;
-use sexpr_text::read_tree;
+use sexpr_text::Tree;
 use std::alloc::{AllocError, Global};
 use std::fmt::Write;
 use std::test::Fail;
-use task_model::{Domain, Fact, Obj, Problem, Valued};
+use task_model::{Declared, Domain, Fact, Obj, Problem, Valued};
 
-/// The domain of a text.
-fn domain_of(alloc: Global, text: &[u8]) -> Result<Box<Domain>, Fail> {
-    let tree = read_tree(alloc, text)?;
-    Ok(Box::new(alloc, read_domain(alloc, &tree)?)?)
+/// The fault of a problem.
+fn fault_of(alloc: Global, tree: &Tree, domain: &Domain) -> Option<InputFault> {
+    read_problem(alloc, tree, domain).err()
 }
 
 /// The fault of a problem, and the marked one.
@@ -25,18 +24,15 @@ fn faults_of(
     marked: &[u8],
 ) -> Result<(Option<InputFault>, Option<InputFault>), Fail> {
     let (bytes, place) = unmarked(alloc, marked)?;
-    let tree = read_tree(alloc, bytes.as_slice())?;
-    Ok((
-        read_problem(alloc, &tree, domain).err(),
-        fault_at(place, kind),
-    ))
+    let tree = tree_of(alloc, bytes.as_slice())?;
+    Ok((fault_of(alloc, &tree, domain), fault_at(place, kind)))
 }
 
 #[test]
 fn problems_have_the_marked_fault(rt: HostRuntime) -> Result<(), Fail> {
     let domain = domain_of(rt.alloc(), DOMAIN)?;
-    for (kind, marked) in REFUSED {
-        let (fault, wanted) = faults_of(rt.alloc(), &domain, kind, marked)?;
+    for (kind, marked) in &REFUSED {
+        let (fault, wanted) = faults_of(rt.alloc(), &domain, *kind, marked)?;
         assert_eq!(rt; fault, wanted);
     }
     Ok(())
@@ -70,15 +66,21 @@ fn write_values(out: &mut String, values: &[Valued]) -> Result<(), AllocError> {
     Ok(())
 }
 
-/// Writes all that a problem holds.
-fn write_problem(out: &mut String, problem: &Problem) -> Result<(), AllocError> {
-    write!(out, "problem")?;
-    write_name(out, &problem.name)?;
-    for object in problem.objects.as_slice() {
+/// Writes objects with their names and types.
+fn write_declared(out: &mut String, objects: &[Declared]) -> Result<(), AllocError> {
+    for object in objects {
         write!(out, "\nobject")?;
         write_name(out, &object.name)?;
         write_numbers(out, object.sorts.as_slice())?;
     }
+    Ok(())
+}
+
+/// Writes all that a problem holds.
+fn write_problem(out: &mut String, problem: &Problem) -> Result<(), AllocError> {
+    write!(out, "problem")?;
+    write_name(out, &problem.name)?;
+    write_declared(out, problem.objects.as_slice())?;
     write!(out, "\ninit")?;
     write_facts(out, problem.init.as_slice())?;
     write!(out, "\nvalues")?;
@@ -151,40 +153,57 @@ goal [and]
 metric false",
 );
 
+/// All that the problem of a text holds.
+fn shown(alloc: Global, domain: &[u8], text: &[u8]) -> Result<String, Fail> {
+    let domain = domain_of(alloc, domain)?;
+    let problem = problem_of(alloc, text, &domain)?;
+    let mut out = String::new(alloc);
+    write_problem(&mut out, &problem)?;
+    Ok(out)
+}
+
+const READ: [Example; 4] = [FETCH, KEEP, TYPED, SMALLEST];
+
 #[test]
 fn problems_are_read_whole(rt: HostRuntime) -> Result<(), Fail> {
-    for (domain, text, wanted) in [FETCH, KEEP, TYPED, SMALLEST] {
-        let domain = domain_of(rt.alloc(), domain)?;
-        let tree = read_tree(rt.alloc(), text)?;
-        let problem = read_problem(rt.alloc(), &tree, &domain)?;
-        let mut out = String::new(rt.alloc());
-        write_problem(&mut out, &problem)?;
-        assert_eq!(rt; out.as_str(), wanted);
+    for (domain, text, wanted) in &READ {
+        let shown = shown(rt.alloc(), domain, text)?;
+        assert_eq!(rt; shown.as_str(), *wanted);
     }
     Ok(())
 }
 
-/// A problem with this many objects, each with a fact and a value.
-fn large_problem(alloc: Global, count: usize) -> Result<String, AllocError> {
+/// Writes a fact and a value of each of so many objects.
+fn write_known(out: &mut String, count: usize) -> Result<(), AllocError> {
+    for number in 0..count {
+        write!(out, " (q o{number}) (= (g o{number}) {number})")?;
+    }
+    Ok(())
+}
+
+/// Writes a problem with this many objects, each with a fact and a value.
+fn write_large(out: &mut String, count: usize) -> Result<(), AllocError> {
+    out.push_str("(define (problem large) (:domain d) (:objects")?;
+    for number in 0..count {
+        write!(out, " o{number}")?;
+    }
+    out.push_str(" - t) (:init")?;
+    write_known(out, count)?;
+    out.push_str(") (:goal (q o0)))")?;
+    Ok(())
+}
+
+/// That problem.
+fn large(alloc: Global, count: usize) -> Result<Box<Problem>, Fail> {
+    let domain = domain_of(alloc, DOMAIN)?;
     let mut text = String::new(alloc);
-    write!(text, "(define (problem large) (:domain d) (:objects")?;
-    for number in 0..count {
-        write!(text, " o{number}")?;
-    }
-    write!(text, " - t) (:init")?;
-    for number in 0..count {
-        write!(text, " (q o{number}) (= (g o{number}) {number})")?;
-    }
-    write!(text, ") (:goal (q o0)))")?;
-    Ok(text)
+    write_large(&mut text, count)?;
+    problem_of(alloc, text.as_bytes(), &domain)
 }
 
 #[test]
 fn a_large_problem_is_read(rt: HostRuntime) -> Result<(), Fail> {
-    let domain = domain_of(rt.alloc(), DOMAIN)?;
-    let text = large_problem(rt.alloc(), 10_000)?;
-    let tree = read_tree(rt.alloc(), text.as_bytes())?;
-    let problem = read_problem(rt.alloc(), &tree, &domain)?;
+    let problem = large(rt.alloc(), 10_000)?;
     assert_eq!(rt; problem.objects.len(), 10_001);
     assert_eq!(rt; problem.init.len(), 10_000);
     assert_eq!(rt; problem.values.len(), 10_000);

@@ -1,6 +1,8 @@
 //! Which texts are refused, with the printed name of the kind and the place.
 use form_reader::InputKind;
+use std::alloc::Global;
 use std::test::Fail;
+use task_model::Domain;
 use task_reader::{FaultKind, InputRefusal, domain_in, problem_in, streams_in};
 
 /// The name of the kind, and the place.
@@ -9,6 +11,29 @@ fn told(refusal: InputRefusal) -> (&'static [u8], usize) {
         InputRefusal::At { kind, place } => (kind.word(), place),
         InputRefusal::Memory => (b"memory", 0),
     }
+}
+
+/// What is told of a refused text.
+type Told = Option<(&'static [u8], usize)>;
+
+/// What is told of a domain.
+fn told_of_domain(alloc: Global, text: &[u8]) -> Told {
+    domain_in(alloc, text).err().map(told)
+}
+
+/// What is told of a problem.
+fn told_of_problem(alloc: Global, text: &[u8], domain: &Domain) -> Told {
+    problem_in(alloc, text, domain).err().map(told)
+}
+
+/// What is told of a stream file.
+fn told_of_streams(alloc: Global, text: &[u8], domain: &Domain) -> Told {
+    streams_in(alloc, text, domain).err().map(told)
+}
+
+fn domain_of(alloc: Global, text: &[u8]) -> Result<Box<Domain>, Fail> {
+    let domain = domain_in(alloc, text)?;
+    Ok(Box::new(alloc, domain)?)
 }
 
 /// 65 lists in one another, none of them closed.
@@ -71,9 +96,8 @@ const DOMAINS: [(&[u8], &[u8], usize); 15] = [
 
 #[test]
 fn domains_are_refused_with_kind_and_place(rt: HostRuntime) -> Result<(), Fail> {
-    for (text, word, place) in DOMAINS {
-        let refusal = domain_in(rt.alloc(), text).err();
-        assert_eq!(rt; refusal.map(told), Some((word, place)));
+    for (text, word, place) in &DOMAINS {
+        assert_eq!(rt; told_of_domain(rt.alloc(), text), Some((*word, *place)));
     }
     Ok(())
 }
@@ -114,10 +138,10 @@ const PROBLEMS: [(&[u8], &[u8], usize); 6] = [
 
 #[test]
 fn problems_are_refused_with_kind_and_place(rt: HostRuntime) -> Result<(), Fail> {
-    let domain = domain_in(rt.alloc(), STATIC)?;
-    for (text, word, place) in PROBLEMS {
-        let refusal = problem_in(rt.alloc(), text, &domain).err();
-        assert_eq!(rt; refusal.map(told), Some((word, place)));
+    let domain = domain_of(rt.alloc(), STATIC)?;
+    for (text, word, place) in &PROBLEMS {
+        let told = told_of_problem(rt.alloc(), text, &domain);
+        assert_eq!(rt; told, Some((*word, *place)));
     }
     Ok(())
 }
@@ -148,23 +172,31 @@ const STREAMS: [(&[u8], &[u8], &[u8], usize); 5] = [
 
 #[test]
 fn streams_are_refused_with_kind_and_place(rt: HostRuntime) -> Result<(), Fail> {
-    for (domain, text, word, place) in STREAMS {
-        let domain = domain_in(rt.alloc(), domain)?;
-        let refusal = streams_in(rt.alloc(), text, &domain).err();
-        assert_eq!(rt; refusal.map(told), Some((word, place)));
+    for (domain, text, word, place) in &STREAMS {
+        let domain = domain_of(rt.alloc(), domain)?;
+        let told = told_of_streams(rt.alloc(), text, &domain);
+        assert_eq!(rt; told, Some((*word, *place)));
     }
     Ok(())
 }
 
+/// Refusals, each with what is shown of it.
+const SHOWN: [(InputRefusal, &str); 2] = [
+    (
+        InputRefusal::At {
+            kind: FaultKind::Input(InputKind::TypeCycle),
+            place: 27,
+        },
+        "fault Input(TypeCycle) at byte 27",
+    ),
+    (InputRefusal::Memory, "memory ran out"),
+];
+
 #[test]
 fn a_refusal_is_shown(rt: HostRuntime) -> Result<(), Fail> {
-    let refusal = InputRefusal::At {
-        kind: FaultKind::Input(InputKind::TypeCycle),
-        place: 27,
-    };
-    let shown = format!(in rt.alloc(); "{refusal}")?;
-    assert_eq!(rt; shown.as_str(), "fault Input(TypeCycle) at byte 27");
-    let lost = format!(in rt.alloc(); "{}", InputRefusal::Memory)?;
-    assert_eq!(rt; lost.as_str(), "memory ran out");
+    for (refusal, want) in &SHOWN {
+        let shown = format!(in rt.alloc(); "{refusal}")?;
+        assert_eq!(rt; shown.as_str(), *want);
+    }
     Ok(())
 }

@@ -1,15 +1,15 @@
 //! Which stream files are refused, and where, and what a stream file holds.
 use crate::marked::{fault_at, unmarked};
+use crate::reading::{domain_of, streams_of, tree_of};
 use crate::refused_streams::REFUSED;
 use crate::shown::{write_name, write_numbers, write_patterns, write_terms};
-use domain_reader::read_domain;
 use form_reader::{InputFault, InputKind};
-use sexpr_text::read_tree;
+use sexpr_text::Tree;
 use std::alloc::{AllocError, Global};
 use std::fmt::Write;
 use std::test::Fail;
 use stream_reader::read_streams;
-use task_model::{Domain, Stream};
+use task_model::{Domain, Seq, Stream};
 
 /// A domain with four types, a constant `k`, static predicates `p`, `q`, `r` and `at`, a fluent
 /// `hold`, a derived `busy`, and functions.
@@ -19,8 +19,12 @@ const DOMAIN: &[u8] = b"(define (domain d) (:types block - thing pose) (:constan
 
 /// The domain of that text.
 fn domain(alloc: Global) -> Result<Box<Domain>, Fail> {
-    let tree = read_tree(alloc, DOMAIN)?;
-    Ok(Box::new(alloc, read_domain(alloc, &tree)?)?)
+    domain_of(alloc, DOMAIN)
+}
+
+/// The fault of a stream file.
+fn fault_of(alloc: Global, domain: &Domain, tree: &Tree) -> Option<InputFault> {
+    read_streams(alloc, domain, tree).err()
 }
 
 /// The fault of a stream file, and the marked one.
@@ -31,18 +35,15 @@ fn faults_of(
     marked: &[u8],
 ) -> Result<(Option<InputFault>, Option<InputFault>), Fail> {
     let (text, place) = unmarked(alloc, marked)?;
-    let tree = read_tree(alloc, text.as_slice())?;
-    Ok((
-        read_streams(alloc, domain, &tree).err(),
-        fault_at(place, kind),
-    ))
+    let tree = tree_of(alloc, text.as_slice())?;
+    Ok((fault_of(alloc, domain, &tree), fault_at(place, kind)))
 }
 
 #[test]
 fn stream_files_have_the_marked_fault(rt: HostRuntime) -> Result<(), Fail> {
     let domain = domain(rt.alloc())?;
-    for (kind, marked) in REFUSED {
-        let (fault, wanted) = faults_of(rt.alloc(), &domain, kind, marked)?;
+    for (kind, marked) in &REFUSED {
+        let (fault, wanted) = faults_of(rt.alloc(), &domain, *kind, marked)?;
         assert_eq!(rt; fault, wanted);
     }
     Ok(())
@@ -86,49 +87,64 @@ stream and: 3 -> 1 1 if then [2 ?1 ?0] [1 0] [2 ?2 ?0]\n",
     ),
 ];
 
+/// All that the streams of a text hold.
+fn shown(alloc: Global, domain: &Domain, text: &[u8]) -> Result<String, Fail> {
+    let streams = streams_of(alloc, text, domain)?;
+    let mut out = String::new(alloc);
+    for stream in streams.as_slice() {
+        write_stream(&mut out, stream)?;
+    }
+    Ok(out)
+}
+
 #[test]
 fn stream_files_are_read_whole(rt: HostRuntime) -> Result<(), Fail> {
     let domain = domain(rt.alloc())?;
-    for (text, wanted) in READ {
-        let tree = read_tree(rt.alloc(), text)?;
-        let streams = read_streams(rt.alloc(), &domain, &tree)?;
-        let mut out = String::new(rt.alloc());
-        for stream in streams.as_slice() {
-            write_stream(&mut out, stream)?;
-        }
-        assert_eq!(rt; out.as_str(), wanted);
+    for (text, wanted) in &READ {
+        let shown = shown(rt.alloc(), &domain, text)?;
+        assert_eq!(rt; shown.as_str(), *wanted);
     }
     Ok(())
 }
 
-/// A stream file of this many streams.
-fn large_file(alloc: Global, count: usize) -> Result<String, AllocError> {
-    let mut text = String::new(alloc);
-    write!(text, "(define (stream large)")?;
+/// Writes a stream file of this many streams.
+fn write_large(out: &mut String, count: usize) -> Result<(), AllocError> {
+    out.push_str("(define (stream large)")?;
     for number in 0..count {
         write!(
-            text,
+            out,
             " (:stream s{number} :inputs (?x) :domain (q ?x) :outputs (?y) :certified (r ?x ?y))"
         )?;
     }
-    write!(text, ")")?;
-    Ok(text)
+    out.push_str(")")?;
+    Ok(())
+}
+
+/// The streams of that file.
+fn large(alloc: Global, count: usize) -> Result<Box<Seq<Stream>>, Fail> {
+    let domain = domain(alloc)?;
+    let mut text = String::new(alloc);
+    write_large(&mut text, count)?;
+    streams_of(alloc, text.as_bytes(), &domain)
+}
+
+/// The first stream and the last one.
+fn ends_shown(alloc: Global, streams: &[Stream]) -> Result<String, AllocError> {
+    let mut out = String::new(alloc);
+    if let [first, .., last] = streams {
+        write_stream(&mut out, first)?;
+        write_stream(&mut out, last)?;
+    }
+    Ok(out)
 }
 
 #[test]
 fn a_file_of_2_000_streams_is_read(rt: HostRuntime) -> Result<(), Fail> {
-    let domain = domain(rt.alloc())?;
-    let text = large_file(rt.alloc(), 2000)?;
-    let tree = read_tree(rt.alloc(), text.as_bytes())?;
-    let streams = read_streams(rt.alloc(), &domain, &tree)?;
+    let streams = large(rt.alloc(), 2000)?;
     assert_eq!(rt; streams.len(), 2000);
-    if let [first, .., last] = streams.as_slice() {
-        let mut out = String::new(rt.alloc());
-        write_stream(&mut out, first)?;
-        write_stream(&mut out, last)?;
-        let wanted = "stream s0: 0 -> 0 if [1 ?0] then [2 ?0 ?1]
+    let shown = ends_shown(rt.alloc(), streams.as_slice())?;
+    let wanted = "stream s0: 0 -> 0 if [1 ?0] then [2 ?0 ?1]
 stream s1999: 0 -> 0 if [1 ?0] then [2 ?0 ?1]\n";
-        assert_eq!(rt; out.as_str(), wanted);
-    }
+    assert_eq!(rt; shown.as_str(), wanted);
     Ok(())
 }

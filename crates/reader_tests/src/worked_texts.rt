@@ -1,5 +1,6 @@
 //! Texts that are read whole, and the fit tasks that they spell.
 use fit_check::is_fit;
+use std::process::Abort;
 use std::test::Fail;
 use task_model::Task;
 use worked_tasks::{ARM, FETCH, GRID, KEEP, LAMPS, SAME, SOW, TWO, Texts, task};
@@ -38,13 +39,17 @@ const FIT: [(Texts<'static>, [usize; 9]); 8] = [
     (GRID, [6, 11, 1, 2, 2, 3, 4, 0, 4]),
 ];
 
+/// Asserts that the task has this.
+fn check_counts(rt: &impl Abort, task: &Task, counts: &[usize; 9]) {
+    assert_eq!(rt; counts_of(task), *counts);
+}
+
 #[test]
 fn texts_without_fault_spell_fit_tasks(rt: HostRuntime) -> Result<(), Fail> {
-    for (texts, counts) in FIT {
-        let task = task(rt.alloc(), &texts)?;
-        assert_eq!(rt; counts_of(&task), counts);
-        let fit = is_fit(rt.alloc(), &task)?;
-        assert!(rt; fit);
+    for (texts, counts) in &FIT {
+        let task = task(rt.alloc(), texts)?;
+        check_counts(&rt, &task, counts);
+        assert!(rt; is_fit(rt.alloc(), &task)?);
     }
     Ok(())
 }

@@ -1,5 +1,5 @@
 //! Facts hold from their answer on, and what is due goes by the streams' places.
-use crate::rows::{Row, check_rows};
+use crate::rows::{Row, Table, check_tables};
 use crate::texts::POSED;
 use std::test::Fail;
 use worked_tasks::ARM;
@@ -15,7 +15,15 @@ const ROWS: [Row<'static>; 8] = [
     (&[(9, "end 2"), (12, "no plan"), (13, "")], "valid"),
 ];
 
+const TABLES: [Table<'static>; 1] = [Table {
+    shows: "poses and their configurations",
+    texts: ARM,
+    limit: 100_000,
+    report: POSED,
+    rows: &ROWS,
+}];
+
 #[test]
 fn what_was_certified_may_be_asked_about(rt: HostRuntime) -> Result<(), Fail> {
-    check_rows(&rt, rt.alloc(), &ARM, 100_000, POSED, &ROWS)
+    check_tables(&rt, rt.alloc(), &TABLES)
 }

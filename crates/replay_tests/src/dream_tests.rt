@@ -1,5 +1,5 @@
 //! Reports of focused mode.
-use crate::rows::{Row, check_rows};
+use crate::rows::{Row, Table, check_tables};
 use crate::texts::{ANSWERED, BEGUN, DREAMLESS, DREAMT, LOOKED, LOOKING, MADE, SOWN, TWICE};
 use std::test::Fail;
 use worked_tasks::{GRID, SOW};
@@ -171,91 +171,160 @@ const WANTED: [Row<'static>; 4] = [
     (&[(9, "limit states")], "invalid 9 5"),
 ];
 
-/// Limits of states: the report's, and the one that is searched.
-const LOOKS: [(u32, Row<'static>); 12] = [
-    (8, (&[], "valid")),
-    (200_000, (&[], "valid")),
-    (7, (&[], "limit states")),
-    (1, (&[(4, "level"), (5, "none")], "invalid 4 5")),
-    (7, (&[(2, "limits 10000 7 3")], "valid")),
-    (4, (&[(2, "limits 10000 7 3")], "limit states")),
-    (4, (&[(2, "limits 10000 4 3")], "valid")),
-    (3, (&[(2, "limits 10000 4 3")], "limit states")),
-    (
-        3,
-        (&[(2, "limits 10000 3 3"), (8, "limit states")], "valid"),
-    ),
-    (
-        2,
-        (
-            &[(2, "limits 10000 3 3"), (8, "limit states")],
-            "limit states",
-        ),
-    ),
-    (
-        2,
-        (
-            &[
-                (2, "limits 10000 3 3"),
-                (4, "limit states"),
-                (5, ""),
-                (6, ""),
-                (7, ""),
-                (8, ""),
-            ],
-            "invalid 4 10",
-        ),
-    ),
-    (8, (&[(8, "limit states")], "invalid 8 10")),
-];
-
 /// Twins, whose second answer makes an instance that only binding mode asks.
 const TWINS: [Row<'static>; 1] = [(&[], "invalid 13 5")];
 
-#[test]
-fn wrong_lines_of_dreams_are_told(rt: HostRuntime) -> Result<(), Fail> {
-    check_rows(&rt, rt.alloc(), &GRID, 100_000, DREAMT, &DREAM)
-}
+/// Rows over dreams of the grid of one block.
+const DREAMING: Table<'static> = Table {
+    shows: "",
+    texts: GRID,
+    limit: 100_000,
+    report: DREAMT,
+    rows: &[],
+};
+
+const DREAMS: [Table<'static>; 5] = [
+    Table {
+        shows: "wrong lines of dreams are told",
+        rows: &DREAM,
+        ..DREAMING
+    },
+    Table {
+        shows: "other lines than a dream are told",
+        rows: &NONE,
+        ..DREAMING
+    },
+    Table {
+        shows: "what is asked of a dream is judged",
+        rows: &ASKED,
+        ..DREAMING
+    },
+    Table {
+        shows: "outcomes in the batch of a dream are told",
+        report: BEGUN,
+        rows: &EARLY,
+        ..DREAMING
+    },
+    Table {
+        shows: "nothing but the limit of calls stands behind a cut dream",
+        report: ANSWERED,
+        rows: &CUT,
+        ..DREAMING
+    },
+];
 
 #[test]
-fn other_lines_than_a_dream_are_told(rt: HostRuntime) -> Result<(), Fail> {
-    check_rows(&rt, rt.alloc(), &GRID, 100_000, DREAMT, &NONE)
+fn dreams_and_what_is_asked_of_them_are_judged(rt: HostRuntime) -> Result<(), Fail> {
+    check_tables(&rt, rt.alloc(), &DREAMS)
 }
 
-#[test]
-fn what_is_asked_of_a_dream_is_judged(rt: HostRuntime) -> Result<(), Fail> {
-    check_rows(&rt, rt.alloc(), &GRID, 100_000, DREAMT, &ASKED)
-}
+const TRIES: [Table<'static>; 3] = [
+    Table {
+        shows: "what was tried is not dreamt again",
+        texts: SOW,
+        report: SOWN,
+        rows: &TRIED,
+        ..DREAMING
+    },
+    Table {
+        shows: "no outcome stands behind the want of a dream",
+        texts: SOW,
+        report: DREAMLESS,
+        rows: &WANTED,
+        ..DREAMING
+    },
+    Table {
+        shows: "a dream is asked in one batch",
+        texts: MADE,
+        report: TWICE,
+        rows: &TWINS,
+        ..DREAMING
+    },
+];
 
 #[test]
-fn outcomes_in_the_batch_of_a_dream_are_told(rt: HostRuntime) -> Result<(), Fail> {
-    check_rows(&rt, rt.alloc(), &GRID, 100_000, BEGUN, &EARLY)
+fn what_was_tried_and_what_dreams_make_is_judged(rt: HostRuntime) -> Result<(), Fail> {
+    check_tables(&rt, rt.alloc(), &TRIES)
 }
 
-#[test]
-fn nothing_but_the_limit_of_calls_stands_behind_a_cut_dream(rt: HostRuntime) -> Result<(), Fail> {
-    check_rows(&rt, rt.alloc(), &GRID, 100_000, ANSWERED, &CUT)
-}
+/// Rows over lamps of which a dream wants more states: eight in place of four.
+const SEARCHED: Table<'static> = Table {
+    shows: "",
+    texts: LOOKED,
+    limit: 100_000,
+    report: LOOKING,
+    rows: &[],
+};
 
-#[test]
-fn what_was_tried_is_not_dreamt_again(rt: HostRuntime) -> Result<(), Fail> {
-    check_rows(&rt, rt.alloc(), &SOW, 100_000, SOWN, &TRIED)
-}
-
-#[test]
-fn no_outcome_stands_behind_the_want_of_a_dream(rt: HostRuntime) -> Result<(), Fail> {
-    check_rows(&rt, rt.alloc(), &SOW, 100_000, DREAMLESS, &WANTED)
-}
+/// Limits of states, each with limits of the report and claims.
+const LOOKS: [Table<'static>; 7] = [
+    Table {
+        shows: "within 8 states",
+        limit: 8,
+        rows: &[(&[], "valid"), (&[(8, "limit states")], "invalid 8 10")],
+        ..SEARCHED
+    },
+    Table {
+        shows: "within 200,000 states",
+        limit: 200_000,
+        rows: &[(&[], "valid")],
+        ..SEARCHED
+    },
+    Table {
+        shows: "within 7 states",
+        limit: 7,
+        rows: &[(&[], "limit states"), (&[(2, "limits 10000 7 3")], "valid")],
+        ..SEARCHED
+    },
+    Table {
+        shows: "within 4 states",
+        limit: 4,
+        rows: &[
+            (&[(2, "limits 10000 7 3")], "limit states"),
+            (&[(2, "limits 10000 4 3")], "valid"),
+        ],
+        ..SEARCHED
+    },
+    Table {
+        shows: "within 3 states",
+        limit: 3,
+        rows: &[
+            (&[(2, "limits 10000 4 3")], "limit states"),
+            (&[(2, "limits 10000 3 3"), (8, "limit states")], "valid"),
+        ],
+        ..SEARCHED
+    },
+    Table {
+        shows: "within 2 states",
+        limit: 2,
+        rows: &[
+            (
+                &[(2, "limits 10000 3 3"), (8, "limit states")],
+                "limit states",
+            ),
+            (
+                &[
+                    (2, "limits 10000 3 3"),
+                    (4, "limit states"),
+                    (5, ""),
+                    (6, ""),
+                    (7, ""),
+                    (8, ""),
+                ],
+                "invalid 4 10",
+            ),
+        ],
+        ..SEARCHED
+    },
+    Table {
+        shows: "within one state",
+        limit: 1,
+        rows: &[(&[(4, "level"), (5, "none")], "invalid 4 5")],
+        ..SEARCHED
+    },
+];
 
 #[test]
 fn claims_of_focused_mode_may_want_more_states(rt: HostRuntime) -> Result<(), Fail> {
-    for (limit, row) in &LOOKS {
-        check_rows(&rt, rt.alloc(), &LOOKED, *limit, LOOKING, &[*row])?;
-    }
-    Ok(())
-}
-
-#[test]
-fn a_dream_is_asked_in_one_batch(rt: HostRuntime) -> Result<(), Fail> {
-    check_rows(&rt, rt.alloc(), &MADE, 100_000, TWICE, &TWINS)
+    check_tables(&rt, rt.alloc(), &LOOKS)
 }

@@ -1,8 +1,6 @@
 //! The plan for the cup, changed in its head and its transcript.
-use crate::rows::{Row, check_rows};
-use crate::texts::FETCHED;
+use crate::rows::{FETCHING, Row, Table, check_tables};
 use std::test::Fail;
-use worked_tasks::FETCH;
 
 /// Lines that aren't of a form at their place.
 const TEXT: [Row<'static>; 13] = [
@@ -85,27 +83,43 @@ const ORDER: [Row<'static>; 17] = [
     (&[(6, "got 1 left\nlevel")], "invalid 8 5"),
 ];
 
-#[test]
-fn the_report_of_a_plan_is_valid(rt: HostRuntime) -> Result<(), Fail> {
-    check_rows(&rt, rt.alloc(), &FETCH, 100_000, FETCHED, &[(&[], "valid")])
-}
+const FORMS: [Table<'static>; 3] = [
+    Table {
+        shows: "the report of a plan is valid",
+        rows: &[(&[], "valid")],
+        ..FETCHING
+    },
+    Table {
+        shows: "lines of no form are told first",
+        rows: &TEXT,
+        ..FETCHING
+    },
+    Table {
+        shows: "heads that do not fit are told",
+        rows: &HEAD,
+        ..FETCHING
+    },
+];
 
 #[test]
-fn lines_of_no_form_are_told_first(rt: HostRuntime) -> Result<(), Fail> {
-    check_rows(&rt, rt.alloc(), &FETCH, 100_000, FETCHED, &TEXT)
+fn lines_of_no_form_and_heads_that_do_not_fit_are_told(rt: HostRuntime) -> Result<(), Fail> {
+    check_tables(&rt, rt.alloc(), &FORMS)
 }
 
-#[test]
-fn heads_that_do_not_fit_are_told(rt: HostRuntime) -> Result<(), Fail> {
-    check_rows(&rt, rt.alloc(), &FETCH, 100_000, FETCHED, &HEAD)
-}
+const TALKS: [Table<'static>; 2] = [
+    Table {
+        shows: "wrong requests and answers are told",
+        rows: &TALK,
+        ..FETCHING
+    },
+    Table {
+        shows: "lines out of order are told",
+        rows: &ORDER,
+        ..FETCHING
+    },
+];
 
 #[test]
-fn wrong_requests_and_answers_are_told(rt: HostRuntime) -> Result<(), Fail> {
-    check_rows(&rt, rt.alloc(), &FETCH, 100_000, FETCHED, &TALK)
-}
-
-#[test]
-fn lines_out_of_order_are_told(rt: HostRuntime) -> Result<(), Fail> {
-    check_rows(&rt, rt.alloc(), &FETCH, 100_000, FETCHED, &ORDER)
+fn wrong_talk_and_lines_out_of_order_are_told(rt: HostRuntime) -> Result<(), Fail> {
+    check_tables(&rt, rt.alloc(), &TALKS)
 }

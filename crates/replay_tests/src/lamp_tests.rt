@@ -1,5 +1,5 @@
 //! Claims that can't be decided within the limit of states.
-use crate::rows::{Row, check_rows};
+use crate::rows::{Row, Table, check_tables};
 use crate::texts::{DARK, LIT, MANY};
 use std::test::Fail;
 use worked_tasks::LAMPS;
@@ -23,30 +23,71 @@ const WANTING: [Row<'static>; 5] = [
     (&[(4, "don")], "invalid 4 1"),
 ];
 
-#[test]
-fn four_states_are_enough(rt: HostRuntime) -> Result<(), Fail> {
-    check_rows(&rt, rt.alloc(), &LAMPS, 100_000, DARK, &ENOUGH)?;
-    check_rows(&rt, rt.alloc(), &LAMPS, 4, DARK, &ENOUGH)
-}
+/// Rows over the lamps that have no plan.
+const DARKENED: Table<'static> = Table {
+    shows: "",
+    texts: LAMPS,
+    limit: 100_000,
+    report: DARK,
+    rows: &[],
+};
+
+const TABLES: [Table<'static>; 8] = [
+    Table {
+        shows: "four states are enough",
+        rows: &ENOUGH,
+        ..DARKENED
+    },
+    Table {
+        shows: "four states are enough, of four",
+        limit: 4,
+        rows: &ENOUGH,
+        ..DARKENED
+    },
+    Table {
+        shows: "three states are wanting",
+        limit: 3,
+        rows: &WANTING,
+        ..DARKENED
+    },
+    Table {
+        shows: "more than three states are reached",
+        limit: 3,
+        report: MANY,
+        rows: &[(&[], "valid")],
+        ..DARKENED
+    },
+    Table {
+        shows: "more than three states are reached, of many",
+        limit: 200_000,
+        report: MANY,
+        rows: &[(&[], "valid")],
+        ..DARKENED
+    },
+    Table {
+        shows: "the limit of the report may not be reached",
+        limit: 2,
+        report: MANY,
+        rows: &[(&[], "limit states")],
+        ..DARKENED
+    },
+    Table {
+        shows: "no plan is undecided though there is one",
+        texts: LIT,
+        limit: 2,
+        rows: &[(&[], "limit states")],
+        ..DARKENED
+    },
+    Table {
+        shows: "no plan is claimed though there is one",
+        texts: LIT,
+        limit: 4,
+        rows: &[(&[], "invalid 3 10")],
+        ..DARKENED
+    },
+];
 
 #[test]
-fn three_states_are_wanting(rt: HostRuntime) -> Result<(), Fail> {
-    check_rows(&rt, rt.alloc(), &LAMPS, 3, DARK, &WANTING)
-}
-
-#[test]
-fn more_than_three_states_are_reached(rt: HostRuntime) -> Result<(), Fail> {
-    check_rows(&rt, rt.alloc(), &LAMPS, 3, MANY, &[(&[], "valid")])?;
-    check_rows(&rt, rt.alloc(), &LAMPS, 200_000, MANY, &[(&[], "valid")])
-}
-
-#[test]
-fn the_limit_of_the_report_may_not_be_reached(rt: HostRuntime) -> Result<(), Fail> {
-    check_rows(&rt, rt.alloc(), &LAMPS, 2, MANY, &[(&[], "limit states")])
-}
-
-#[test]
-fn no_plan_is_undecided_though_there_is_one(rt: HostRuntime) -> Result<(), Fail> {
-    check_rows(&rt, rt.alloc(), &LIT, 2, DARK, &[(&[], "limit states")])?;
-    check_rows(&rt, rt.alloc(), &LIT, 4, DARK, &[(&[], "invalid 3 10")])
+fn claims_are_decided_where_the_states_are_enough(rt: HostRuntime) -> Result<(), Fail> {
+    check_tables(&rt, rt.alloc(), &TABLES)
 }

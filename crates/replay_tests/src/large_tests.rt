@@ -89,25 +89,37 @@ fn write_origins(text: &mut String) -> Result<(), AllocError> {
 }
 
 /// A valid report, with a line for the origin of each value.
-fn large_report(alloc: Global) -> Result<String, AllocError> {
-    let mut text = String::new(alloc);
+fn write_report(text: &mut String) -> Result<(), AllocError> {
     write!(
         text,
         "pddlstream 1 incremental\nlimits {REQUESTS} 100000 3\npool 1 make\nlevel\n"
     )?;
-    write_requests(&mut text)?;
+    write_requests(text)?;
     writeln!(text, "plan {STEPS}")?;
-    write_steps(&mut text)?;
+    write_steps(text)?;
     writeln!(text, "cost {STEPS}")?;
-    write_origins(&mut text)?;
+    write_origins(text)?;
     writeln!(text, "done")?;
+    Ok(())
+}
+
+/// That report.
+fn large_report(alloc: Global) -> Result<String, AllocError> {
+    let mut text = String::new(alloc);
+    write_report(&mut text)?;
+    Ok(text)
+}
+
+/// That problem.
+fn large_problem(alloc: Global) -> Result<String, AllocError> {
+    let mut text = String::new(alloc);
+    write_items(&mut text)?;
     Ok(text)
 }
 
 /// What a replay says of the report.
 fn said_of_large(alloc: Global, report: &str) -> Result<String, Fail> {
-    let mut problem = String::new(alloc);
-    write_items(&mut problem)?;
+    let problem = large_problem(alloc)?;
     let texts = Texts {
         domain: DOMAIN,
         problem: problem.as_str(),

@@ -1,5 +1,5 @@
 //! One level after another, up to the limit of calls.
-use crate::rows::{Row, check_rows};
+use crate::rows::{Row, Table, check_tables};
 use crate::texts::{FIVE, WANTED};
 use std::test::Fail;
 
@@ -11,7 +11,15 @@ const ROWS: [Row<'static>; 5] = [
     (&[(16, "")], "invalid 16 5"),
 ];
 
+const TABLES: [Table<'static>; 1] = [Table {
+    shows: "five levels of one call",
+    texts: WANTED,
+    limit: 100_000,
+    report: FIVE,
+    rows: &ROWS,
+}];
+
 #[test]
 fn five_calls_are_five_levels(rt: HostRuntime) -> Result<(), Fail> {
-    check_rows(&rt, rt.alloc(), &WANTED, 100_000, FIVE, &ROWS)
+    check_tables(&rt, rt.alloc(), &TABLES)
 }

@@ -1,8 +1,8 @@
 //! Outcomes that are changed: plans, costs, origins and claims.
-use crate::rows::{Row, check_rows};
-use crate::texts::{FETCHED, KEPT, PRICELESS, USED};
+use crate::rows::{FETCHING, Row, Table, check_tables};
+use crate::texts::{KEPT, PRICELESS, USED};
 use std::test::Fail;
-use worked_tasks::{FETCH, KEEP, SAME};
+use worked_tasks::{KEEP, SAME};
 
 /// Steps that can't be taken, and plans that don't reach the goal.
 const STEPS: [Row<'static>; 12] = [
@@ -243,47 +243,73 @@ const TWICE: [Row<'static>; 3] = [
     (&[(10, "do use cup")], "invalid 10 7"),
 ];
 
-#[test]
-fn steps_that_cannot_be_taken_are_told(rt: HostRuntime) -> Result<(), Fail> {
-    check_rows(&rt, rt.alloc(), &FETCH, 100_000, FETCHED, &STEPS)
-}
+/// The cost of the action that costs seven.
+const SEVEN: [Row<'static>; 2] = [(&[], "valid"), (&[(5, "cost 1")], "invalid 5 8")];
+
+/// The same action without a cost.
+const NO_COST: [Row<'static>; 2] = [
+    (&[], "invalid 4 7"),
+    (&[(3, "no plan"), (4, ""), (5, "")], "valid"),
+];
+
+const PLANS: [Table<'static>; 5] = [
+    Table {
+        shows: "steps that cannot be taken are told",
+        rows: &STEPS,
+        ..FETCHING
+    },
+    Table {
+        shows: "wrong costs and origins are told",
+        rows: &SUMS,
+        ..FETCHING
+    },
+    Table {
+        shows: "an object comes from the first answer",
+        texts: SAME,
+        report: USED,
+        rows: &TWICE,
+        ..FETCHING
+    },
+    Table {
+        shows: "a cost is a value of the task",
+        texts: KEEP,
+        report: KEPT,
+        rows: &SEVEN,
+        ..FETCHING
+    },
+    Table {
+        shows: "an action without a cost cannot be taken",
+        texts: PRICELESS,
+        report: KEPT,
+        rows: &NO_COST,
+        ..FETCHING
+    },
+];
 
 #[test]
-fn wrong_costs_and_origins_are_told(rt: HostRuntime) -> Result<(), Fail> {
-    check_rows(&rt, rt.alloc(), &FETCH, 100_000, FETCHED, &SUMS)
+fn wrong_steps_costs_and_origins_are_told(rt: HostRuntime) -> Result<(), Fail> {
+    check_tables(&rt, rt.alloc(), &PLANS)
 }
 
-#[test]
-fn claims_are_judged(rt: HostRuntime) -> Result<(), Fail> {
-    check_rows(&rt, rt.alloc(), &FETCH, 100_000, FETCHED, &CLAIMS)
-}
+const CLAIMED: [Table<'static>; 3] = [
+    Table {
+        shows: "claims are judged",
+        rows: &CLAIMS,
+        ..FETCHING
+    },
+    Table {
+        shows: "the first of several wrong lines is told",
+        rows: &FIRST,
+        ..FETCHING
+    },
+    Table {
+        shows: "both versions are read",
+        rows: &SEVERAL,
+        ..FETCHING
+    },
+];
 
 #[test]
-fn the_first_of_several_wrong_lines_is_told(rt: HostRuntime) -> Result<(), Fail> {
-    check_rows(&rt, rt.alloc(), &FETCH, 100_000, FETCHED, &FIRST)
-}
-
-#[test]
-fn both_versions_are_read(rt: HostRuntime) -> Result<(), Fail> {
-    check_rows(&rt, rt.alloc(), &FETCH, 100_000, FETCHED, &SEVERAL)
-}
-
-#[test]
-fn an_object_comes_from_the_first_answer(rt: HostRuntime) -> Result<(), Fail> {
-    check_rows(&rt, rt.alloc(), &SAME, 100_000, USED, &TWICE)
-}
-
-#[test]
-fn a_cost_is_a_value_of_the_task(rt: HostRuntime) -> Result<(), Fail> {
-    let rows: [Row<'_>; 2] = [(&[], "valid"), (&[(5, "cost 1")], "invalid 5 8")];
-    check_rows(&rt, rt.alloc(), &KEEP, 100_000, KEPT, &rows)
-}
-
-#[test]
-fn an_action_without_a_cost_cannot_be_taken(rt: HostRuntime) -> Result<(), Fail> {
-    let rows: [Row<'_>; 2] = [
-        (&[], "invalid 4 7"),
-        (&[(3, "no plan"), (4, ""), (5, "")], "valid"),
-    ];
-    check_rows(&rt, rt.alloc(), &PRICELESS, 100_000, KEPT, &rows)
+fn claims_are_judged_in_both_versions(rt: HostRuntime) -> Result<(), Fail> {
+    check_tables(&rt, rt.alloc(), &CLAIMED)
 }

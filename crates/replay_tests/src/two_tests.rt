@@ -1,5 +1,5 @@
 //! Rounds, batches that are cut, and the order in which a level is asked.
-use crate::rows::{Row, check_rows};
+use crate::rows::{Row, Table, check_tables};
 use crate::texts::GRIPPED;
 use std::test::Fail;
 use worked_tasks::TWO;
@@ -96,29 +96,49 @@ got 1 left
 limit calls
 done";
 
-#[test]
-fn each_request_is_a_round_of_one_worker(rt: HostRuntime) -> Result<(), Fail> {
-    check_rows(&rt, rt.alloc(), &TWO, 100_000, GRIPPED, &ONE_WORKER)
-}
+/// The instance of the test ends.
+const ENDED: [Row<'static>; 2] = [
+    (
+        &[(8, "end 2"), (11, "end 3"), (12, "no plan"), (13, "")],
+        "valid",
+    ),
+    (&[(8, "end 2"), (11, "end 3")], "invalid 13 7"),
+];
+
+/// Rows over two grips and the test.
+const GRIPPING: Table<'static> = Table {
+    shows: "",
+    texts: TWO,
+    limit: 100_000,
+    report: GRIPPED,
+    rows: &[],
+};
+
+const TABLES: [Table<'static>; 4] = [
+    Table {
+        shows: "each request is a round of one worker",
+        rows: &ONE_WORKER,
+        ..GRIPPING
+    },
+    Table {
+        shows: "rounds go by the pools",
+        rows: &ROUNDS,
+        ..GRIPPING
+    },
+    Table {
+        shows: "nothing but the limit of calls stands behind a cut level",
+        report: BEGUN,
+        rows: &CUT,
+        ..GRIPPING
+    },
+    Table {
+        shows: "an instance of a test may end",
+        rows: &ENDED,
+        ..GRIPPING
+    },
+];
 
 #[test]
-fn rounds_go_by_the_pools(rt: HostRuntime) -> Result<(), Fail> {
-    check_rows(&rt, rt.alloc(), &TWO, 100_000, GRIPPED, &ROUNDS)
-}
-
-#[test]
-fn nothing_but_the_limit_of_calls_stands_behind_a_cut_level(rt: HostRuntime) -> Result<(), Fail> {
-    check_rows(&rt, rt.alloc(), &TWO, 100_000, BEGUN, &CUT)
-}
-
-#[test]
-fn an_instance_of_a_test_may_end(rt: HostRuntime) -> Result<(), Fail> {
-    let rows: [Row<'_>; 2] = [
-        (
-            &[(8, "end 2"), (11, "end 3"), (12, "no plan"), (13, "")],
-            "valid",
-        ),
-        (&[(8, "end 2"), (11, "end 3")], "invalid 13 7"),
-    ];
-    check_rows(&rt, rt.alloc(), &TWO, 100_000, GRIPPED, &rows)
+fn rounds_and_batches_are_judged(rt: HostRuntime) -> Result<(), Fail> {
+    check_tables(&rt, rt.alloc(), &TABLES)
 }

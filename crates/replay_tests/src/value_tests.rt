@@ -1,5 +1,5 @@
 //! Cost streams, whose answers are values.
-use crate::rows::{Row, check_rows};
+use crate::rows::{Row, Table, check_tables};
 use crate::texts::{BOUGHT, SHOP};
 use std::test::Fail;
 
@@ -14,7 +14,15 @@ const ROWS: [Row<'static>; 8] = [
     (&[(6, "value 1 7\nlevel")], "invalid 7 5"),
 ];
 
+const TABLES: [Table<'static>; 1] = [Table {
+    shows: "the price of the cup",
+    texts: SHOP,
+    limit: 100_000,
+    report: BOUGHT,
+    rows: &ROWS,
+}];
+
 #[test]
 fn a_value_is_what_the_action_costs(rt: HostRuntime) -> Result<(), Fail> {
-    check_rows(&rt, rt.alloc(), &SHOP, 100_000, BOUGHT, &ROWS)
+    check_tables(&rt, rt.alloc(), &TABLES)
 }

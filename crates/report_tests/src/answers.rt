@@ -5,7 +5,6 @@ ghost use Rattle.gen_lines.specs.Told.{IsNarrow};
 use gen_lines::{Answer, Wanted, Why, answer_of};
 
 /// What a request wants: one tuple or several, of no value, of one or of two; or a number.
-#[derive(Clone, Copy)]
 enum Kind {
     Test,
     One,
@@ -17,7 +16,6 @@ enum Kind {
 
 /// What a line answers: how many tuples, and all their values; a number; that there is no more; or
 /// why it is no answer.
-#[derive(Clone, Copy)]
 enum Want<'a> {
     Yield(u8, &'a [&'a [u8]]),
     Value(u32),
@@ -149,7 +147,7 @@ fn outputs(width: usize, several: bool) -> Wanted
     Wanted::Outputs { width, several }
 }
 
-fn wanted_of(kind: Kind) -> Wanted
+fn wanted_of(kind: &Kind) -> Wanted
     ensures { IsNarrow result }
 {
     match kind {
@@ -211,34 +209,36 @@ fn ends(line: &[u8], wanted: Wanted) -> bool
 }
 
 /// Whether the line answers this.
-fn answers(line: &[u8], kind: Kind, want: Want<'_>) -> bool {
+fn answers(line: &[u8], kind: &Kind, want: &Want<'_>) -> bool {
     if line.len() > 1024 {
         return false;
     }
     let wanted = wanted_of(kind);
     match want {
-        Want::Yield(tuples, values) => yields(line, wanted, tuples, values),
-        Want::Value(value) => number(line, wanted) == Some(value),
+        Want::Yield(tuples, values) => yields(line, wanted, *tuples, values),
+        Want::Value(value) => number(line, wanted) == Some(*value),
         Want::End => ends(line, wanted),
-        Want::Bad(why) => refused(line, wanted) == Some(why),
+        Want::Bad(why) => refused(line, wanted) == Some(*why),
     }
 }
 
 #[test]
 fn lines_answer_as_the_protocol_says(rt: HostRuntime) {
-    for (line, kind, want) in ROWS {
+    for (line, kind, want) in &ROWS {
         assert!(rt; answers(line, kind, want), "{line:?}");
     }
 }
 
+const CAUSES: [(Why, u8); 4] = [
+    (Why::Word, 1),
+    (Why::Count, 2),
+    (Why::Value, 3),
+    (Why::TooLong, 4),
+];
+
 #[test]
 fn the_causes_are_numbered_from_1(rt: HostRuntime) {
-    for (why, number) in [
-        (Why::Word, 1),
-        (Why::Count, 2),
-        (Why::Value, 3),
-        (Why::TooLong, 4),
-    ] {
-        assert_eq!(rt; why as u8, number);
+    for (why, number) in &CAUSES {
+        assert_eq!(rt; *why as u8, *number);
     }
 }

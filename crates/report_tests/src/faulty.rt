@@ -180,8 +180,8 @@ const TEXTS: [(u32, &[u8]); 36] = [
 
 #[test]
 fn texts_have_these_first_faulty_lines(rt: HostRuntime) -> Result<(), Fail> {
-    for (line, text) in TEXTS {
-        assert_eq!(rt; faulty(rt.alloc(), text)?, line, "{text:?}");
+    for (line, text) in &TEXTS {
+        assert_eq!(rt; faulty(rt.alloc(), text)?, *line, "{text:?}");
     }
     Ok(())
 }

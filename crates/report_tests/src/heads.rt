@@ -7,7 +7,6 @@ use task_model::{Domain, Formula, FormulaNode, Name, Problem, Seq, Stream, Task}
 use transcript_text::{Head, Mode, Pool, head_text};
 
 /// The streams of a run, in one pool.
-#[derive(Clone, Copy)]
 pub enum Streams {
     /// `grip`
     Grip,
@@ -20,7 +19,6 @@ pub enum Streams {
 }
 
 /// What a head says besides the limits of calls and of states.
-#[derive(Clone, Copy)]
 pub struct Started {
     pub version: u8,
     pub mode: Mode,
@@ -74,7 +72,7 @@ fn stream(alloc: Global, text: &str) -> Result<Stream, AllocError> {
 }
 
 /// A task of four streams, of these names.
-fn task(alloc: Global, names: [&str; 4]) -> Result<Box<Task>, AllocError>
+fn task(alloc: Global, names: &[&str; 4]) -> Result<Box<Task>, AllocError>
     ensures { IfOk result (λ task. length task.value.streams ≡ 4) }
 {
     let mut streams = Vec::new(alloc);
@@ -91,7 +89,7 @@ fn task(alloc: Global, names: [&str; 4]) -> Result<Box<Task>, AllocError>
 }
 
 /// The head with one pool of the streams at these places.
-fn head(alloc: Global, started: Started, places: &[u32]) -> Result<Head, AllocError>
+fn head(alloc: Global, started: &Started, places: &[u32]) -> Result<Head, AllocError>
     requires { All (λ place. place < 4) places.now }
     ensures { IfOk result (λ head. All (λ pool. All (λ place. place < 4) pool.streams) head.pools) }
 {
@@ -115,8 +113,8 @@ fn head(alloc: Global, started: Started, places: &[u32]) -> Result<Head, AllocEr
 /// The text of the head with these streams of four names.
 fn text_of(
     alloc: Global,
-    started: Started,
-    names: [&str; 4],
+    started: &Started,
+    names: &[&str; 4],
     places: &[u32],
 ) -> Result<Vec<u8>, AllocError>
     requires { All (λ place. place < 4) places.now }
@@ -126,15 +124,18 @@ fn text_of(
     head_text(alloc, &task, &head)
 }
 
+const GRIPS: [&str; 4] = ["grip", "ok", "", ""];
+
+const GRID: [&str; 4] = ["place", "grasp", "reach", "clear"];
+
+const SOW: [&str; 4] = ["try", "sow", "grow", ""];
+
 /// The text of a head.
-pub fn started_text(alloc: Global, started: Started) -> Result<Vec<u8>, AllocError> {
-    let grips = ["grip", "ok", "", ""];
-    let grid = ["place", "grasp", "reach", "clear"];
-    let sow = ["try", "sow", "grow", ""];
+pub fn started_text(alloc: Global, started: &Started) -> Result<Vec<u8>, AllocError> {
     match started.streams {
-        Streams::Grip => text_of(alloc, started, grips, &[0]),
-        Streams::GripAndOk => text_of(alloc, started, grips, &[0, 1]),
-        Streams::Grid => text_of(alloc, started, grid, &[0, 1, 2, 3]),
-        Streams::Sow => text_of(alloc, started, sow, &[0, 1, 2]),
+        Streams::Grip => text_of(alloc, started, &GRIPS, &[0]),
+        Streams::GripAndOk => text_of(alloc, started, &GRIPS, &[0, 1]),
+        Streams::Grid => text_of(alloc, started, &GRID, &[0, 1, 2, 3]),
+        Streams::Sow => text_of(alloc, started, &SOW, &[0, 1, 2]),
     }
 }

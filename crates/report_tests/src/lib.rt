@@ -18,3 +18,5 @@ mod reports;
 mod rows;
 #[cfg(test)]
 mod texts;
+#[cfg(test)]
+mod written;

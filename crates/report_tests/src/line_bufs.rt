@@ -7,6 +7,22 @@ ghost use Rattle.gen_lines.specs.Lines.{is_feed};
 use gen_lines::{Answer, LINE_BYTES, LineBuf, Seen, Wanted, answer_of};
 use std::alloc::{AllocError, Global};
 
+/// Takes out the lines that are there, and answers how many of these lines are taken then; None
+/// where a line is another than the next of them.
+fn take_lines(buf: &mut LineBuf, lines: &[&[u8]], taken: usize) -> Option<usize> {
+    let mut taken = taken;
+    for _ in 0..lines.len() {
+        let Seen::Line(line) = buf.next_line() else {
+            break;
+        };
+        match lines.get(taken) {
+            Some(expected) if line == *expected => taken += 1,
+            _ => return None,
+        }
+    }
+    Some(taken)
+}
+
 /// Whether the bytes, pushed in pieces of this size, give these lines and hold a part of one in the
 /// end.
 fn cut_into(alloc: Global, bytes: &[u8], size: usize, lines: &[&[u8]]) -> Result<bool, AllocError>
@@ -19,39 +35,33 @@ fn cut_into(alloc: Global, bytes: &[u8], size: usize, lines: &[&[u8]]) -> Result
             return Ok(false);
         }
         buf.push(piece);
-        for _ in 0..lines.len() {
-            let Seen::Line(line) = buf.next_line() else {
-                break;
-            };
-            match lines.get(taken) {
-                Some(expected) if line == *expected => taken += 1,
-                _ => return Ok(false),
-            }
-        }
+        let Some(now) = take_lines(&mut buf, lines, taken) else {
+            return Ok(false);
+        };
+        taken = now;
     }
     Ok(taken == lines.len() && buf.next_line() == Seen::Part)
 }
 
+/// The lines in `PIECES`, and the bytes.
+const LINES: [&[u8]; 5] = [b"yield  left ", b" yield", b"yield right", b"", b""];
+
+const PIECES: &[u8] = b"yield  left \r\n yield\nyield right\n\r\n\nyi";
+
 #[test]
 fn lines_are_the_same_however_their_bytes_come(rt: HostRuntime) -> Result<(), AllocError> {
-    let bytes = b"yield  left \r\n yield\nyield right\n\r\n\nyi";
-    let lines = [
-        b"yield  left ".as_slice(),
-        b" yield",
-        b"yield right",
-        b"",
-        b"",
-    ];
     for size in [1, 2, 3, 5, 7, 16, 1000] {
-        assert!(rt; cut_into(rt.alloc(), bytes, size, &lines)?);
+        assert!(rt; cut_into(rt.alloc(), PIECES, size, &LINES)?);
     }
     Ok(())
 }
 
+/// Lines that carriage returns stand in.
+const RETURNED: [&[u8]; 3] = [b"a\rb", b"\r", b"c\r"];
+
 #[test]
 fn one_carriage_return_before_a_line_feed_is_dropped(rt: HostRuntime) -> Result<(), AllocError> {
-    let lines = [b"a\rb".as_slice(), b"\r", b"c\r"];
-    assert!(rt; cut_into(rt.alloc(), b"a\rb\n\r\r\nc\r\r\n", 1, &lines)?);
+    assert!(rt; cut_into(rt.alloc(), b"a\rb\n\r\r\nc\r\r\n", 1, &RETURNED)?);
     Ok(())
 }
 

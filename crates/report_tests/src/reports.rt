@@ -1,12 +1,12 @@
 //! Whole reports, byte for byte.
 use crate::heads::{Started, Streams, started_text};
-use crate::rows::{Ended, Told, entry, outcome};
+use crate::rows::{Ended, Told};
+use crate::written::{add_ended, add_told};
 use std::alloc::{AllocError, Global};
 use std::test::Fail;
-use transcript_text::{Mode, entry_text, outcome_text};
+use transcript_text::Mode;
 
 /// A report, and its text.
-#[derive(Clone, Copy)]
 struct Shown<'a> {
     started: Started,
     told: &'a [Told<'a>],
@@ -185,31 +185,20 @@ const REPORTS: [Shown<'static>; 6] = [
     },
 ];
 
-/// Writes the entries behind a head.
-fn write_entries(alloc: Global, text: &mut Vec<u8>, told: &[Told<'_>]) -> Result<(), AllocError> {
-    for each in told {
-        let entry = entry(alloc, *each)?;
-        let lines = entry_text(alloc, &entry)?;
-        text.extend_from_slice(lines.as_slice())?;
-    }
-    Ok(())
-}
-
 /// The whole text of a report.
 fn written(alloc: Global, shown: &Shown<'_>) -> Result<Vec<u8>, AllocError> {
-    let mut text = started_text(alloc, shown.started)?;
-    write_entries(alloc, &mut text, shown.told)?;
-    let outcome = outcome(alloc, shown.ended)?;
-    let end = outcome_text(alloc, &outcome, shown.started.version)?;
-    text.extend_from_slice(end.as_slice())?;
-    text.extend_from_slice(b"done\n")?;
+    let mut text = started_text(alloc, &shown.started)?;
+    for told in shown.told {
+        add_told(alloc, &mut text, told)?;
+    }
+    add_ended(alloc, &mut text, &shown.ended, shown.started.version)?;
     Ok(text)
 }
 
 #[test]
 fn reports_are_written_whole(rt: HostRuntime) -> Result<(), Fail> {
-    for shown in REPORTS {
-        let text = written(rt.alloc(), &shown)?;
+    for shown in &REPORTS {
+        let text = written(rt.alloc(), shown)?;
         assert_eq!(rt; text.as_slice(), shown.text);
     }
     Ok(())

@@ -5,29 +5,33 @@ use std::alloc::{AllocError, Global};
 use std::test::Fail;
 use transcript_text::{LimitKind, Mode, entry_text, outcome_text};
 
-/// The modes of a run of the stream `grip`, each with the text of its head.
-const HEADS: [(Mode, &[u8]); 2] = [
+/// Heads of runs of the stream `grip` in two modes, each with its text.
+const HEADS: [(Started, &[u8]); 2] = [
     (
-        Mode::Incremental,
+        Started {
+            version: 1,
+            mode: Mode::Incremental,
+            depth: 3,
+            streams: Streams::Grip,
+        },
         b"pddlstream 1 incremental\nlimits 10000 100000 3\npool 1 grip\n",
     ),
     (
-        Mode::Binding,
+        Started {
+            version: 1,
+            mode: Mode::Binding,
+            depth: 3,
+            streams: Streams::Grip,
+        },
         b"pddlstream 1 binding\nlimits 10000 100000 3\npool 1 grip\n",
     ),
 ];
 
 #[test]
 fn a_head_names_version_mode_limits_and_pools(rt: HostRuntime) -> Result<(), Fail> {
-    for (mode, want) in HEADS {
-        let started = Started {
-            version: 1,
-            mode,
-            depth: 3,
-            streams: Streams::Grip,
-        };
+    for (started, want) in &HEADS {
         let text = started_text(rt.alloc(), started)?;
-        assert_eq!(rt; text.as_slice(), want);
+        assert_eq!(rt; text.as_slice(), *want);
     }
     Ok(())
 }
@@ -54,16 +58,16 @@ const ENTRIES: [(Told<'static>, &[u8]); 11] = [
 ];
 
 /// The text of the entry.
-fn told_text(alloc: Global, told: Told<'_>) -> Result<Vec<u8>, AllocError> {
+fn told_text(alloc: Global, told: &Told<'_>) -> Result<Vec<u8>, AllocError> {
     let entry = entry(alloc, told)?;
     entry_text(alloc, &entry)
 }
 
 #[test]
 fn an_entry_shows_all_that_it_tells(rt: HostRuntime) -> Result<(), Fail> {
-    for (told, want) in ENTRIES {
+    for (told, want) in &ENTRIES {
         let text = told_text(rt.alloc(), told)?;
-        assert_eq!(rt; text.as_slice(), want);
+        assert_eq!(rt; text.as_slice(), *want);
     }
     Ok(())
 }
@@ -94,16 +98,16 @@ const OUTCOMES: [(Ended<'static>, u8, &[u8]); 6] = [
 ];
 
 /// The text of the outcome in a version.
-fn ended_text(alloc: Global, ended: Ended<'_>, version: u8) -> Result<Vec<u8>, AllocError> {
+fn ended_text(alloc: Global, ended: &Ended<'_>, version: u8) -> Result<Vec<u8>, AllocError> {
     let outcome = outcome(alloc, ended)?;
     outcome_text(alloc, &outcome, version)
 }
 
 #[test]
 fn an_outcome_shows_a_plan_its_cost_and_its_origins(rt: HostRuntime) -> Result<(), Fail> {
-    for (ended, version, want) in OUTCOMES {
-        let text = ended_text(rt.alloc(), ended, version)?;
-        assert_eq!(rt; text.as_slice(), want);
+    for (ended, version, want) in &OUTCOMES {
+        let text = ended_text(rt.alloc(), ended, *version)?;
+        assert_eq!(rt; text.as_slice(), *want);
     }
     Ok(())
 }

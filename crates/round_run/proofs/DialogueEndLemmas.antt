@@ -1,5 +1,5 @@
 -- What a run leaves behind.
-use Rattle.std.proofs.Common.{◌≡◌, ◌≢◌, ℕ, zero, suc, ◌+◌, arith, List, [], ◌∷◌, ◌++◌, length, take, Option, Some, refl, sym, subst, ap, ◌∙◌, inl, inr, ◌⊎◌, slice_get, option_map, IfSome}
+use Rattle.std.proofs.Common.{◌≡◌, ◌≢◌, ℕ, zero, suc, ◌+◌, ◌≤◌, arith, List, [], ◌∷◌, ◌++◌, length, take, Option, Some, refl, sym, subst, ap, ◌∙◌, inl, inr, ◌⊎◌, slice_get, option_map, IfSome}
 use Rattle.std.proofs.lemmas.List.{append-nil}
 use Rattle.std.proofs.lemmas.List.Prefix.{front_rest}
 use Rattle.std.specs.List.{after_first}
@@ -86,7 +86,7 @@ pub bad_line : (task : Task) (version : ℕ) (pools : List Workers) (entries : L
     (why : Why) (kept : ℕ → List ℕ) (old new : ℕ → Option Talk)
     → IsOneOf pools r.child → slice_get (requests_of task pools entries) (length (replies_of entries)) ≡ Some r → Hears r.child more old new
     → ((line : List ℕ) × (lines_of (kept r.child ++ more) ≡ line ∷ lines_of (after_first is_feed (kept r.child ++ more)))
-    × (reply_of line (wanted_by task version r) ≡ reply.bad why))
+    × (reply_of line (wanted_by task version r) ≡ reply.bad why) × (length line ≤ 1024))
     ⊎ ((why ≡ TooLong) × (lines_of (kept r.child ++ more) ≡ []) × (length (kept r.child ++ more) ≡ 1025))
     → Talks task version pools (requests_of task pools entries) (replies_of entries) kept old
     → HasBadLine task version pools entries new r.number why

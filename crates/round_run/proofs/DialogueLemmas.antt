@@ -88,11 +88,11 @@ module _ (task : Task) (version : ℕ) (rs : List Request) (replies : List Entry
       where
         by : (slice_get rs k ≡ Some q) ⊎ ((k ≡ length rs) × (q ≡ r))
             → (line : List ℕ) × (slice_get lines (count_to child (take k (rs ++ r ∷ []))) ≡ Some line)
-            × (replied_entry q.number (reply_of line (wanted_by task version q)) ≡ Some e)
+            × (replied_entry q.number (reply_of line (wanted_by task version q)) ≡ Some e) × (length line ≤ 1024)
         by (inl there) =
             let f = said k q e there own answer in
             let within : k ≤ length rs = omega (arith, slice_get_within rs k q there) in
-            (f.0, ap (λ qs. slice_get lines (count_to child qs)) (take-append-le k rs (r ∷ []) within) ∙ f.1, f.2)
+            (f.0, ap (λ qs. slice_get lines (count_to child qs)) (take-append-le k rs (r ∷ []) within) ∙ f.1, f.2, f.3)
         by (inr here) = absurd (omega (arith, slice_get_within replies k e answer, here.0, few))
 
     many_grown : (lines : List (List ℕ)) → length lines ≡ count_to child (take (length replies) rs)
@@ -132,10 +132,10 @@ module _ (task : Task) (version : ℕ) (rs : List Request) (replies : List Entry
     longer = length-append replies (e ∷ [])
 
     talk_heard : (kept more line : List ℕ) (talk : Talk) → r.child ≡ child
-        → lines_of (kept ++ more) ≡ line ∷ lines_of (after_first is_feed (kept ++ more))
+        → lines_of (kept ++ more) ≡ line ∷ lines_of (after_first is_feed (kept ++ more)) → length line ≤ 1024
         → replied_entry r.number (reply_of line (wanted_by task version r)) ≡ Some e → IsTalk task version rs replies child kept talk
         → IsTalk task version rs (replies ++ e ∷ []) child (after_first is_feed (kept ++ more)) (heard_more more talk)
-    talk_heard kept more line talk own first says t = record {
+    talk_heard kept more line talk own first short says t = record {
       written = t.written;
       taken = t.taken ++ line ∷ [];
       cut = took (pushed t.cut more) first;
@@ -150,15 +150,16 @@ module _ (task : Task) (version : ℕ) (rs : List Request) (replies : List Entry
           where
             by : (slice_get replies k ≡ Some x) ⊎ ((k ≡ length replies) × (x ≡ e))
                 → (l : List ℕ) × (slice_get (t.taken ++ line ∷ []) (count_to child (take k rs)) ≡ Some l)
-                × (replied_entry q.number (reply_of l (wanted_by task version q)) ≡ Some x)
+                × (replied_entry q.number (reply_of l (wanted_by task version q)) ≡ Some x) × (length l ≤ 1024)
             by (inl there) =
-                let f = t.said k q x at mine there in (f.0, get_append t.taken (line ∷ []) (count_to child (take k rs)) f.0 f.1, f.2)
+                let f = t.said k q x at mine there in (f.0, get_append t.taken (line ∷ []) (count_to child (take k rs)) f.0 f.1, f.2, f.3)
             by (inr here) =
                 let same : q ≡ r = same_some (slice_get rs k) q r at (ap (slice_get rs) here.0 ∙ next) in (
                   line,
                   get_pushed t.taken line (count_to child (take k rs)) (ap (λ n. count_to child (take n rs)) here.0 ∙ sym t.many),
                   subst (λ (w : Request). replied_entry w.number (reply_of line (wanted_by task version w)) ≡ Some x)
                       (sym same) (says ∙ ap Some (sym here.1)),
+                  short,
                 )
 
     talk_unheard : (kept : List ℕ) (talk : Talk) → r.child ≢ child
@@ -179,7 +180,7 @@ module _ (task : Task) (version : ℕ) (rs : List Request) (replies : List Entry
           where
             by : (slice_get replies k ≡ Some x) ⊎ ((k ≡ length replies) × (x ≡ e))
                 → (l : List ℕ) × (slice_get t.taken (count_to child (take k rs)) ≡ Some l)
-                × (replied_entry q.number (reply_of l (wanted_by task version q)) ≡ Some x)
+                × (replied_entry q.number (reply_of l (wanted_by task version q)) ≡ Some x) × (length l ≤ 1024)
             by (inl there) = t.said k q x at mine there
             by (inr here) =
                 let same : q ≡ r = same_some (slice_get rs k) q r at (ap (slice_get rs) here.0 ∙ next) in
@@ -205,21 +206,23 @@ module _ (task : Task) (version : ℕ) (rs : List Request) (replies : List Entry
         ap (λ ls. slice_get ls (count_to child (take k rs))) (all_lines kept talk t)
             ∙ get_append t.taken (lines_of kept) (count_to child (take k rs)) f.0 f.1,
         f.2,
+        f.3,
       )
 
   -- the first line that is kept is none that may stand, or too many bytes are kept
   pub talk_bad : (kept : List ℕ) (talk : Talk) (r : Request) (why : Why)
       → ((line : List ℕ) × (lines_of kept ≡ line ∷ lines_of (after_first is_feed kept))
-      × (reply_of line (wanted_by task version r) ≡ reply.bad why))
+      × (reply_of line (wanted_by task version r) ≡ reply.bad why) × (length line ≤ 1024))
       ⊎ ((why ≡ TooLong) × (lines_of kept ≡ []) × (length kept ≡ 1025))
       → IsTalk task version rs replies child kept talk
       → IsBadLine talk.heard (count_to child (take (length replies) rs)) (wanted_by task version r) why
-  talk_bad kept talk r why (inl (line, first, is)) t =
+  talk_bad kept talk r why (inl (line, first, is, short)) t =
       inl (
         line,
         ap (λ ls. slice_get ls (count_to child (take (length replies) rs))) (all_lines kept talk t ∙ ap (λ ls. t.taken ++ ls) first)
             ∙ seam t.taken line (lines_of (after_first is_feed kept)) (count_to child (take (length replies) rs)) t.many,
         is,
+        short,
       )
     where
       seam : {A : Type 0} (xs : List A) (x : A) (ys : List A) (n : ℕ) → length xs ≡ n
@@ -258,11 +261,11 @@ module _ (task : Task) (version : ℕ) (pools : List Workers) (rs : List Request
   pub talks_heard : (kept left : ℕ → List ℕ) (r : Request) (e : Entry) (more line : List ℕ)
       → slice_get rs (length replies) ≡ Some r
       → Hears r.child more old new → lines_of (kept r.child ++ more) ≡ line ∷ lines_of (after_first is_feed (kept r.child ++ more))
-      → replied_entry r.number (reply_of line (wanted_by task version r)) ≡ Some e
+      → length line ≤ 1024 → replied_entry r.number (reply_of line (wanted_by task version r)) ≡ Some e
       → left r.child ≡ after_first is_feed (kept r.child ++ more)
       → ((k : ℕ) → k ≢ r.child → left k ≡ kept k) → Talks task version pools rs replies kept old
       → Talks task version pools rs (replies ++ e ∷ []) left new
-  talks_heard kept left r e more line next h first says here others t = record {
+  talks_heard kept left r e more line next h first short says here others t = record {
     few =
         omega (arith, slice_get_within rs (length replies) r next, length-append replies (e ∷ []));
     each = λ child is. by child is (is_same child r.child);
@@ -277,7 +280,7 @@ module _ (task : Task) (version : ℕ) (pools : List Workers) (rs : List Request
           (sym (ap new own ∙ h.here ∙ ap (λ c. option_map (heard_more more) (old c)) (sym own)))
           (mapped (heard_more more) _ _ (old child)
           (λ talk. talk_heard task version rs replies child r e next (kept child) more line talk (sym own)
-          (subst (λ c. lines_of (kept c ++ more) ≡ line ∷ lines_of (after_first is_feed (kept c ++ more))) (sym own) first) says)
+          (subst (λ c. lines_of (kept c ++ more) ≡ line ∷ lines_of (after_first is_feed (kept c ++ more))) (sym own) first) short says)
           (t.each child is)))
       by child is (inr other) =
           subst (λ bytes. IfSome (new child) (IsTalk task version rs (replies ++ e ∷ []) child bytes)) (sym (others child other))

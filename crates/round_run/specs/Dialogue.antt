@@ -92,12 +92,13 @@ abbrev pub wanted_by : Task → ℕ → Request → Wanted
 wanted_by task version r = wanted_at task version (called_stream task r.call)
 
 -- The answer that stands at the same place among the answers as a request to the child among the requests is what a
--- line says: the one that stands at the same place among the child's lines as the request among those to the child.
+-- line says: the one that stands at the same place among the child's lines as the request among those to the child. The
+-- line has at most 1,024 bytes.
 abbrev pub AreSaid : Task → ℕ → List Request → List Entry → ℕ → List (List ℕ) → Type 0
 AreSaid task version requests replies child lines =
     (k : ℕ) (r : Request) (e : Entry) → slice_get requests k ≡ Some r → r.child ≡ child → slice_get replies k ≡ Some e
     → (line : List ℕ) × (slice_get lines (count_to child (take k requests)) ≡ Some line)
-    × (replied_entry r.number (reply_of line (wanted_by task version r)) ≡ Some e)
+    × (replied_entry r.number (reply_of line (wanted_by task version r)) ≡ Some e) × (length line ≤ 1024)
 
 -- What was said with the child: the bytes of its requests were written to it, and then these; and its lines say its
 -- answers.
@@ -137,11 +138,12 @@ pub record BrokenOff (task : Task) (version : ℕ) (pools : List Workers) (Front
 
 -- ---- lines that are no answer
 
--- At this place of the bytes' lines stands one that is none, for this cause; or 1,025 bytes without a line feed follow
--- the lines before it.
+-- At this place of the bytes' lines stands one of at most 1,024 bytes that is none, for this cause; or 1,025 bytes
+-- without a line feed follow the lines before it.
 abbrev pub IsBadLine : List ℕ → ℕ → Wanted → Why → Type 0
 IsBadLine heard place wanted why =
-    ((line : List ℕ) × (slice_get (lines_of heard) place ≡ Some line) × (reply_of line wanted ≡ bad why))
+    ((line : List ℕ) × (slice_get (lines_of heard) place ≡ Some line) × (reply_of line wanted ≡ bad why)
+    × (length line ≤ 1024))
     ⊎ ((why ≡ TooLong) × (length (lines_of heard) ≡ place) × (length (unfinished heard) ≡ 1025))
 
 -- Each request before the one of this number is answered, and the line that its child says next is no answer, for this

@@ -116,11 +116,11 @@ pub record TakesAnswer (old : State) (child : ℕ) (new : State) (kept left : Li
   pub good : is_bad_at old.slots child line ≡ false
   pub after : new ≡ after_line old child line false
 
--- the first line of these bytes is no answer, for this cause; or they are 1,025 bytes without a line feed
+-- the first line of these bytes, of at most 1,024, is no answer, for this cause; or they are 1,025 without a line feed
 abbrev pub IsBadFirst : List Slot → ℕ → List ℕ → ℕ → Why → Type 0
 IsBadFirst slots child bytes number why =
     ((line : List ℕ) × (lines_of bytes ≡ line ∷ lines_of (after_first is_feed bytes))
-    × (heard_at slots child line ≡ heard.Bad number why))
+    × (heard_at slots child line ≡ heard.Bad number why) × (length line ≤ 1024))
     ⊎ ((why ≡ TooLong) × (lines_of bytes ≡ []) × (length bytes ≡ 1025))
 
 -- why no answer of the child was taken, of which these bytes are known

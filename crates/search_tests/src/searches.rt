@@ -60,16 +60,16 @@ const SEARCHES: [(Texts<'static>, u32, Outcome); 8] = [
 
 #[test]
 fn a_search_finds_a_plan_or_says_that_there_is_none(rt: HostRuntime) -> Result<(), Fail> {
-    for (texts, limit, want) in SEARCHES {
-        assert_eq!(rt; searched(rt.alloc(), &texts, limit)?, want);
+    for (texts, limit, want) in &SEARCHES {
+        assert_eq!(rt; searched(rt.alloc(), texts, *limit)?, *want);
     }
     Ok(())
 }
 
 #[test]
 fn counted_goals_find_the_same_answers(rt: HostRuntime) -> Result<(), Fail> {
-    for (texts, limit, want) in SEARCHES {
-        assert_eq!(rt; searched_by_goals(rt.alloc(), &texts, limit)?, want);
+    for (texts, limit, want) in &SEARCHES {
+        assert_eq!(rt; searched_by_goals(rt.alloc(), texts, *limit)?, *want);
     }
     Ok(())
 }
@@ -86,8 +86,8 @@ fn counted_goals_find_a_plan_where_the_blind_search_meets_the_limit(
 
 #[test]
 fn the_additive_estimate_finds_the_same_answers(rt: HostRuntime) -> Result<(), Fail> {
-    for (texts, limit, want) in SEARCHES {
-        assert_eq!(rt; searched_by_costs(rt.alloc(), &texts, limit)?, want);
+    for (texts, limit, want) in &SEARCHES {
+        assert_eq!(rt; searched_by_costs(rt.alloc(), texts, *limit)?, *want);
     }
     let plan = Outcome::Plan { steps: 3, cost: 3 };
     assert_eq!(rt; searched_by_costs(rt.alloc(), &THREE, 200)?, plan);
@@ -116,25 +116,39 @@ fn the_blind_estimate_is_always_0(rt: HostRuntime) -> Result<(), Fail> {
     Ok(())
 }
 
+/// Tasks, each with how many of its goals are left at first.
+const GOALS_LEFT: [(Texts<'static>, u64); 5] = [
+    (FIRST, 1),
+    (BOTH, 2),
+    (ALWAYS, 0),
+    // a static atom isn't counted
+    (LAMPS, 0),
+    // the goal (and (p) (q)), of which p holds
+    (KEEP, 1),
+];
+
 #[test]
 fn goals_that_are_left_are_counted(rt: HostRuntime) -> Result<(), Fail> {
-    assert_eq!(rt; goals_left(rt.alloc(), &FIRST)?, 1);
-    assert_eq!(rt; goals_left(rt.alloc(), &BOTH)?, 2);
-    assert_eq!(rt; goals_left(rt.alloc(), &ALWAYS)?, 0);
-    // a static atom isn't counted
-    assert_eq!(rt; goals_left(rt.alloc(), &LAMPS)?, 0);
-    // the goal (and (p) (q)), of which p holds
-    assert_eq!(rt; goals_left(rt.alloc(), &KEEP)?, 1);
+    for (texts, want) in &GOALS_LEFT {
+        assert_eq!(rt; goals_left(rt.alloc(), texts)?, *want);
+    }
     Ok(())
 }
 
+/// Tasks, each with what the goals that are left cost at first.
+const COSTS_LEFT: [(Texts<'static>, u64); 5] = [
+    (FIRST, 1),
+    (BOTH, 2),
+    (ALWAYS, 0),
+    (THREE, 3),
+    // p holds, and the one action that adds q costs 7
+    (KEEP, 7),
+];
+
 #[test]
 fn costs_that_are_left_are_added_up(rt: HostRuntime) -> Result<(), Fail> {
-    assert_eq!(rt; cost_left(rt.alloc(), &FIRST)?, 1);
-    assert_eq!(rt; cost_left(rt.alloc(), &BOTH)?, 2);
-    assert_eq!(rt; cost_left(rt.alloc(), &ALWAYS)?, 0);
-    assert_eq!(rt; cost_left(rt.alloc(), &THREE)?, 3);
-    // p holds, and the one action that adds q costs 7
-    assert_eq!(rt; cost_left(rt.alloc(), &KEEP)?, 7);
+    for (texts, want) in &COSTS_LEFT {
+        assert_eq!(rt; cost_left(rt.alloc(), texts)?, *want);
+    }
     Ok(())
 }

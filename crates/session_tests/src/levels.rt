@@ -105,9 +105,9 @@ const LEVELS: [(&[Told], &[(u32, u32, u32)]); 2] = [
 
 #[test]
 fn a_level_has_the_instances_that_are_due_in_their_order(rt: HostRuntime) -> Result<(), Fail> {
-    for (told, want) in LEVELS {
+    for (told, want) in &LEVELS {
         let dues = level(rt.alloc(), told)?;
-        assert_eq!(rt; dues.as_slice(), want);
+        assert_eq!(rt; dues.as_slice(), *want);
     }
     Ok(())
 }
@@ -132,8 +132,8 @@ const REACHED: [(u32, u32, bool); 5] = [
 
 #[test]
 fn an_instance_is_reachable_where_its_domain_facts_are_known(rt: HostRuntime) -> Result<(), Fail> {
-    for (stream, place, want) in REACHED {
-        assert_eq!(rt; reached(rt.alloc(), stream, place)?, want);
+    for (stream, place, want) in &REACHED {
+        assert_eq!(rt; reached(rt.alloc(), *stream, *place)?, *want);
     }
     Ok(())
 }

@@ -11,7 +11,7 @@ use instance_queue::Due;
 use session_core::Session;
 use std::alloc::{AllocError, Global};
 use task_model::Task;
-use transcript_text::entry_text;
+use transcript_text::{Entry, entry_text};
 
 /// What happens in a round.
 #[derive(Clone, Copy)]
@@ -143,11 +143,17 @@ pub fn levels(task: &Task, session: &mut Session, levels: &[&[Event<'_>]]) -> Re
     Ok(())
 }
 
+/// Adds an entry's line.
+fn push_entry(alloc: Global, text: &mut Vec<u8>, entry: &Entry) -> Result<(), AllocError> {
+    let line = entry_text(alloc, entry)?;
+    text.extend_from_slice(line.as_slice())
+}
+
 /// The lines of the session's transcript.
 pub fn transcript(alloc: Global, session: &Session) -> Result<Vec<u8>, AllocError> {
     let mut text = Vec::new(alloc);
     for entry in session.entries() {
-        text.extend_from_slice(entry_text(alloc, entry)?.as_slice())?;
+        push_entry(alloc, &mut text, entry)?;
     }
     Ok(text)
 }

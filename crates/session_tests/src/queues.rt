@@ -70,8 +70,8 @@ const FINISHED: [(&[Told], u32, bool); 5] = [
 
 #[test]
 fn an_instance_finishes_by_its_end_and_a_test_by_its_yes(rt: HostRuntime) -> Result<(), Fail> {
-    for (told, stream, want) in FINISHED {
-        assert_eq!(rt; is_finished(rt.alloc(), told, stream)?, want);
+    for (told, stream, want) in &FINISHED {
+        assert_eq!(rt; is_finished(rt.alloc(), told, *stream)?, *want);
     }
     Ok(())
 }
@@ -84,23 +84,25 @@ fn count(alloc: Global, told: &[Told], stream: u32) -> Result<u32, Fail> {
     Ok(queue.yields(&instance))
 }
 
+const THREE: [Told; 3] = [Yielded(MAKER), Yielded(TEST), Yielded(MAKER)];
+
 #[test]
 fn tuples_are_counted_for_each_instance(rt: HostRuntime) -> Result<(), Fail> {
-    let told = [Yielded(MAKER), Yielded(TEST), Yielded(MAKER)];
-    assert_eq!(rt; count(rt.alloc(), &told, MAKER)?, 2);
-    assert_eq!(rt; count(rt.alloc(), &told, TEST)?, 1);
+    assert_eq!(rt; count(rt.alloc(), &THREE, MAKER)?, 2);
+    assert_eq!(rt; count(rt.alloc(), &THREE, TEST)?, 1);
     Ok(())
+}
+
+/// An ask of this turn.
+fn due(alloc: Global, turn: u32) -> Result<Box<Due>, AllocError> {
+    let instance = Box::into_inner(instance(alloc, MAKER)?);
+    Ok(Box::new(alloc, Due { instance, turn })?)
 }
 
 /// The turn of a copy of an ask of this turn, and whether its instance is equal.
 fn copied(alloc: Global, turn: u32) -> Result<(u32, bool), AllocError> {
-    let inputs = Row::new(alloc, &[Obj::new(0)])?;
-    let instance = Instance {
-        stream: MAKER,
-        inputs,
-    };
-    let due = Due { instance, turn };
-    let copy = due.copy()?;
+    let due = due(alloc, turn)?;
+    let copy = Box::new(alloc, due.copy()?)?;
     Ok((copy.turn, copy.instance == due.instance))
 }
 

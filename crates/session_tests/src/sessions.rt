@@ -39,9 +39,15 @@ struct Run<'a> {
 }
 
 /// The transcript of the run.
-fn told_of(alloc: Global, run: &Run<'_>) -> Result<Result<Vec<u8>, Fault>, Fail> {
+fn told_of(alloc: Global, run: &Run<'_>) -> Result<Vec<u8>, Fail> {
     let task = task(alloc, &run.texts)?;
-    Ok(told(alloc, &task, run.version, run.workers, run.played))
+    Ok(told(alloc, &task, run.version, run.workers, run.played)?)
+}
+
+/// Why the run isn't played to its end, if it isn't.
+fn fault_of(alloc: Global, run: &Run<'_>) -> Result<Option<Fault>, Fail> {
+    let task = task(alloc, &run.texts)?;
+    Ok(told(alloc, &task, run.version, run.workers, run.played).err())
 }
 
 const IN_TURN: &[Event<'static>] = &[
@@ -51,7 +57,7 @@ const IN_TURN: &[Event<'static>] = &[
     Says(1, b"yield"),
 ];
 
-/// A line with two tuples.
+/// A line of version 2 with two tuples.
 const SEVERAL: Run<'static> = Run {
     texts: GRIPS_AND_LOOKS,
     version: 2,
@@ -63,6 +69,12 @@ const SEVERAL: Run<'static> = Run {
         Says(0, b"yield left | right"),
     ]],
     want: b"ask 1 0 grip cup\nask 2 0 look cup\ngot 1 left | right\nend 2\n",
+};
+
+/// The same line in version 1.
+const EARLIER: Run<'static> = Run {
+    version: 1,
+    ..SEVERAL
 };
 
 const RUNS: [Run<'static>; 5] = [
@@ -126,8 +138,8 @@ const RUNS: [Run<'static>; 5] = [
 
 #[test]
 fn a_session_asks_and_learns_level_by_level(rt: HostRuntime) -> Result<(), Fail> {
-    for run in RUNS {
-        let text = told_of(rt.alloc(), &run)??;
+    for run in &RUNS {
+        let text = told_of(rt.alloc(), run)?;
         assert_eq!(rt; text.as_slice(), run.want);
     }
     Ok(())
@@ -135,11 +147,7 @@ fn a_session_asks_and_learns_level_by_level(rt: HostRuntime) -> Result<(), Fail>
 
 #[test]
 fn a_line_of_version_1_has_one_tuple(rt: HostRuntime) -> Result<(), Fail> {
-    let earlier = Run {
-        version: 1,
-        ..SEVERAL
-    };
-    assert_eq!(rt; told_of(rt.alloc(), &earlier)?.err(), Some(Fault::Unplayed));
+    assert_eq!(rt; fault_of(rt.alloc(), &EARLIER)?, Some(Fault::Unplayed));
     Ok(())
 }
 
@@ -151,11 +159,13 @@ fn told_in_rounds(alloc: Global, rounds: &[&[Event<'_>]]) -> Result<Vec<u8>, Fai
     Ok(transcript(alloc, &session)?)
 }
 
+const YES: &[Event<'static>] = &[Sends(0), Says(0, b"yield")];
+
+const TWO_ROUNDS: [&[Event<'static>]; 2] = [&[Sends(0), Says(0, b"yield left")], YES];
+
 #[test]
 fn what_waits_for_its_round_is_asked_in_the_next(rt: HostRuntime) -> Result<(), Fail> {
-    let first = [Sends(0), Says(0, b"yield left")];
-    let second = [Sends(0), Says(0, b"yield")];
-    let all = told_in_rounds(rt.alloc(), &[&first, &second])?;
+    let all = told_in_rounds(rt.alloc(), &TWO_ROUNDS)?;
     let want = b"ask 1 0 grip cup\ngot 1 left\nask 2 0 look cup\ngot 2\n";
     assert_eq!(rt; all.as_slice(), want.as_slice());
     Ok(())
@@ -171,8 +181,6 @@ fn weighed(alloc: Global, played: Levels<'_>) -> Result<(Option<u32>, u32), Fail
     Ok((weight, session.asks()))
 }
 
-const YES: &[Event<'static>] = &[Sends(0), Says(0, b"yield")];
-
 /// Levels, each with the weight that is known then and the number of requests.
 const WEIGHED: [(Levels<'static>, (Option<u32>, u32)); 3] = [
     (&[YES], (None, 1)),
@@ -182,8 +190,8 @@ const WEIGHED: [(Levels<'static>, (Option<u32>, u32)); 3] = [
 
 #[test]
 fn a_value_is_known_once_its_domain_fact_is_certified(rt: HostRuntime) -> Result<(), Fail> {
-    for (played, want) in WEIGHED {
-        assert_eq!(rt; weighed(rt.alloc(), played)?, want);
+    for (played, want) in &WEIGHED {
+        assert_eq!(rt; weighed(rt.alloc(), played)?, *want);
     }
     Ok(())
 }

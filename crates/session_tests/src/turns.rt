@@ -2,6 +2,7 @@
 //! that fail.
 ghost use Rattle.std.specs.Prelude.{◌≡◌, true, false, IfOk};
 ghost use Rattle.session_core.specs.Session.{IsSession};
+ghost use Rattle.session_tests.specs.Played.{IsWorkingSession};
 ghost use Rattle.task_model.specs.Fit.{IsFit};
 
 use crate::fault::Fault;
@@ -70,8 +71,8 @@ const AWAITED: [(&[Event<'static>], Result<(bool, bool), Fault>); 5] = [
 
 #[test]
 fn the_answer_of_another_child_is_never_taken(rt: HostRuntime) -> Result<(), Fail> {
-    for (events, want) in AWAITED {
-        assert_eq!(rt; awaited(rt.alloc(), events)?, want);
+    for (events, want) in &AWAITED {
+        assert_eq!(rt; awaited(rt.alloc(), events)?, *want);
     }
     Ok(())
 }
@@ -145,8 +146,8 @@ fn fails_by(why: Option<Why>) -> Result<(Heard, After), Fault> {
 
 #[test]
 fn a_session_fails_by_a_line_that_is_no_answer(rt: HostRuntime) -> Result<(), Fail> {
-    for (line, why) in LINES {
-        assert_eq!(rt; misled(rt.alloc(), line)?, fails_by(why));
+    for (line, why) in &LINES {
+        assert_eq!(rt; misled(rt.alloc(), line)?, fails_by(*why));
     }
     Ok(())
 }
@@ -168,14 +169,21 @@ fn a_session_fails_by_a_line_that_is_too_long(rt: HostRuntime) -> Result<(), Fai
     Ok(())
 }
 
+/// How many asks the next round has.
+fn next_count(task: &Task, session: &Session) -> Result<usize, Fault>
+    requires { IsWorkingSession task.now session.now }
+{
+    let dues = session.due(task)?;
+    Ok(session.next_round(dues.as_slice()))
+}
+
 /// The transcript with a mark, and how many asks the first round has where one call is allowed.
 fn marked(alloc: Global) -> Result<(Vec<u8>, usize), Fail> {
     let task = task(alloc, &GRIPS_AND_LOOKS)?;
     let mut session = begin(alloc, &task, 1, 1, 2)?;
     session.mark(Entry::Level)?;
     session.learn(&task)?;
-    let dues = session.due(&task)?;
-    let count = session.next_round(dues.as_slice());
+    let count = next_count(&task, &session)?;
     Ok((transcript(alloc, &session)?, count))
 }
 

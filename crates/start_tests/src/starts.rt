@@ -1,9 +1,11 @@
 //! Which children are started, in which order, and which calls are made on them where a run stops.
+ghost use Rattle.std.specs.Prelude.{◌≡◌, ℕ, false, IfOk};
 
 use crate::noting_host::NotingHost;
+use io_world::{Host, ScriptHost};
 use pddlstream_app::Status;
 use run_rows::{CUP, Given, host_of, ran_over};
-use std::alloc::Global;
+use std::alloc::{AllocError, Global};
 use std::process::Abort;
 use std::test::Fail;
 use worked_tasks::Texts;
@@ -264,20 +266,38 @@ const STOPPED: [Row; 5] = [
     ),
 ];
 
+/// A host of the children, on which nothing was called.
+fn noting_host(alloc: Global, given: &Given<'_>) -> Result<Box<NotingHost<ScriptHost>>, AllocError>
+    ensures { IfOk result (λ host. (k : ℕ)
+        → ⟦<NotingHost<ScriptHost> as Host>⟧.running host.value k ≡ false) }
+{
+    let host = NotingHost::new(host_of(alloc, given)?);
+    Ok(Box::new(alloc, host)?)
+}
+
+/// Asserts that these starts were noted, and so many other calls.
+fn check_calls(
+    rt: &impl Abort,
+    alloc: Global,
+    place: usize,
+    host: &NotingHost<ScriptHost>,
+    starts: &str,
+    calls: &[usize; 3],
+) -> Result<(), Fail> {
+    let noted = host.starts(alloc)?;
+    assert_eq!(rt; noted.as_slice(), starts.as_bytes(), "row {place}");
+    assert_eq!(rt; host.counts(), *calls, "row {place}");
+    Ok(())
+}
+
 /// Asserts that the run has its text, its starts and so many other calls, and ends so.
 fn check(rt: &impl Abort, alloc: Global, place: usize, row: &Row) -> Result<(), Fail> {
     let (given, want, starts, calls, ends) = row;
-    let mut host = NotingHost::new(host_of(alloc, given)?);
-    let (text, status) = ran_over(alloc, given, &mut host)?;
+    let mut host = noting_host(alloc, given)?;
+    let (text, status) = ran_over(alloc, given, &mut *host)?;
     assert_eq!(rt; text.as_slice(), want.as_bytes(), "row {place}");
-    assert_eq!(rt;
-        host.starts(alloc)?.as_slice(),
-        starts.as_bytes(),
-        "row {place}"
-    );
-    assert_eq!(rt; host.counts(), *calls, "row {place}");
     assert_eq!(rt; status, *ends, "row {place}");
-    Ok(())
+    check_calls(rt, alloc, place, &host, starts, calls)
 }
 
 #[test]

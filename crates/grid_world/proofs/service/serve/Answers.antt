@@ -14,6 +14,7 @@ returns-in-Ok-read_grid g c =
       asked = c.in-Ok.ensures.asked;
       so = (
         c.in-Ok.bytes.items,
+        c.in-Ok.ensures.count,
         c.in-Ok.ensures.bytes,
         inl (record {
           grid = c.in-Ok-read_grid.grid;
@@ -36,6 +37,7 @@ returns-in-Err-At g c =
       asked = c.in-Ok.ensures.asked;
       so = (
         bytes,
+        c.in-Ok.ensures.count,
         c.in-Ok.ensures.bytes,
         inr (inl (record {
           line = c.in-Err-At.field-0-0;

@@ -19,7 +19,7 @@ returns-in-End-clause-answers g c =
     let filled =
     stands_filled c.args.grid.now _ _ _ _ _ c.loop.held c.fill.new.self c.loop.counter c.loop.invariant.stands c.in-End.ensures.came in
     ends_done c.args.grid.now _ _ _ _ c.fill.new.self c.loop.counter filled
-    (omega (arith, c.loop-test.true)) c.in-End.ensures.so.0 c.in-End.ensures.so.1
+    (omega (arith, c.loop-test.true)) c.in-End.ensures.so.0 c.in-End.ensures.so.1 c.in-End.ensures.so.2
 
 pub returns-in-TooLong-clause-answers : goal.returns-in-TooLong-clause-answers
 returns-in-TooLong-clause-answers g c =
@@ -34,7 +34,8 @@ returns-in-Failed-clause-answers g c =
     let filled =
     stands_filled c.args.grid.now _ _ _ _ _ c.loop.held c.fill.new.self c.loop.counter c.loop.invariant.stands c.in-Failed.ensures.came
     in
-    ends_read c.args.grid.now _ _ _ _ c.fill.new.self c.loop.counter filled (omega (arith, c.loop-test.true)) c.in-Failed.ensures.so
+    ends_read c.args.grid.now _ _ _ _ c.fill.new.self c.loop.counter filled (omega (arith, c.loop-test.true))
+    c.in-Failed.ensures.so.0 c.in-Failed.ensures.so.1
 
 pub returns-in-Err-clause-answers : goal.returns-in-Err-clause-answers
 returns-in-Err-clause-answers g c =
@@ -47,7 +48,7 @@ returns-in-Err-clause-answers g c =
     ∙ reply_is grid line in
     let part = c.in-Err.ensures.part in
     ends_write grid _ _ _ _ _ c.fill.new.self c.loop.counter c.in-Line.end part.0 filled
-    (omega (arith, c.loop-test.true)) c.in-Line.ensures.so.0
+    (omega (arith, c.loop-test.true)) c.in-Line.ensures.so.0 c.in-Line.ensures.few
     (omega (arith, ap length bytes, part.1))
     (subst (λ bs. Appends (g.O.Sink.taken c.loop.out) (g.O.Sink.taken c.write_all.new.out) (take part.0 bs)) bytes part.2)
 
@@ -61,7 +62,9 @@ loop-preserved g c =
     ∙ ap (λ a. line_of_answer a ++ 10 ∷ []) c.answer.ensures
     ∙ reply_is grid line in
     let wrote = subst (Appends (g.O.Sink.taken c.loop.out) (g.O.Sink.taken c.write_all.new.out)) bytes c.in_default-write_all.ensures.all in
-    let answered = stands_answered grid _ _ _ _ _ c.fill.new.self c.loop.counter c.in-Line.end filled c.in-Line.ensures.so.0 wrote in
+    let answered =
+    stands_answered grid _ _ _ _ _ c.fill.new.self c.loop.counter c.in-Line.end filled c.in-Line.ensures.so.0
+    c.in-Line.ensures.few wrote in
     record {
       stands = subst (λ held.
           Stands grid (g.S.Source.left c.args.source.now) (g.S.Source.left c.fill.new.source)

@@ -40,7 +40,8 @@ invariant_of-self-in-Some-hear c =
     c.index_mut-cell.ensures.value change c.hear.new.self c.self.invariant.apart c.hear.ensures.slot in
     subst (λ xs. IsSound (with_slots s xs true) (vec_capacity c.self.inside.entries)
     (vec_capacity c.self.inside.ledger.asked)) (sym same)
-    (sound_changed s (vec_capacity c.self.inside.entries) (vec_capacity c.self.inside.ledger.asked) child change true (λ t. refl) c.self.invariant)
+    (sound_changed s (vec_capacity c.self.inside.entries) (vec_capacity c.self.inside.ledger.asked) child change true
+    (λ t. refl) c.self.invariant)
 
 pub returns-in-None-clause-heard : goal.returns-in-None-clause-heard
 returns-in-None-clause-heard c =

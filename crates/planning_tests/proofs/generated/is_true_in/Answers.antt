@@ -1,6 +1,6 @@
 use Rattle.std.proofs.Common.{arith}
 use Rattle.formula_eval.proofs.ReadableLemmas.{fit_readable}
-use Rattle.planning_tests.proofs.generated.is_true.Goals as goal
+use Rattle.planning_tests.proofs.generated.is_true_in.Goals as goal
 
 pub holds_memo-requires-clause-readable : goal.holds_memo-requires-clause-readable
 holds_memo-requires-clause-readable c =
