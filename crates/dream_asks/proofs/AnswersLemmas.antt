@@ -3,9 +3,9 @@ use Rattle.std.proofs.Common.{◌≡◌, ℕ, suc, ◌+◌, ◌<◌, arith, Bool
 use Rattle.std.proofs.lemmas.List.Elements.{filter_map-append}
 use Rattle.std.specs.List.{cons_option, filter_map, find}
 use Rattle.std.specs.Option.{option_and_then}
+use Rattle.std.proofs.lemmas.Bool.{false_from_ne_true}
 use Rattle.dream_asks.proofs.StayLemmas.{none_before, none_gives, one_answer, other_gives}
 use Rattle.dream_asks.specs.Noting.{objects_for, tuple_of}
-use Rattle.lemmas.proofs.Bools.{false_by}
 use Rattle.lemmas.proofs.Members.{get_behind}
 use Rattle.task_model.specs.declared.task.Task.{Task}
 use Rattle.transcript_model.specs.Dreaming.{tuple_in}
@@ -56,7 +56,7 @@ module _ (task : Task) (entries : List Entry) (n width : ℕ) where
       by true is rest =
           (λ i. slice_get (cons_option (answer_gives e is i)
           (none_gives task entries n width es
-          (λ k d at. false_by (is_answer_to n d) (λ again. one 0 (suc k) e d refl at is again (omega arith))) i)) 0)
+          (λ k d at. false_from_ne_true (is_answer_to n d) (λ again. one 0 (suc k) e d refl at is again (omega arith))) i)) 0)
           ∙ only (tuple_of (names_of task entries) width e)
       by false is rest =
           ap (λ o. slice_get (cons_option o (filter_map (tuple_in task entries n width) es)) 0)

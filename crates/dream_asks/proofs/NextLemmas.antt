@@ -1,6 +1,6 @@
 -- What is asked of a dream next.
 use Rattle.std.proofs.Common.{◌≡◌, ℕ, ◌+◌, ◌<◌, ◌≤◌, Bool, true, false, not, ◌&&◌, ◌||◌, Contains, List, [], ◌∷◌, ◌++◌, length, drop, get_or, append_assoc, refl, sym, ap, subst, ◌∙◌, Option, None, Some, inl, inr, ◌⊎◌, if◌then◌else◌}
-use Rattle.std.proofs.lemmas.Bool.{and_parts}
+use Rattle.std.proofs.lemmas.Bool.{and_parts, not-true}
 use Rattle.std.proofs.lemmas.List.{append-nil, drop_all}
 use Rattle.std.proofs.lemmas.List.Folds.{list_any-append}
 use Rattle.std.specs.List.{list_any}
@@ -10,7 +10,7 @@ use Rattle.dream_asks.specs.Next.{asks_by, ready_by}
 use Rattle.dream_asks.specs.Progress.{IsProgress, Progress, numbered}
 use Rattle.dream_asks.specs.declared.asks.DreamAsk.{DreamAsk}
 use Rattle.lemmas.proofs.Ascending.{contains_cases, contains_none}
-use Rattle.lemmas.proofs.Bools.{not_both, not_true, right_false}
+use Rattle.lemmas.proofs.Bools.{not_both, right_false}
 use Rattle.lemmas.proofs.Distinct.{distinct_cons}
 use Rattle.lemmas.proofs.Members.{distinct_nil}
 use Rattle.lemmas.specs.Lists.{AreDistinct}
@@ -147,7 +147,7 @@ module _ (task : Task) (before : List Entry) (real : ℕ) (sent : List Sent) whe
           let same : j ≡ i = cc in
           subst (IsFree taken) same (record {
             due = due_holds task known notes j both.0;
-            new = not_true (list_any (same_instance j) taken) both.1;
+            new = not-true (list_any (same_instance j) taken) both.1;
           })
       of j false is there = absurd (cc)
 

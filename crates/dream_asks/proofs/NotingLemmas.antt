@@ -2,7 +2,7 @@
 use Rattle.std.proofs.Common.{◌≡◌, ℕ, suc, ◌+◌, ◌<◌, ◌≤◌, arith, All, List, [], ◌∷◌, ◌++◌, take, length, get_or, refl, sym, ap, subst, ◌∙◌, append_assoc, add-one, length-take-le}
 use Rattle.std.proofs.Math.Seq.{take-suc}
 use Rattle.std.proofs.lemmas.List.{append-nil, map-append, take_all}
-use Rattle.std.proofs.lemmas.List.Elements.{All-append, All-nil}
+use Rattle.std.proofs.lemmas.List.Elements.{All-append, All-nil, All-cons}
 use Rattle.std.specs.Option.{option_and_then, option_or}
 use Rattle.dream_asks.proofs.AnswersLemmas.{objects_came}
 use Rattle.dream_asks.proofs.ProgressLemmas.{came_joined, numbered_instances, or_assoc, or_none}
@@ -11,7 +11,6 @@ use Rattle.dream_asks.specs.Next.{asked_instances}
 use Rattle.dream_asks.specs.Noting.{HasNoted, WereMade, came_by, came_for, objects_for}
 use Rattle.dream_asks.specs.Progress.{IsProgress, Progress, came, got, numbered}
 use Rattle.dream_asks.specs.declared.asks.DreamAsk.{DreamAsk}
-use Rattle.lemmas.proofs.ListTests.{all_cons}
 use Rattle.task_model.specs.declared.task.Task.{Task}
 use Rattle.transcript_model.proofs.LegalNumberLemmas.{asks_more}
 use Rattle.transcript_model.specs.Dreaming.{Sent, paired}
@@ -97,7 +96,7 @@ module _ (version : ℕ) (task : Task) (before behind : List Entry) (table : Lis
   numbers_low : (list : List DreamAsk) (n most : ℕ) → n + length list ≤ most + 1 → All (λ (s : Sent). s.number ≤ most) (numbered n list)
   numbers_low [] n most fits = All-nil (λ (s : Sent). s.number ≤ most)
   numbers_low (a ∷ list) n most fits =
-      all_cons (λ (s : Sent). s.number ≤ most) (record { number = n; instance = a.instance; outputs = a.outputs })
+      All-cons (λ (s : Sent). s.number ≤ most) (record { number = n; instance = a.instance; outputs = a.outputs })
       (numbered (n + 1) list) (omega (arith, fits)) (numbers_low list (n + 1) most (omega (arith, fits)))
 
   all_lower : (sent : List Sent) → All (λ (s : Sent). s.number ≤ asks_of before) sent

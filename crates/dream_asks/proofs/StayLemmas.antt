@@ -6,9 +6,10 @@ use Rattle.std.proofs.lemmas.List.Elements.{Contains-append_left, filter_map-app
 use Rattle.std.proofs.lemmas.List.Folds.{list_any-append}
 use Rattle.std.specs.Cmp.{first_so}
 use Rattle.std.specs.List.{cons_option, filter_map, list_any}
+use Rattle.std.proofs.lemmas.Bool.{not-true, false_from_ne_true}
 use Rattle.learning.proofs.TuplesLemmas.{places_found}
 use Rattle.lemmas.proofs.Ascending.{in_flat_map}
-use Rattle.lemmas.proofs.Bools.{false_by, left_false, not_both, not_true, or_true}
+use Rattle.lemmas.proofs.Bools.{left_false, not_both, or_true}
 use Rattle.lemmas.proofs.Members.{get_behind, get_take, member_at}
 use Rattle.lemmas.specs.Lists.{AreDistinct}
 use Rattle.task_model.specs.Fit.{IsFit}
@@ -49,7 +50,7 @@ module _ (version : ℕ) (task : Task) where
   pub none_before : (before more : List Entry) (n : ℕ) → IsLegal version task (before ++ more) → asks_of before < n
       → HasNoAnswer n before
   none_before before more n legal later k e at =
-      false_by (is_answer_to n e) (λ answers.
+      false_from_ne_true (is_answer_to n e) (λ answers.
       let all = get_front before more k e at in
       let low = answered_below (before ++ more) k n e legal all answers in
       let few = asks_front before more k (at_within before k e at) in
@@ -75,7 +76,7 @@ module _ (version : ℕ) (task : Task) where
   pub none_behind : (before more : List Entry) (n : ℕ) → IsLegal version task (before ++ more) → n ≤ asks_of before
       → is_open before n ≡ false → HasNoAnswer n more
   none_behind before more n legal low closed k e at =
-      false_by (is_answer_to n e) (λ answers.
+      false_from_ne_true (is_answer_to n e) (λ answers.
       let front : take (length before + k) (before ++ more) ≡ before ++ take k more = take-append-add before more k in
       let waiting = subst (λ es. is_open es n ≡ true) front
       (waiting_of version task (take (length before + k) (before ++ more)) n e
@@ -83,7 +84,7 @@ module _ (version : ℕ) (task : Task) where
       let asks = list_any (is_ask_of n) (before ++ take k more) in
       let told = list_any (is_answer_to n) (before ++ take k more) in
       let asked = first_so asks (not told) waiting in
-      let untold = not_true told (second_so asks (not told) waiting) in
+      let untold = not-true told (second_so asks (not told) waiting) in
       by (list_any (is_ask_of n) before) (list_any (is_ask_of n) (take k more)) refl refl
       (sym (list_any-append (is_ask_of n) before (take k more)) ∙ asked)
       (left_false (list_any (is_answer_to n) before) (list_any (is_answer_to n) (take k more))

@@ -1,5 +1,5 @@
 -- What is known at first, part by part.
-use Rattle.std.proofs.Common.{◌≡◌, ℕ, zero, suc, ◌+◌, ◌<◌, arith, true, ◌&&◌, List, [], ◌∷◌, ◌++◌, map, filter, take, drop, length, get_or, sym, ap, ◌∙◌, add-one, Some, slice_get, All, Contains, ltb-true, not, nat_lt, nat_le, option_map, false, cond, ◌||◌, ◌==◌, eqb-true, unwrap_or, Bool, refl}
+use Rattle.std.proofs.Common.{◌≡◌, ℕ, zero, suc, ◌+◌, ◌<◌, arith, true, ◌&&◌, List, [], ◌∷◌, ◌++◌, map, filter, take, drop, length, get_or, sym, ap, ◌∙◌, add-one, Some, slice_get, All, Contains, ltb-true, not, nat_lt, nat_le, option_map, false, cond, ◌||◌, ◌==◌, eqb-true, unwrap_or, refl}
 use Rattle.std.proofs.Math.Seq.{drop-cons}
 use Rattle.std.proofs.lemmas.Grind.{flat_map-append}
 use Rattle.std.proofs.lemmas.List.{take-append-drop, take_more, map-append, append-nil, length-map, length-take, map_push, nil_from_length}
@@ -24,8 +24,8 @@ use Rattle.fact_store.proofs.StoreLemmas.{with_name-new}
 use Rattle.lemmas.proofs.Numbers.{length-numbers_from, get-map-numbers}
 use Rattle.task_model.proofs.KnownLemmas.{in_names, facts_then}
 use Rattle.std.proofs.lemmas.List.Elements.{Contains-append_left, Contains-append_right}
+use Rattle.std.proofs.lemmas.Bool.{or_left, or_right}
 use Rattle.task_model.proofs.KnownLemmas.{fact_decided, fact_member, with_facts-is}
-use Rattle.lemmas.proofs.Bools.{right_true}
 
 -- ---- facts
 
@@ -37,10 +37,6 @@ supertypes_then facts object sort above =
     ∙ ap (with_facts (with_fact facts (type_fact sort object))) (sym (map-append (λ s. type_fact s object) above (0 ∷ [])))
 
 -- ---- what is there already
-
-left_true : (a b : Bool) → a ≡ true → (a || b) ≡ true
-left_true true b e = refl
-left_true false b e = absurd (cc)
 
 pub known_already : (facts more : List Fact) (fact : Fact) → Contains more fact
     → with_fact (with_facts facts more) fact ≡ with_facts facts more
@@ -58,9 +54,9 @@ any_type object (s ∷ ss) e =
     (s == 0) ≡ b → (b || list_any (λ s. s == 0) ss) ≡ true
     → (same_fact (type_fact 0 object) (type_fact s object) || is_fact (map (λ s. type_fact s object) ss) (type_fact 0 object))
     ≡ true) [
-      | true ↦ λ zero _. left_true _ _
+      | true ↦ λ zero _. or_left _ _
           ((fact_decided (type_fact 0 object) (type_fact s object)).1 (ap (λ s. type_fact s object) (sym (eqb-true s 0 zero))))
-      | false ↦ λ _ rest. right_true _ _ (any_type object ss rest)
+      | false ↦ λ _ rest. or_right _ _ (any_type object ss rest)
     ] refl e
 
 -- that it has `object` is said with the type
@@ -74,7 +70,7 @@ object_known facts object sort above e =
 
 any_last : (xs : List ℕ) → list_any (λ s. s == 0) (xs ++ 0 ∷ []) ≡ true
 any_last [] = refl
-any_last (x ∷ xs) = right_true _ _ (any_last xs)
+any_last (x ∷ xs) = or_right _ _ (any_last xs)
 
 -- and with any type of a declared object
 pub types_known : (domain : Domain) (facts : List Fact) (object : ℕ) (sorts : List ℕ)
@@ -88,7 +84,7 @@ types_known domain facts object (sort ∷ sorts) some none =
     let more = flat_map (λ s. type_facts domain s object) (sort ∷ sorts) in
     let first : Contains (type_facts domain sort object) (type_fact 0 object) =
     (fact_member (type_facts domain sort object) (type_fact 0 object)).0
-    (any_type object (sort ∷ above ++ 0 ∷ []) (right_true _ _ (any_last above))) in
+    (any_type object (sort ∷ above ++ 0 ∷ []) (or_right _ _ (any_last above))) in
     let there : Contains more (type_fact 0 object) =
     Contains-append_left (type_facts domain sort object) (flat_map (λ s. type_facts domain s object) sorts)
     (type_fact 0 object) first in

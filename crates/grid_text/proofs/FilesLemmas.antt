@@ -9,6 +9,7 @@ use Rattle.std.proofs.lemmas.List.Splits.{join_with_byte-slice_split}
 use Rattle.std.proofs.lemmas.List.{get_or-take, get_or_past}
 use Rattle.std.proofs.lemmas.Str.{IsAscii-append}
 use Rattle.std.proofs.lemmas.Str.Ascii.{IsAscii-nil}
+use Rattle.std.proofs.lemmas.List.Elements.{All-cons}
 use Rattle.gen_lines.proofs.CuttingLemmas.{parts_left}
 use Rattle.gen_lines.specs.Lines.{ended, is_feed, open_part}
 use Rattle.grid_text.specs.Entries.{Item}
@@ -22,7 +23,6 @@ use Rattle.grid_text.specs.declared.entry.EntrySort.TheVariants as sort
 use Rattle.grid_text.specs.declared.grid.Block.{Block}
 use Rattle.grid_text.specs.declared.rect.Rect.{Rect}
 use Rattle.grid_text.proofs.RightLinesLemmas.{right_item, right_stands}
-use Rattle.lemmas.proofs.ListTests.{all_cons}
 
 -- a line at a place of a text that is read has no fault
 right_at : (bytes : List ℕ) (grid : GridFile) → IsGridOf bytes grid → (k : ℕ)
@@ -113,7 +113,7 @@ item_cells bytes grid is k item h e =
 pub all_by : {A : Type 0} (P : A → Type 0) (o : Option A) (f : List ℕ → Option A) (line : List ℕ) (lines : List (List ℕ))
     → f line ≡ o → ((x : A) → o ≡ Some x → P x) → All P (filter_map f lines) → All P (filter_map f (line ∷ lines))
 all_by P None f line lines e here rest = rw e rest
-all_by P (Some x) f line lines e here rest = rw e (all_cons P x (filter_map f lines) (here x refl) rest)
+all_by P (Some x) f line lines e here rest = rw e (All-cons P x (filter_map f lines) (here x refl) rest)
 
 all_told : {A : Type 0} (of : EntrySort → List ℕ → Rect → Option A) (P : A → Type 0)
     → ((item : Option Item) (x : A) → ((i : Item) → item ≡ Some i → HasCells i.rect) → told of item ≡ Some x → P x)

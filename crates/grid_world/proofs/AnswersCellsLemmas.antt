@@ -1,11 +1,11 @@
 -- The poses of a block in a region are those with which it lies there by its cells.
 use Rattle.std.proofs.Common.{◌≡◌, ℕ, zero, suc, ◌+◌, ◌-◌, ◌<◌, ◌≤◌, ◌⊎◌, inl, inr, Bool, true, false, List, [], ◌∷◌, ◌++◌, length, map, filter, get_or, refl, sym, ap, subst, ◌∙◌, arith, Contains}
 use Rattle.std.specs.List.{flat_map}
-use Rattle.std.proofs.lemmas.Bool.{cases_lt}
+use Rattle.std.proofs.lemmas.Bool.{cases_lt, false_from_ne_true}
 use Rattle.std.proofs.lemmas.List.Elements.{All-contains, Contains-append_left, Contains-append_right, Contains-get_or}
 use Rattle.std.proofs.lemmas.List.Folds.{list_any_at, list_any_none}
 use Rattle.lemmas.specs.Lists.{numbers_from}
-use Rattle.lemmas.proofs.Bools.{and_not_parts, not_both, false_by}
+use Rattle.lemmas.proofs.Bools.{and_not_parts, not_both}
 use Rattle.grid_text.specs.Grids.{GridFile}
 use Rattle.grid_text.specs.Laws.{AllHaveCells, home_rect}
 use Rattle.grid_text.specs.Rects.{HasCells, is_within, meets}
@@ -127,7 +127,7 @@ may_free : (grid : GridFile) (block : Block) (region : Rect) (corner : Corner) �
 may_free grid block region corner cells all free =
     let rect = rect_at block corner in
     let within : is_within rect region ≡ true = (within_is_by_cells rect region cells).1 free.within in
-    let open_by = λ (k : ℕ) (d : Rect) (h : k < length grid.obstacles). false_by (meets rect (get_or grid.obstacles k d)) (λ met.
+    let open_by = λ (k : ℕ) (d : Rect) (h : k < length grid.obstacles). false_from_ne_true (meets rect (get_or grid.obstacles k d)) (λ met.
     let both = (meeting_is_by_cells rect (get_or grid.obstacles k d) cells (all.obstacles k d h)).0 met in
     free.free (get_or grid.obstacles k d) (Contains-get_or grid.obstacles k d h) both.0 both.1 both.2) in
     let clear : is_blocked grid rect ≡ false = list_any_none (λ o. meets rect o) grid.obstacles open_by in

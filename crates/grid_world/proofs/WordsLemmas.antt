@@ -4,14 +4,14 @@ use Rattle.std.specs.Char.{is_ascii_digit}
 use Rattle.std.specs.Fmt.{decimal}
 use Rattle.std.specs.List.{list_all, position_or_len}
 use Rattle.std.specs.Str.Parse.{digits_value}
-use Rattle.std.proofs.lemmas.Bool.{and_parts}
+use Rattle.std.proofs.lemmas.Bool.{and_parts, not-true, false_from_ne_true}
 use Rattle.std.proofs.lemmas.Bool.Decides.{nat_tests}
 use Rattle.std.proofs.lemmas.Fmt.{decimal-digits_value, decimal_digit, decimal_nonempty, digits_decimal, digits_value-decimal, first_decimal}
 use Rattle.std.proofs.lemmas.List.{take-append-drop}
 use Rattle.std.proofs.lemmas.List.Sums.{passes_at_first}
 use Rattle.std.proofs.Math.Seq.{drop-append-add}
 use Rattle.gen_lines.specs.Reply.{is_filled}
-use Rattle.lemmas.proofs.Bools.{not_both, not_true, false_by}
+use Rattle.lemmas.proofs.Bools.{not_both}
 use Rattle.lemmas.proofs.Digits.{own}
 use Rattle.lemmas.proofs.Members.{take_append}
 use Rattle.lemmas.proofs.Positions.{found_at}
@@ -31,7 +31,7 @@ comma_told : (b : ℕ) → is_comma b ≡ true → b ≡ 44
 comma_told b e = grind (arith, nat_tests, e)
 
 differs : (b : ℕ) → (b ≡ 48 → ⊥) → (b == 48) ≡ false
-differs b h = false_by (b == 48) (λ e. h (zero_told b e))
+differs b h = false_from_ne_true (b == 48) (λ e. h (zero_told b e))
 
 some_filled : (text : List ℕ) → is_filled text ≡ true → 0 < length text
 some_filled [] e = absurd (cc)
@@ -56,7 +56,7 @@ plain_spelled text e =
     let small : digits_value 10 text < 2 ^ 32 = grind (arith, nat_tests, q.1) in
     record {
       is = decimal-digits_value own text r.1 (some_filled text r.0)
-          (one_zero text (not_true (has_leading_zero text) p.0)) (omega (arith, small));
+          (one_zero text (not-true (has_leading_zero text) p.0)) (omega (arith, small));
       small = small;
     }
 

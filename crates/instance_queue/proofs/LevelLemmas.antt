@@ -2,10 +2,10 @@
 use Rattle.std.proofs.Common.{◌≡◌, ℕ, ◌+◌, ◌<◌, ◌≤◌, ◌++◌, get_or, take, Bool, not, List, [], ◌∷◌, length, refl, sym, ap, subst, ◌∙◌, arith, All}
 use Rattle.std.proofs.lemmas.List.{length-map, map_push, take_more}
 use Rattle.std.proofs.lemmas.List.Elements.{All-nil, All-cons}
+use Rattle.std.proofs.lemmas.Bool.{not-true}
 use Rattle.fact_join.specs.Adding.{ComesOf as Lacks}
 use Rattle.fact_join.specs.declared.query.JoinFault.{JoinFault}
 use Rattle.fact_join.specs.declared.query.JoinFault.TheVariants as join
-use Rattle.lemmas.proofs.Bools.{not_true}
 use Rattle.task_model.specs.Known.{Known, IsCoherent, IsIn}
 use Rattle.task_model.specs.Streams.{Note, IsDue, yields_of, is_finished, AreDue}
 use Rattle.task_model.specs.declared.stream.Instance.{Instance}
@@ -43,7 +43,7 @@ module _ (task : Task) (known : Known) (notes : List Note) where
 
   pub found_is_due : (i : Instance) → IsFound task known seeks i → IsDue task known notes i
   found_is_due i f =
-      record { stream = f.stream; named = f.named; reachable = f.reachable; unfinished = not_true (is_finished f.stream notes i) f.sought }
+      record { stream = f.stream; named = f.named; reachable = f.reachable; unfinished = not-true (is_finished f.stream notes i) f.sought }
 
   due_is_found : (i : Instance) → IsDue task known notes i → IsFound task known seeks i
   due_is_found i d =

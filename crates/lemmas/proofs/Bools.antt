@@ -50,10 +50,6 @@ zero_and_not (suc n) cut e =
     let busy : (suc n == 0) ≡ false = ne_eqb (suc n) 0 (λ is. omega (arith, is)) in
     let both : true ≡ false = sym e ∙ ap (λ (b : Bool). b && not cut) busy in absurd (cc)
 
-pub right_true : (a b : Bool) → b ≡ true → (a || b) ≡ true
-right_true true b e = refl
-right_true false b e = e
-
 pub left_false : (a b : Bool) → (a || b) ≡ false → a ≡ false
 left_false true b e = e
 left_false false b e = refl
@@ -61,14 +57,6 @@ left_false false b e = refl
 pub right_false : (a b : Bool) → (a || b) ≡ false → b ≡ false
 right_false true b e = absurd (cc)
 right_false false b e = e
-
-pub not_true : (b : Bool) → not b ≡ true → b ≡ false
-not_true true e = absurd (cc)
-not_true false e = refl
-
-pub false_by : (b : Bool) → (b ≡ true → ⊥) → b ≡ false
-false_by true never = absurd (never refl)
-false_by false never = refl
 
 -- what doesn't stand without the second stands with it
 pub second_too : (a b : Bool) → a ≡ true → (a && not b) ≡ false → b ≡ true

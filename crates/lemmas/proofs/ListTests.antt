@@ -125,11 +125,6 @@ all_at_or p xs i x all lt is =
 
 -- ---- members of which something holds, and the first that passes
 
-pub all_cons : {A : Type 0} (P : A → Type 0) (x : A) (xs : List A) → P x → All P xs
-    → All P (x ∷ xs)
-all_cons P x xs here later zero d lt = here
-all_cons P x xs here later (suc i) d lt = later i d (omega (arith, lt))
-
 pub find_passes : {A : Type 0} (p : A → Bool) (xs : List A) (x : A) → find p xs ≡ Some x
     → p x ≡ true
 find_passes p [] x e = absurd (cc)

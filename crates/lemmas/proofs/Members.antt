@@ -129,6 +129,9 @@ pub append_nil_second : {A : Type 0} (xs ys : List A) → xs ++ ys ≡ [] → ys
 append_nil_second [] ys e = e
 append_nil_second (x ∷ xs) ys e = absurd (cc)
 
+pub none_both : {A : Type 0} (xs ys : List A) → xs ++ ys ≡ [] → (xs ≡ []) × (ys ≡ [])
+none_both xs ys e = (append_nil_first xs ys e, append_nil_second xs ys e)
+
 -- one member more
 pub flat_map_next : {X A : Type 0} (f : X → List A) (xs : List X) (i : ℕ) (x : X) → i < length xs
     → x ≡ get_or xs i x

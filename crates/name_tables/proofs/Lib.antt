@@ -1,5 +1,4 @@
 pub mod NamesFreshLemmas
-pub mod Parted
 pub mod TitleLemmas
 pub mod TextsLemmas
 pub mod NamesUseLemmas

@@ -1,6 +1,7 @@
 -- The name and the items of a text without form faults.
 use Rattle.std.proofs.Common.{◌≡◌, ℕ, true, List, [], codes}
 use Rattle.std.specs.Str.{bytes_eq}
+use Rattle.lemmas.proofs.Members.{none_both}
 use Rattle.sexpr_text.specs.Trees.{Trees, nothing, word, list}
 use Rattle.task_model.specs.Fit.{is_name}
 use Rattle.form_reader.specs.declared.items.TextKind.{TextKind}
@@ -11,7 +12,6 @@ use Rattle.form_reader.specs.Rows.{end_faults, head_of, inner_of, one_faults, ta
 use Rattle.form_reader.specs.Texts.{define_faults, form_faults, missing_faults, title_faults, title_of, titled_faults}
 use Rattle.form_reader.specs.Words.{is_of}
 use Rattle.name_tables.proofs.NoFaultLemmas.{chosen}
-use Rattle.name_tables.proofs.Parted.{none_both}
 
 pub one_name : (place : ℕ) (ts : Trees) → one_faults Name place ts ≡ []
     → is_name (head_of ts) ≡ true

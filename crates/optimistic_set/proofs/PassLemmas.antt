@@ -1,6 +1,6 @@
 -- A pass over all streams, and passes one after another.
 use Rattle.std.proofs.Common.{◌≡◌, ℕ, zero, suc, ◌+◌, ◌-◌, ◌<◌, ◌≤◌, arith, false, not, ◌&&◌, List, [], ◌∷◌, ◌++◌, length, take, get_or, refl, sym, ap, subst, ◌∙◌, inl, inr, Some, slice_get, Contains, append_assoc}
-use Rattle.std.proofs.lemmas.Bool.{and_from}
+use Rattle.std.proofs.lemmas.Bool.{and_from, not-true}
 use Rattle.std.proofs.lemmas.List.{append-nil, map-append, take_more, take-append-le}
 use Rattle.std.specs.Cmp.{first_so, second_so}
 use Rattle.std.specs.List.{list_any}
@@ -9,7 +9,6 @@ use Rattle.fact_join.specs.declared.query.JoinFault.{JoinFault}
 use Rattle.fact_join.specs.declared.query.JoinFault.TheVariants as join
 use Rattle.instance_search.proofs.InstanceOrderLemmas.{reachable_in}
 use Rattle.instance_search.specs.Found.{Seeks, IsFound, AreFound}
-use Rattle.lemmas.proofs.Bools.{not_true}
 use Rattle.lemmas.proofs.Members.{push_cases, member_at, take_append}
 use Rattle.lemmas.specs.Lists.{AreAscending}
 use Rattle.task_model.proofs.TruthLemmas.{have_types-length}
@@ -85,10 +84,10 @@ module _ (task : Task) (known : Known) (notes : List Note) (tried : List Instanc
           stream = f.stream;
           named = f.named;
           reachable = f.reachable;
-          unfinished = not_true (is_finished f.stream notes i) (first_so a (b && c) f.sought);
+          unfinished = not-true (is_finished f.stream notes i) (first_so a (b && c) f.sought);
         },
-        not_true (list_any (same_instance i) tried) (first_so b c rest),
-        not_true (list_any (same_instance i) (instances_of old)) (second_so b c rest),
+        not-true (list_any (same_instance i) tried) (first_so b c rest),
+        not-true (list_any (same_instance i) (instances_of old)) (second_so b c rest),
       )
 
   due_is_found : (i : Instance) → IsDue task there notes i → list_any (same_instance i) tried ≡ false

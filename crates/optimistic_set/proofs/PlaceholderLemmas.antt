@@ -1,12 +1,11 @@
 -- The names of placeholders are their own.
 use Rattle.std.proofs.Common.{◌≡◌, ℕ, zero, suc, ◌+◌, ◌<◌, ◌≤◌, ◌^◌, arith, inl, inr, true, List, [], ◌∷◌, ◌++◌, length, refl, sym, ap, subst, ◌∙◌, Some, slice_get, Contains, All, append_assoc}
-use Rattle.std.proofs.lemmas.Fmt.{digits_decimal, digits_value-decimal}
+use Rattle.std.proofs.lemmas.Fmt.{digits_decimal, decimal_injective}
 use Rattle.std.proofs.lemmas.List.Elements.{Contains-append_cases, All-contains}
 use Rattle.std.specs.Cmp.{first_so, second_so}
 use Rattle.std.specs.Char.{is_ascii_digit}
 use Rattle.std.specs.Fmt.{decimal}
 use Rattle.std.specs.List.{list_all}
-use Rattle.std.specs.Str.Parse.{digits_value}
 use Rattle.lemmas.proofs.Ascending.{contains_none, contains_cases}
 use Rattle.lemmas.proofs.Digits.{own}
 use Rattle.lemmas.proofs.Distinct.{distinct_append, distinct_cons}
@@ -41,16 +40,12 @@ split (x ∷ xs) (y ∷ ys) more others d f e =
     (second_so (is_ascii_digit y) (list_all is_ascii_digit ys) f) rest in
     (λ i. first i ∷ r.0 i, r.1)
 
-same_number : (m n : ℕ) → m < 2 ^ 64 → n < 2 ^ 64 → decimal m ≡ decimal n → m ≡ n
-same_number m n small few e =
-    sym (digits_value-decimal own m small) ∙ ap (digits_value 10) e ∙ digits_value-decimal own n few
-
 same_placeholder : (j i k n : ℕ) → j < 2 ^ 64 → i < 2 ^ 64 → k < 2 ^ 64 → n < 2 ^ 64
     → placeholder j i ≡ placeholder k n → (j ≡ k) × (i ≡ n)
 same_placeholder j i k n a b c d e =
     let rest : decimal j ++ 46 ∷ decimal i ≡ decimal k ++ 46 ∷ decimal n = cc in
     let r = split (decimal j) (decimal k) (decimal i) (decimal n) (digits_decimal own j a) (digits_decimal own k c) rest in
-    (same_number j k a c r.0, same_number i n b d r.1)
+    (decimal_injective j k a c r.0, decimal_injective i n b d r.1)
 
 -- ---- the names of one entry
 

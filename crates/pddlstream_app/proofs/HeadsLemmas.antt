@@ -1,6 +1,6 @@
 -- Heads of runs.
 use Rattle.std.proofs.Common.{◌≡◌, ℕ, zero, suc, ◌+◌, ◌<◌, ◌≤◌, ◌==◌, arith, Bool, true, false, cond, ◌||◌, List, [], ◌∷◌, map, length, string_bytes, refl, sym, subst, ap, ◌∙◌, All, Option, Some, None, slice_get}
-use Rattle.std.proofs.lemmas.Bool.{eq-eqb}
+use Rattle.std.proofs.lemmas.Bool.{eq-eqb, or_right}
 use Rattle.std.proofs.lemmas.List.{length-map}
 use Rattle.std.proofs.lemmas.List.Elements.{All-contains}
 use Rattle.std.proofs.lemmas.Option.{same_Some}
@@ -8,7 +8,6 @@ use Rattle.std.specs.List.{list_any}
 use Rattle.command_line.specs.Ranges.{AreInRange}
 use Rattle.command_line.specs.Words.{SolveWords}
 use Rattle.io_world.specs.FileMap.{FileMap}
-use Rattle.lemmas.proofs.Bools.{right_true}
 use Rattle.lemmas.proofs.ListTests.{all_by_place, number_found}
 use Rattle.lemmas.proofs.Members.{member_at, place_of}
 use Rattle.round_run.specs.Batches.{IsRunnable}
@@ -48,7 +47,7 @@ among : (streams : List ℕ) (k stream : ℕ) → slice_get streams k ≡ Some s
 among [] k stream at = absurd (cc)
 among (s ∷ ss) zero stream at =
     ap (λ b. b || list_any (λ t. t == stream) ss) (eq-eqb s stream (same_Some s stream at))
-among (s ∷ ss) (suc k) stream at = right_true (s == stream) _ (among ss k stream at)
+among (s ∷ ss) (suc k) stream at = or_right (s == stream) _ (among ss k stream at)
 
 -- ---- pools
 

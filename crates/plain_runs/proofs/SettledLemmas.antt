@@ -1,9 +1,9 @@
 -- Where every transcript that agrees with a table stays within the limits, no run ends with a limit.
-use Rattle.std.proofs.Common.{◌≡◌, ◌⊎◌, ℕ, ◌+◌, ◌≤◌, Bool, true, false, Contains, List, [], ◌∷◌, ◌++◌, length, take, drop, Some, slice_get, sym, ap, subst, ◌∙◌, arith, inl, inr}
+use Rattle.std.proofs.Common.{◌≡◌, ℕ, ◌+◌, ◌≤◌, Bool, true, false, Contains, List, [], ◌∷◌, ◌++◌, length, take, drop, Some, slice_get, sym, ap, subst, ◌∙◌, arith, inl, inr}
 use Rattle.std.proofs.lemmas.List.{length-take, take-append-drop}
-use Rattle.std.proofs.lemmas.List.Elements.{Contains-append_left}
+use Rattle.std.proofs.lemmas.List.Elements.{Contains-append_left, Contains-append_cases}
 use Rattle.std.specs.List.{list_any}
-use Rattle.lemmas.proofs.Ascending.{contains_cases, contains_here, contains_later, contains_none}
+use Rattle.lemmas.proofs.Ascending.{contains_cases, contains_none}
 use Rattle.std.proofs.lemmas.Bool.{or_left, or_right}
 use Rattle.lemmas.proofs.Distinct.{distinct_cons}
 use Rattle.lemmas.proofs.Members.{distinct_nil, get_append}
@@ -46,14 +46,6 @@ request_of task before number (i ∷ list) e m =
 no_answer : (n m turn : ℕ) (call : Call) (e : Entry) → e ≡ entry.Ask m turn call → is_answer_to n e ≡ true → ⊥
 no_answer n m turn call e is to = let no : false ≡ true = sym (ap (is_answer_to n) is) ∙ to in absurd (cc)
 
-in_parts : {A : Type 0} (xs ys : List A) (x : A) → Contains (xs ++ ys) x → Contains xs x ⊎ Contains ys x
-in_parts [] ys x m = inr m
-in_parts (z ∷ xs) ys x m =
-    elim (contains_cases z (xs ++ ys) x m) [
-      | inl same ↦ inl (subst (Contains (z ∷ xs)) same (contains_here z xs))
-      | inr later ↦ elim (in_parts xs ys x later) [ inl c ↦ inl (contains_later z xs x c) | inr c ↦ inr c ]
-    ]
-
 any_at : (test : Entry → Bool) (xs : List Entry) (x : Entry) → Contains xs x → test x ≡ true → list_any test xs ≡ true
 any_at test [] x m is = absurd (contains_none x m)
 any_at test (y ∷ xs) x m is =
@@ -68,19 +60,20 @@ module _ (limits : Limits) (task : Task) (answers : Answers) (entries : List Ent
   -- requests bring no answers
   agree_still : (list : List Instance) → AnswersAgree answers (entries ++ requests_from task entries (asks_of entries + 1) list)
   agree_still list n turn call e asked said to =
-      elim (in_parts entries (requests_from task entries (asks_of entries + 1) list) e said) [
+      elim (Contains-append_cases entries (requests_from task entries (asks_of entries + 1) list) e said) [
         | inr new ↦ let r = request_of task entries (asks_of entries + 1) list e new in absurd (no_answer n r.0 r.1 r.2 e r.3 to)
-        | inl old ↦ elim (in_parts entries (requests_from task entries (asks_of entries + 1) list) (entry.Ask n turn call) asked) [
-          | inl there ↦ agrees.by n turn call e there old to
-          | inr new ↦
-              let r = request_of task entries (asks_of entries + 1) list (entry.Ask n turn call) new in
-              let both : entry.Ask n turn call ≡ entry.Ask r.0 r.1 r.2 = r.3 in
-              let same : n ≡ r.0 = cc in
-              let answered = any_at (is_answer_to n) entries e old to in
-              let few = number_below limits.version task entries n agrees.legal
-              (answer_asked limits.version task entries n agrees.legal answered) in
-              absurd (omega (arith, few.1, r.4, same))
-        ]
+        | inl old ↦ elim (Contains-append_cases entries (requests_from task entries (asks_of entries + 1) list)
+            (entry.Ask n turn call) asked) [
+              | inl there ↦ agrees.by n turn call e there old to
+              | inr new ↦
+                  let r = request_of task entries (asks_of entries + 1) list (entry.Ask n turn call) new in
+                  let both : entry.Ask n turn call ≡ entry.Ask r.0 r.1 r.2 = r.3 in
+                  let same : n ≡ r.0 = cc in
+                  let answered = any_at (is_answer_to n) entries e old to in
+                  let few = number_below limits.version task entries n agrees.legal
+                  (answer_asked limits.version task entries n agrees.legal answered) in
+                  absurd (omega (arith, few.1, r.4, same))
+            ]
       ]
 
   -- so distinct instances that are due leave no room for more calls

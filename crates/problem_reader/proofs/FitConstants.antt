@@ -1,6 +1,7 @@
 -- The constants of a domain that was read: each has a type, and they are few.
 use Rattle.std.proofs.Common.{◌≡◌, ℕ, zero, suc, ◌+◌, ◌<◌, ◌≤◌, Bool, true, false, cond, ◌==◌, nat_lt, List, [], ◌∷◌, ◌++◌, length, refl, sym, ap, subst, ◌∙◌, Option, Some, None, slice_get, slice_set, arith}
 use Rattle.std.proofs.lemmas.Bool.{cond_both}
+use Rattle.lemmas.proofs.Members.{none_both}
 use Rattle.sexpr_text.specs.Trees.{Trees, nothing, word, list, size}
 use Rattle.task_model.specs.declared.domain.Domain as domain
 use Rattle.form_reader.proofs.RowsLemmas.{tail_small}
@@ -16,7 +17,6 @@ use Rattle.name_tables.specs.Declarations.{Typed, declare, declare_each, declare
 use Rattle.name_tables.specs.Graphs.{ascending_with}
 use Rattle.name_tables.specs.Names.{place_of}
 use Rattle.name_tables.specs.Variables.{named_sorts, named_words}
-use Rattle.name_tables.proofs.Parted.{none_both}
 use Rattle.name_tables.proofs.TextsLemmas.{body_less}
 use Rattle.name_tables.proofs.TitleLemmas.{titled}
 use Rattle.name_tables.proofs.FitDeclared.{list_long}

@@ -18,8 +18,8 @@ use Rattle.name_tables.specs.Variables.{unless}
 use Rattle.name_tables.specs.Vocabulary.{arity_of}
 use Rattle.name_tables.specs.declared.vocabulary.Vocabulary.{Vocabulary}
 use Rattle.name_tables.proofs.NoFaultLemmas.{chosen, met}
-use Rattle.name_tables.proofs.Parted.{none_both}
 use Rattle.std.proofs.lemmas.Option.{slice_get_within}
+use Rattle.lemmas.proofs.Members.{none_both}
 use Rattle.name_tables.proofs.NamesUseLemmas.{IsUsable, place_holds, place_some, usable}
 use Rattle.name_tables.proofs.VocabularyLemmas.{AreNamesOf, role_at, used_arity, used_inside}
 use Rattle.problem_reader.specs.Names.{atom_names, is_derived_at}

@@ -1,6 +1,6 @@
 -- The goal and the `:init` of a problem without faults.
 use Rattle.std.proofs.Common.{◌≡◌, ℕ, ◌+◌, ◌≤◌, Bool, true, false, cond, [], ◌++◌, refl, arith}
-use Rattle.lemmas.proofs.Members.{append_nil_second}
+use Rattle.lemmas.proofs.Members.{append_nil_second, none_both}
 use Rattle.sexpr_text.specs.Trees.{Trees, nothing, word, list, depth, size}
 use Rattle.task_model.specs.Fit.{is_fit_condition}
 use Rattle.task_model.specs.declared.domain.Domain.{Domain}
@@ -16,7 +16,6 @@ use Rattle.name_tables.specs.Conditions.{conditions_names}
 use Rattle.name_tables.specs.declared.vocabulary.Vocabulary.{Vocabulary}
 use Rattle.name_tables.proofs.FitConditions.{single_fits}
 use Rattle.name_tables.proofs.FitTerms.{Knows, filled_first}
-use Rattle.name_tables.proofs.Parted.{none_both}
 use Rattle.problem_reader.specs.Names.{problem_body_names, facts_names, problem_items_names}
 use Rattle.problem_reader.specs.Problems.{condition_of, goal_of, init_of, is_goal}
 use Rattle.problem_reader.specs.Values.{is_init, nothing_given, row_names, row_put, values_names}

@@ -4,7 +4,7 @@ use Rattle.std.specs.Cmp.{first_so, second_so}
 use Rattle.std.specs.List.{list_all}
 use Rattle.std.proofs.lemmas.Bool.{and_from, leb-true, cond-true}
 use Rattle.sexpr_text.specs.Trees.{Trees, nothing, word, list, size}
-use Rattle.lemmas.proofs.Members.{distinct_nil}
+use Rattle.lemmas.proofs.Members.{distinct_nil, none_both}
 use Rattle.task_model.specs.Fit.{AreFitObjects, IsFitDomain, are_places, is_name, is_short}
 use Rattle.task_model.specs.declared.domain.Declared as declared
 use Rattle.task_model.specs.declared.domain.Domain.{Domain}
@@ -25,7 +25,6 @@ use Rattle.name_tables.proofs.FitDeclared.{AreTyped, list_long, list_named, type
 use Rattle.name_tables.proofs.FitGroups.{sorts_as_long}
 use Rattle.name_tables.proofs.FitVocabulary.{constant_names, constants_put, sorts_some}
 use Rattle.name_tables.proofs.NamesFreshLemmas.{fresh_from}
-use Rattle.name_tables.proofs.Parted.{none_both}
 use Rattle.name_tables.proofs.NamesLemmas.{has_with}
 use Rattle.problem_reader.specs.Names.{problem_body_names, problem_items_names}
 use Rattle.problem_reader.specs.Problems.{all_typed, constants_typed, declare_all, objects_typed}

@@ -2,6 +2,7 @@
 use Rattle.std.proofs.Common.{◌≡◌, ◌≤◌, true, ◌&&◌, List, [], ◌++◌, length, refl, sym, ap, subst, ◌∙◌, Result, Ok, Err, IfOk, arith}
 use Rattle.std.specs.List.{list_all}
 use Rattle.std.proofs.lemmas.Bool.{and_from, le-leb}
+use Rattle.lemmas.proofs.Members.{none_both}
 use Rattle.sexpr_text.specs.declared.tree.Tree.{Tree}
 use Rattle.sexpr_text.specs.Trees.{Trees, nothing, word, list, size, tree}
 use Rattle.task_model.specs.Fit.{IsFitProblem, is_fit_condition, is_fit_fact, is_fit_value, is_name, is_short}
@@ -16,7 +17,6 @@ use Rattle.name_tables.specs.Sizes.{IsBounded}
 use Rattle.name_tables.proofs.TextsLemmas.{body_less, body_shallow}
 use Rattle.name_tables.specs.declared.vocabulary.Vocabulary.{Vocabulary}
 use Rattle.name_tables.proofs.OneTreeLemmas.{tree_there}
-use Rattle.name_tables.proofs.Parted.{none_both}
 use Rattle.name_tables.proofs.TitleLemmas.{titled}
 use Rattle.name_tables.proofs.VocabularyLemmas.{AreNamesOf}
 use Rattle.domain_reader.specs.Names.{second_items}

@@ -2,6 +2,7 @@
 use Rattle.std.proofs.Common.{◌≡◌, ℕ, zero, suc, ◌+◌, ◌≤◌, Bool, true, false, cond, List, [], ◌∷◌, ◌++◌, length, refl, sym, ap, ◌∙◌, Some, slice_get, arith}
 use Rattle.std.specs.List.{list_all}
 use Rattle.std.proofs.lemmas.Bool.{and_from}
+use Rattle.lemmas.proofs.Members.{none_both}
 use Rattle.sexpr_text.specs.Trees.{Trees, nothing, word, list, size}
 use Rattle.task_model.specs.Fit.{IsFitDomain, is_fit_fact, is_fit_value}
 use Rattle.task_model.specs.declared.domain.Domain.{Domain}
@@ -12,7 +13,6 @@ use Rattle.form_reader.specs.declared.words.WordSort.TheVariants.{Name, Predicat
 use Rattle.form_reader.specs.Rows.{application_faults, head_of, tail_of}
 use Rattle.name_tables.specs.Terms.{declared_place}
 use Rattle.name_tables.specs.declared.vocabulary.Vocabulary.{Vocabulary}
-use Rattle.name_tables.proofs.Parted.{none_both}
 use Rattle.name_tables.proofs.VocabularyLemmas.{AreNamesOf}
 use Rattle.problem_reader.specs.Names.{atom_names, fact_names, facts_names, is_worth, worth_names}
 use Rattle.problem_reader.specs.Problems.{spelled_fact, facts_of, places_of, valued_of, valueds_of}

@@ -2,6 +2,7 @@
 use Rattle.std.proofs.Common.{◌≡◌, ℕ, Bool, true, false, cond, ◌||◌, nat_le, List, [], ◌∷◌, ◌++◌, length, refl, sym, ap, ◌∙◌, Some, slice_get, unwrap_or}
 use Rattle.std.specs.Str.Parse.{digits_value}
 use Rattle.std.proofs.lemmas.Bool.{and_from}
+use Rattle.lemmas.proofs.Members.{none_both}
 use Rattle.sexpr_text.specs.Trees.{Trees, nothing, word, list}
 use Rattle.task_model.specs.Fit.{has_arity, is_fit_value}
 use Rattle.task_model.specs.declared.domain.Domain.{Domain}
@@ -20,7 +21,6 @@ use Rattle.name_tables.specs.Variables.{unless}
 use Rattle.name_tables.specs.Vocabulary.{arity_of}
 use Rattle.name_tables.specs.declared.vocabulary.Vocabulary.{Vocabulary}
 use Rattle.name_tables.proofs.NoFaultLemmas.{chosen, met}
-use Rattle.name_tables.proofs.Parted.{none_both}
 use Rattle.name_tables.proofs.NamesUseLemmas.{place_holds, usable}
 use Rattle.name_tables.proofs.VocabularyLemmas.{AreNamesOf, used_arity}
 use Rattle.problem_reader.specs.Names.{atom_names, fact_names, is_worth, worth_names}

@@ -1,7 +1,6 @@
 -- Where outcomes stand.
 use Rattle.std.proofs.Common.{◌≡◌, ℕ, zero, suc, ◌+◌, ◌<◌, ◌≤◌, ◌⊎◌, inl, inr, Bool, true, false, ◌&&◌, ◌||◌, List, [], ◌∷◌, ◌++◌, length, refl, sym, ap, subst, ◌∙◌, arith, eq-eqb}
-use Rattle.std.proofs.lemmas.Bool.{cases_lt, true≢false}
-use Rattle.lemmas.proofs.Bools.{false_by}
+use Rattle.std.proofs.lemmas.Bool.{cases_lt, true≢false, false_from_ne_true}
 use Rattle.level_course.specs.Courses.{Course, IsBehind, Opens, with_asks}
 use Rattle.mode_course.proofs.MadeLemmas.{between_awaits, line_awaits}
 use Rattle.mode_course.proofs.StepsLemmas.{batch_open}
@@ -184,7 +183,7 @@ module _ (b : Bounds) (bounds : AreBounds b) (entries : List Entry) (s : Standin
   misplaced o elsewhere (inr (is, there)) =
       elsewhere (inr (
         is,
-        false_by (is_over s.course.batch && awaits_line s.course.phase)
+        false_from_ne_true (is_over s.course.batch && awaits_line s.course.phase)
             (λ comes. by (line_awaits task entries s.course comes) there),
       ))
     where
@@ -249,7 +248,7 @@ module _ (b : Bounds) (bounds : AreBounds b) (entries : List Entry) (s : Standin
   pub none_waits : (o : Outcome) → MayEndAt s.course o → ¬ (o ≡ outcome.Limit Calls) → HasNoneOpen entries
   none_waits o (inr (is, other)) no_limit n = absurd (no_limit is)
   none_waits o (inl rests) no_limit n =
-      false_by (is_open entries n) (λ waits.
+      false_from_ne_true (is_open entries n) (λ waits.
       let within = stands.counts.answered n waits in
       let first = within.0 in
       let last = within.1 in

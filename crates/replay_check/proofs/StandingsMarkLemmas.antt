@@ -1,12 +1,11 @@
 -- The judge of a transcript goes on behind an entry that is neither a request nor an answer.
 use Rattle.std.proofs.Common.{◌≡◌, ℕ, ◌+◌, ◌-◌, ◌≤◌, Bool, true, false, List, [], ◌∷◌, ◌++◌, take, length, nat_lt, cond, count_by, refl, sym, ap, subst, ◌∙◌, arith}
-use Rattle.std.proofs.lemmas.Bool.{true≢false}
+use Rattle.std.proofs.lemmas.Bool.{true≢false, false_from_ne_true}
 use Rattle.std.proofs.lemmas.List.{length-take, nil_from_length}
 use Rattle.dream_asks.specs.Next.{asked_instances}
 use Rattle.dream_asks.specs.Progress.{numbered}
 use Rattle.instance_queue.specs.Level.{instances_of}
 use Rattle.instance_queue.specs.declared.due.Due.{Due}
-use Rattle.lemmas.proofs.Bools.{false_by}
 use Rattle.level_course.specs.Agendas.{Agenda, Starts}
 use Rattle.mode_course.proofs.StepsLemmas.{phases_differ}
 use Rattle.mode_course.specs.Agendas.{Begins, KeepsRun, ModeAgenda, MovesOn, is_undreamt, left_behind, mode_place_in, with_run}
@@ -86,7 +85,7 @@ module _ (limits : Limits) (task : Task) (entries : List Entry) (l : Ledger) (a 
       absurd (omega (arith, r.0, r.1, count, idle, few))
 
   pub closed_behind : a.batch.answers ≡ 0 → HasNoneOpen (entries ++ e ∷ [])
-  closed_behind idle m = false_by (is_open (entries ++ e ∷ []) m) (λ waits. none_waits idle m waits)
+  closed_behind idle m = false_from_ne_true (is_open (entries ++ e ∷ []) m) (λ waits. none_waits idle m waits)
 
   module _ (b : ModeAgenda) (idle : a.batch.answers ≡ 0)
       (step : IsStep limits task entries (mode_place_in task entries a) e (mode_place_in task (entries ++ e ∷ []) b)) where

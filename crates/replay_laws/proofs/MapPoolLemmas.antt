@@ -2,12 +2,11 @@
 use Rattle.std.proofs.Common.{◌≡◌, ℕ, zero, suc, ◌+◌, ◌<◌, ◌≤◌, ◌==◌, arith, Bool, true, false, true≢false, cond, List, [], ◌∷◌, ◌++◌, length, map, refl, sym, ap, subst, ◌∙◌, All, Option, Some, None, is_none, option_map, option_and_then, codes, slice_get}
 use Rattle.std.specs.List.{cons_option, filter_map, flat_map, list_any}
 use Rattle.std.proofs.lemmas.List.{length-map}
-use Rattle.std.proofs.lemmas.List.Elements.{All-nil}
+use Rattle.std.proofs.lemmas.List.Elements.{All-nil, All-cons}
 use Rattle.std.proofs.lemmas.List.Folds.{flat_map-map}
 use Rattle.std.proofs.lemmas.Option.{same_Some}
 use Rattle.io_world.specs.FileMap.{FileMap}
 use Rattle.lemmas.proofs.Bools.{left_false, right_false}
-use Rattle.lemmas.proofs.ListTests.{all_cons}
 use Rattle.lemmas.proofs.Options.{and_then_some, where_true}
 use Rattle.lemmas.specs.Lists.{AreDistinct}
 use Rattle.command_line.specs.Words.{SolveWords}
@@ -62,7 +61,7 @@ module _ (names : List (List ℕ)) where
       → All (λ (p : PlainPool). p.workers ≤ 16) (numbered names next pools)
   few_numbered next [] right = All-nil (λ (p : PlainPool). p.workers ≤ 16)
   few_numbered next (s ∷ pools) right =
-      all_cons (λ (p : PlainPool). p.workers ≤ 16) _
+      All-cons (λ (p : PlainPool). p.workers ≤ 16) _
       (numbered names (next + own_workers s) pools) (is_right s (left_false (has_wrong_number s) _ right)).few
       (few_numbered (next + own_workers s) pools (right_false (has_wrong_number s) _ right))
 
@@ -71,7 +70,7 @@ module _ (names : List (List ℕ)) where
   some_numbered next [] known named = All-nil (λ (p : PlainPool). 0 < length p.streams)
   some_numbered next (s ∷ pools) known named =
       let some = places_some s.streams (left_false (names_unknown names s) _ known) (named 0 s refl) in
-      all_cons (λ (p : PlainPool). 0 < length p.streams) _ (numbered names (next + own_workers s) pools) (omega (arith, some))
+      All-cons (λ (p : PlainPool). 0 < length p.streams) _ (numbered names (next + own_workers s) pools) (omega (arith, some))
       (some_numbered (next + own_workers s) pools (right_false (names_unknown names s) _ known) (λ k t at. named (suc k) t at))
 
   -- pools without a fault
@@ -181,8 +180,8 @@ module _ (text : List ℕ) where
 
       by : (b : Bool) → All Q (with_text text ps)
           → All Q (cond b (changed p ∷ ps) (p ∷ with_text text ps))
-      by true rest = all_cons Q (changed p) ps (all 0 p (omega arith)) (λ i d lt. all (suc i) d (omega (arith, lt)))
-      by false rest = all_cons Q p (with_text text ps) (all 0 p (omega arith)) rest
+      by true rest = All-cons Q (changed p) ps (all 0 p (omega arith)) (λ i d lt. all (suc i) d (omega (arith, lt)))
+      by false rest = All-cons Q p (with_text text ps) (all 0 p (omega arith)) rest
 
   same_streams : (pools : List PlainPool)
       → flat_map (λ (p : PlainPool). p.streams) (with_text text pools) ≡ flat_map (λ (p : PlainPool). p.streams) pools

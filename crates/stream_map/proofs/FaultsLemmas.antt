@@ -1,7 +1,7 @@
 -- Looking names up, and sums of workers.
 use Rattle.std.proofs.Common.{◌≡◌, ℕ, zero, suc, ◌+◌, ◌<◌, ◌≤◌, arith, Bool, true, false, cond, ◌||◌, List, [], ◌∷◌, ◌++◌, length, get_or, take, map, refl, sym, ap, ◌∙◌, Option, Some, None, slice_get, All}
-use Rattle.std.proofs.lemmas.List.{length-map, take_more}
-use Rattle.std.proofs.lemmas.List.Elements.{All-append}
+use Rattle.std.proofs.lemmas.List.{length-map, take_more, map_push}
+use Rattle.std.proofs.lemmas.List.Elements.{All-append, All-cons, All-nil}
 use Rattle.std.proofs.lemmas.Option.{get_or_from_slice_get, same_Some, slice_get_within}
 use Rattle.std.proofs.lemmas.Slice.Eq.{bytes_eq-Decides}
 use Rattle.std.specs.List.{cons_option, filter_map, flat_map, list_any}
@@ -19,7 +19,6 @@ use Rattle.stream_map.specs.declared.fault.MapFault.TheVariants.{Json, Shape, Wo
 use Rattle.stream_map.specs.Form.{each_of, all_stream_names}
 use Rattle.stream_map.specs.Served.{streams_in}
 use Rattle.stream_map.specs.Spelled.{Spelled}
-use Rattle.lemmas.proofs.ListTests.{all_cons}
 use Rattle.lemmas.proofs.MappedTests.{any_mapped}
 use Rattle.task_model.proofs.FitLemmas.{few_streams}
 
@@ -59,11 +58,6 @@ module _ {A B : Type 0} (f : A → Option B) where
 
 -- ---- tables of names
 
-mapped_push : {A B : Type 0} (f : A → B) (xs : List A) (x : A)
-    → map f (xs ++ x ∷ []) ≡ map f xs ++ f x ∷ []
-mapped_push f [] x = refl
-mapped_push f (y ∷ ys) x = ap (λ zs. f y ∷ zs) (mapped_push f ys x)
-
 -- a name isn't among those before it, where it stands nowhere there
 absent : (names : List (List ℕ)) (i : ℕ) (name : List ℕ)
     → ((j : ℕ) → j < i → slice_get names j ≡ Some name → ⊥)
@@ -93,16 +87,13 @@ pub key_pushed : {A : Type 0} (f : A → List ℕ) (old new : List A) (key : A) 
     → new ≡ cond (list_any (λ k. bytes_eq (f key) (f k)) old) old (old ++ key ∷ []) → map f new ≡ take (i + 1) names
 key_pushed f old new key names i same here apart grown =
     let gone = any_mapped f (bytes_eq (f key)) old ∙ ap (list_any (bytes_eq (f key))) same ∙ absent names i (f key) apart in
-    ap (map f) (grown ∙ ap (λ b. cond b old (old ++ key ∷ [])) gone) ∙ mapped_push f old key ∙ ap (λ ns. ns ++ f key ∷ []) same
+    ap (map f) (grown ∙ ap (λ b. cond b old (old ++ key ∷ [])) gone) ∙ map_push f old key ∙ ap (λ ns. ns ++ f key ∷ []) same
     ∙ sym (taken names i (f key) here)
 
 -- ---- the streams of a fit task
 
 pub few_names : (task : Task) → IsFit task → length (all_stream_names task) ≤ 8388608
 few_names task fit = let few = few_streams task fit in omega (arith, few, length-map task.streams (λ (s : Stream). s.name))
-
-all_nil : {A : Type 0} (P : A → Type 0) → All P []
-all_nil P i d lt = absurd (omega (arith, lt))
 
 place_below : (names : List (List ℕ)) (name : List ℕ) (k : ℕ) → place_of names name ≡ Some k
     → k < length names
@@ -117,15 +108,15 @@ module _ (names : List (List ℕ)) where
   with_place : (name : List ℕ) (rest : List ℕ) → All Below rest → (o : Option ℕ)
       → place_of names name ≡ o → All Below (cons_option o rest)
   with_place name rest later None is = later
-  with_place name rest later (Some k) is = all_cons Below k rest (place_below names name k is) later
+  with_place name rest later (Some k) is = All-cons Below k rest (place_below names name k is) later
 
   pub places_below : (ns : List (List ℕ)) → All Below (filter_map (place_of names) ns)
-  places_below [] = all_nil Below
+  places_below [] = All-nil Below
   places_below (n ∷ ns) =
       with_place n (filter_map (place_of names) ns) (places_below ns) (place_of names n) refl
 
   pub all_below : (pools : List Spelled) → All Below (all_places names pools)
-  all_below [] = all_nil Below
+  all_below [] = All-nil Below
   all_below (p ∷ ps) = All-append Below (places_of names p) (all_places names ps) (places_below p.streams) (all_below ps)
 
   -- ---- streams of pools

@@ -1,7 +1,7 @@
 -- Lists of streams, in which each is to stand once.
 use Rattle.std.proofs.Common.{◌≡◌, ℕ, zero, suc, ◌+◌, ◌<◌, ◌≤◌, ◌==◌, Bool, true, false, true≢false, cond, not, ◌&&◌, ◌||◌, List, [], ◌∷◌, ◌++◌, length, get_or, set, refl, sym, ap, ◌∙◌, append_assoc, arith, take, drop, add-zero, zero-add, subst, Some, None, slice_get, All, eq-eqb}
 use Rattle.std.proofs.Math.Bool.{or_assoc}
-use Rattle.std.proofs.lemmas.Bool.{eqb-false, eqb-true}
+use Rattle.std.proofs.lemmas.Bool.{eqb-false, eqb-true, or_right, not-false}
 use Rattle.std.proofs.lemmas.List.{append-nil, at_drop_all, at_drop_more, drop_more, get_or-append-add, get_or_append_left, get_or-set_same, get_or-set_other, length-append, length-set, take_all, take_more}
 use Rattle.std.proofs.lemmas.List.Concat.{flat_map-append}
 use Rattle.std.proofs.lemmas.List.Folds.{list_any-append}
@@ -12,7 +12,7 @@ use Rattle.stream_map.specs.Served.{AreMarks, is_stream_among, has_repeat, has_m
 use Rattle.stream_map.specs.Faults.{served_fault}
 use Rattle.stream_map.specs.declared.fault.MapFault.TheVariants.{Doubled, Unserved}
 use Rattle.transcript_model.specs.declared.head.Pool.{Pool}
-use Rattle.lemmas.proofs.Bools.{right_true, left_false, right_false, or_true, or_false}
+use Rattle.lemmas.proofs.Bools.{left_false, right_false, or_true, or_false}
 
 -- ---- bools
 
@@ -37,7 +37,7 @@ among_at : (ks : List ℕ) (a s : ℕ) → slice_get ks a ≡ Some s → is_stre
 among_at [] a s at = absurd (cc)
 among_at (k ∷ ks) zero s at =
     ap (λ x. is_stream_among x (k ∷ ks)) (sym (same_Some k s at)) ∙ among_itself k ks
-among_at (k ∷ ks) (suc a) s at = right_true (k == s) _ (among_at ks a s at)
+among_at (k ∷ ks) (suc a) s at = or_right (k == s) _ (among_at ks a s at)
 
 not_among_parts : (s : ℕ) (xs ys : List ℕ) → is_stream_among s (xs ++ ys) ≡ false
     → (is_stream_among s xs ≡ false) × (is_stream_among s ys ≡ false)
@@ -141,10 +141,6 @@ module _ {P : Type 0} (streams : P → List ℕ) where
 
 -- ---- streams that stand nowhere
 
-is_there : (b : Bool) → not b ≡ false → b ≡ true
-is_there true e = refl
-is_there false e = absurd (true≢false e)
-
 next_one : (first s : ℕ) → first ≤ s → (first == s) ≡ false → first + 1 ≤ s
 next_one first s from e = let other = eqb-false first s e in omega (arith, from, other)
 
@@ -160,7 +156,7 @@ each_among first (suc n) ks none s from to =
         → is_stream_among s ks ≡ true
     split true e later =
         ap (λ k. is_stream_among k ks) (sym (eqb-true first s e))
-        ∙ is_there (is_stream_among first ks) (left_false _ _ none)
+        ∙ not-false (is_stream_among first ks) (left_false _ _ none)
     split false e later = later (next_one first s from e)
 
 -- ---- marks

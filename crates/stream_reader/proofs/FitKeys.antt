@@ -2,6 +2,7 @@
 use Rattle.std.proofs.Common.{◌≡◌, ℕ, ◌≤◌, Bool, true, false, cond, ◌||◌, List, [], refl, sym, ap, subst, ◌∙◌, ◌⊎◌, inl, inr, codes, arith}
 use Rattle.std.specs.Str.{bytes_eq}
 use Rattle.std.proofs.lemmas.Slice.Eq.{bytes_eq-Decides}
+use Rattle.lemmas.proofs.Members.{none_both}
 use Rattle.sexpr_text.specs.Trees.{Trees, nothing, word, list, size}
 use Rattle.task_model.specs.declared.domain.Role.{Role}
 use Rattle.form_reader.specs.declared.fault.Fault.{Fault}
@@ -13,7 +14,6 @@ use Rattle.form_reader.specs.Faults.{shape, unsupported}
 use Rattle.form_reader.specs.Keys.{by_key, cost_stream_key_of, has_word, key_of, keys_faults, stream_key_of, value_faults, valued_faults}
 use Rattle.name_tables.specs.declared.vocabulary.Vocabulary.{Vocabulary}
 use Rattle.name_tables.proofs.NoFaultLemmas.{some_fault}
-use Rattle.name_tables.proofs.Parted.{none_both}
 use Rattle.stream_reader.specs.declared.tables.Scopes.{Scopes}
 use Rattle.stream_reader.specs.Names.{stream_keys_names, stream_value_names}
 use Rattle.name_tables.specs.Texts.{value_at}

@@ -2,6 +2,7 @@
 use Rattle.std.proofs.Common.{◌≡◌, ℕ, zero, suc, true, false, not, List, [], ◌∷◌, ◌++◌, map, refl, ap, subst, Option, Some, None, slice_get}
 use Rattle.std.specs.Str.{bytes_eq}
 use Rattle.std.proofs.lemmas.Bool.{cond_both, not-true, false_from_ne_true}
+use Rattle.lemmas.proofs.Members.{none_both}
 use Rattle.lemmas.proofs.ListTests.{any_append_left}
 use Rattle.sexpr_text.specs.Trees.{Trees, nothing, word, list}
 use Rattle.lemmas.specs.Lists.{AreDistinct}
@@ -13,7 +14,6 @@ use Rattle.name_tables.specs.Names.{has_name, with_name}
 use Rattle.name_tables.specs.Variables.{unless}
 use Rattle.name_tables.specs.declared.vocabulary.Vocabulary.{Vocabulary}
 use Rattle.name_tables.proofs.NoFaultLemmas.{met}
-use Rattle.name_tables.proofs.Parted.{none_both}
 use Rattle.name_tables.proofs.NamesLemmas.{has_with}
 use Rattle.stream_reader.specs.Names.{second_streams}
 use Rattle.stream_reader.specs.Streams.{item_streams, streams_of}

@@ -3,6 +3,7 @@ use Rattle.std.proofs.Common.{◌≡◌, ℕ, ◌+◌, ◌≤◌, Bool, true, fa
 use Rattle.std.specs.List.{list_all}
 use Rattle.std.specs.Str.{bytes_eq}
 use Rattle.std.proofs.lemmas.Bool.{and_from, le-leb}
+use Rattle.lemmas.proofs.Members.{none_both}
 use Rattle.lemmas.proofs.ListTests.{all_append}
 use Rattle.sexpr_text.specs.Trees.{Trees, nothing, word, list, size}
 use Rattle.task_model.specs.Fit.{IsFitDomain, are_fit_patterns, are_static_patterns, is_fit_application, is_fit_pattern, is_short, is_static_role}
@@ -22,7 +23,6 @@ use Rattle.name_tables.specs.Vocabulary.{arity_of}
 use Rattle.name_tables.specs.declared.vocabulary.Vocabulary.{Vocabulary}
 use Rattle.name_tables.proofs.FitTerms.{AreFilled, application_fits}
 use Rattle.name_tables.proofs.NoFaultLemmas.{met}
-use Rattle.name_tables.proofs.Parted.{none_both}
 use Rattle.name_tables.proofs.NamesUseLemmas.{IsUsable, place_some, usable}
 use Rattle.name_tables.proofs.VocabularyLemmas.{listed, role_at, used_inside}
 use Rattle.stream_reader.proofs.TablesDomainLemmas.{AreKnown}

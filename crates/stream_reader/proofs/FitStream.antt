@@ -1,7 +1,7 @@
 -- A stream without faults is fit.
 use Rattle.std.proofs.Common.{◌≡◌, ℕ, ◌+◌, ◌≤◌, Bool, true, false, not, cond, ◌==◌, nat_le, List, [], ◌∷◌, ◌++◌, length, length-append, refl, sym, ap, subst, ◌∙◌, inl, inr, Some, codes, arith}
 use Rattle.std.proofs.lemmas.Bool.{and_from, eqb-false, le-leb, not-true}
-use Rattle.lemmas.proofs.Members.{append_nil_second}
+use Rattle.lemmas.proofs.Members.{append_nil_second, none_both}
 use Rattle.sexpr_text.specs.Trees.{Trees, nothing, word, list, size}
 use Rattle.task_model.specs.Fit.{IsFitDomain, are_places, is_fit_application, is_fit_stream, is_fit_worth}
 use Rattle.lemmas.specs.Lists.{numbers_from}
@@ -23,7 +23,6 @@ use Rattle.name_tables.specs.declared.vocabulary.Vocabulary.{Vocabulary}
 use Rattle.name_tables.proofs.FitGroups.{few_places, sorts_as_long}
 use Rattle.name_tables.proofs.FitTerms.{AreFilled, filled_first}
 use Rattle.name_tables.proofs.NoFaultLemmas.{met}
-use Rattle.name_tables.proofs.Parted.{none_both}
 use Rattle.stream_reader.specs.declared.tables.Scopes.{Scopes}
 use Rattle.stream_reader.specs.Atoms.{atoms_names, patterns_of}
 use Rattle.stream_reader.specs.Names.{stream_keys_names, ninth_names, stream_variables_names}

@@ -4,6 +4,7 @@ use Rattle.std.specs.List.{list_all}
 use Rattle.std.specs.Str.{bytes_eq}
 use Rattle.std.proofs.lemmas.Bool.{and_from, le-leb}
 use Rattle.std.proofs.lemmas.Slice.Eq.{bytes_eq-Decides}
+use Rattle.lemmas.proofs.Members.{none_both}
 use Rattle.lemmas.proofs.ListTests.{all_append}
 use Rattle.sexpr_text.specs.Trees.{Trees, nothing, word, list, size}
 use Rattle.task_model.specs.Fit.{AreFitStreams, IsFitDomain, is_fit_stream, is_name, is_short}
@@ -28,7 +29,6 @@ use Rattle.form_reader.specs.Words.{is_of}
 use Rattle.name_tables.specs.Sizes.{IsBounded}
 use Rattle.name_tables.specs.declared.vocabulary.Vocabulary.{Vocabulary}
 use Rattle.name_tables.proofs.NoFaultLemmas.{chosen, some_fault}
-use Rattle.name_tables.proofs.Parted.{none_both}
 use Rattle.name_tables.proofs.TextsLemmas.{body_less}
 use Rattle.name_tables.proofs.TitleLemmas.{titled}
 use Rattle.stream_reader.specs.Fitness.{AreFitOver}

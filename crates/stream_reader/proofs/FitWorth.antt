@@ -6,7 +6,7 @@ use Rattle.std.proofs.lemmas.Option.{slice_get_within}
 use Rattle.std.proofs.lemmas.Slice.Eq.{bytes_eq-Decides}
 use Rattle.std.proofs.lemmas.Map.Keys.{any_passes_from_place}
 use Rattle.sexpr_text.specs.Trees.{Trees, nothing, word, list}
-use Rattle.lemmas.proofs.Members.{push_cases}
+use Rattle.lemmas.proofs.Members.{push_cases, none_both}
 use Rattle.task_model.specs.Fit.{is_fit_application}
 use Rattle.task_model.specs.declared.domain.Domain.{Domain}
 use Rattle.task_model.specs.declared.domain.Signature.{Signature}
@@ -24,7 +24,6 @@ use Rattle.name_tables.specs.declared.vocabulary.Vocabulary.{Vocabulary}
 use Rattle.name_tables.proofs.FitTerms.{AreFilled, application_fits}
 use Rattle.name_tables.proofs.FitVocabulary.{signature_arities, signature_names}
 use Rattle.name_tables.proofs.NoFaultLemmas.{some_fault}
-use Rattle.name_tables.proofs.Parted.{none_both}
 use Rattle.name_tables.proofs.NamesUseLemmas.{IsUsable, place_holds, place_push, place_some, usable}
 use Rattle.name_tables.proofs.VocabularyLemmas.{AreSigned}
 use Rattle.name_tables.proofs.VocabularyLemmas as vocabularies

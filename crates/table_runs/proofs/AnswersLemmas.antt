@@ -4,8 +4,9 @@ use Rattle.std.proofs.lemmas.List.{take_all}
 use Rattle.std.proofs.lemmas.List.Folds.{list_any-append}
 use Rattle.std.specs.Cmp.{second_so}
 use Rattle.std.specs.List.{list_any}
+use Rattle.std.proofs.lemmas.Bool.{not-true}
 use Rattle.lemmas.proofs.Ascending.{contains_cases, contains_none}
-use Rattle.lemmas.proofs.Bools.{not_true, or_false, or_true}
+use Rattle.lemmas.proofs.Bools.{or_false, or_true}
 use Rattle.lemmas.proofs.Distinct.{distinct_cons}
 use Rattle.lemmas.proofs.ListTests.{any_append_left, get_there, number_found}
 use Rattle.lemmas.proofs.Members.{distinct_nil, member_at, take_next}
@@ -68,7 +69,7 @@ module _ (version : ℕ) (task : Task) (entries : List Entry) (legal : IsLegal v
           let n = answers_number e some in
           let waiting = waiting_of version task (take k entries) n.0 e (legal k e at) n.1 in
           let unanswered : list_any (is_answer_to n.0) (take k entries) ≡ false =
-          not_true (list_any (is_answer_to n.0) (take k entries))
+          not-true (list_any (is_answer_to n.0) (take k entries))
           (second_so (list_any (is_ask_of n.0) (take k entries)) (not (list_any (is_answer_to n.0) (take k entries))) waiting) in
           let one : cond {A = ℕ} (is_answer e) 1 0 ≡ 1 = ap (λ b. cond {A = ℕ} b 1 0) some in
           record {

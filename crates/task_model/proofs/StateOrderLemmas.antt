@@ -14,6 +14,7 @@ use Rattle.std.specs.List.Sorted.{IsStrictlySortedBy, IsNonDecreasingBy, IsParti
 use Rattle.std.specs.Ordering.{nat_cmp, is_eq, is_lt, ordering_index, ordering_reverse, eq_by_cmp}
 use Rattle.std.specs.declared.cmp.Ordering.{Ordering}
 use Rattle.std.specs.declared.cmp.Ordering.TheVariants.{Less, Equal, Greater}
+use Rattle.std.proofs.lemmas.Bool.{or_from}
 use Rattle.task_model.specs.AtomOrder.{atom_cmp}
 use Rattle.task_model.specs.State.{Atoms, contains, insert, remove, from_list}
 use Rattle.task_model.specs.declared.fact.Atom.{Atom}
@@ -44,17 +45,14 @@ apart_below y k e = ap is_eq (atoms_total.antisymm k y ∙ ap ordering_reverse e
 apart_above : (y k : Atom) → atom_cmp y k ≡ Greater → eq_by_cmp atom_cmp k y ≡ false
 apart_above y k e = ap is_eq (atoms_total.antisymm k y ∙ ap ordering_reverse e)
 
-neither : (a b : Bool) → a ≡ false → b ≡ false → (a || b) ≡ false
-neither a b e f = λ i. e i || f i
-
 pub any_absent : (ks : List Atom) (k : Atom) (i : ℕ) → Parts k ks i
     → list_any (eq_by_cmp atom_cmp k) ks ≡ false
 any_absent [] k i parts = refl
 any_absent (x ∷ xs) k zero parts =
-    neither _ _ (apart_above x k (parts.1 0 x (omega arith) (omega arith)))
+    or_from _ _ (apart_above x k (parts.1 0 x (omega arith) (omega arith)))
     (any_absent xs k zero ((λ j d low high. absurd (omega arith)), (λ j d low high. parts.1 (suc j) d (omega arith) (omega arith))))
 any_absent (x ∷ xs) k (suc i) parts =
-    neither _ _ (apart_below x k (parts.0 0 x (omega arith) (omega arith)))
+    or_from _ _ (apart_below x k (parts.0 0 x (omega arith) (omega arith)))
     (any_absent xs k i
     ((λ j d low high. parts.0 (suc j) d (omega arith) (omega arith)), (λ j d low high. parts.1 (suc j) d (omega arith) (omega arith))))
 
@@ -147,7 +145,7 @@ all_got P (y ∷ ys) (suc i) d all within = all_got P ys i d all.1 (omega arith)
 none_above : (k : Atom) (ys : List Atom) → AllByRecursion (λ y. atom_cmp k y ≡ Less) ys
     → list_any (eq_by_cmp atom_cmp k) ys ≡ false
 none_above k [] all = refl
-none_above k (y ∷ ys) all = neither _ _ (ap is_eq all.0) (none_above k ys all.1)
+none_above k (y ∷ ys) all = or_from _ _ (ap is_eq all.0) (none_above k ys all.1)
 
 gone : (ks : List Atom) (k : Atom) (i : ℕ) → IsStrictlySortedBy atom_cmp ks → i < length ks
     → HoldsAt (λ y. atom_cmp y k ≡ Equal) ks i
@@ -160,7 +158,7 @@ gone (x ∷ xs) k (suc i) sorted within at =
     let less : atom_cmp x k ≡ Less =
     subst (λ a. atom_cmp x a ≡ Less) (atoms_tied (get_or xs i x) k (at x))
     (all_got (λ y. atom_cmp x y ≡ Less) xs i x sorted.0 (omega arith)) in
-    neither _ _ (apart_below x k less) (gone xs k i sorted.1 (omega arith) (λ d. at d))
+    or_from _ _ (apart_below x k less) (gone xs k i sorted.1 (omega arith) (λ d. at d))
 
 others : (ks : List Atom) (k q : Atom) (i : ℕ) → i < length ks
     → HoldsAt (λ y. atom_cmp y k ≡ Equal) ks i → eq_by_cmp atom_cmp q k ≡ false

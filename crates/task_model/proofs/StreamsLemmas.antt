@@ -1,6 +1,6 @@
 -- Instances: that a test tells them apart, their order, which are due, and that what is due is one list.
-use Rattle.std.proofs.Common.{◌≡◌, ℕ, Bool, true, false, not, List, [], refl, sym, ap, ◌∙◌, subst, Option, Some, None, slice_get, Contains, arith, ◌==◌, map, IsSome, unwrap_or, eqb-true, eq-eqb, ◌∷◌}
-use Rattle.std.proofs.lemmas.Bool.{and_from}
+use Rattle.std.proofs.Common.{◌≡◌, ℕ, true, false, not, List, [], refl, sym, ap, ◌∙◌, subst, Option, Some, None, slice_get, Contains, arith, ◌==◌, map, IsSome, unwrap_or, eqb-true, eq-eqb, ◌∷◌}
+use Rattle.std.proofs.lemmas.Bool.{and_from, not-true, not_from_false}
 use Rattle.std.specs.List.{list_all}
 use Rattle.std.specs.Cmp.{first_so, second_so, IsTotalOrder, then_total, on_total, nat_cmp_total}
 use Rattle.task_model.specs.Known.{Known, IsIn, is_fact, same_numbers, type_fact}
@@ -14,7 +14,6 @@ use Rattle.task_model.specs.declared.task.Task.{Task}
 use Rattle.std.specs.Cmp.Lexicographic.{lists_total, nat_list_cmp_total}
 use Rattle.lemmas.proofs.Ascending.{same_list}
 use Rattle.task_model.proofs.KnownLemmas.{numbers_decided}
-use Rattle.lemmas.proofs.Bools.{not_true}
 
 -- ---- names of objects
 
@@ -74,10 +73,6 @@ due_once task known notes xs ys first second =
 
 -- ---- what is due
 
-not_false : (b : Bool) → b ≡ false → not b ≡ true
-not_false true e = absurd (cc)
-not_false false e = refl
-
 module _ (task : Task) (known : Known) (notes : List Note) (i : Instance) where
   due_at : (found : Option Stream) → slice_get task.streams i.stream ≡ found
       → is_due task known notes i ≡ true → IsDue task known notes i
@@ -85,7 +80,7 @@ module _ (task : Task) (known : Known) (notes : List Note) (i : Instance) where
   due_at (Some s) is e =
       let r : is_due_at known notes s i ≡ true = rw is at e in
       let reach = first_so (is_reachable s known i) (not (is_finished s notes i)) r in
-      let rest = not_true (is_finished s notes i) (second_so (is_reachable s known i) (not (is_finished s notes i)) r) in
+      let rest = not-true (is_finished s notes i) (second_so (is_reachable s known i) (not (is_finished s notes i)) r) in
       record { stream = s; named = is; reachable = reach; unfinished = rest }
 
   -- an instance that passes the test is due
@@ -96,7 +91,7 @@ module _ (task : Task) (known : Known) (notes : List Note) (i : Instance) where
   pub due_passes : IsDue task known notes i → is_due task known notes i ≡ true
   due_passes d =
       let named : slice_get task.streams i.stream ≡ Some d.stream = d.named in
-      let rest = not_false (is_finished d.stream notes i) d.unfinished in
+      let rest = not_from_false (is_finished d.stream notes i) d.unfinished in
       let at : is_due_at known notes d.stream i ≡ true =
       and_from (is_reachable d.stream known i) (not (is_finished d.stream notes i)) d.reachable rest in
       rw named at

@@ -2,7 +2,7 @@ use Rattle.std.proofs.Common.{◌<◌, ◌∙◌, sym, subst, length}
 use Rattle.std.proofs.lemmas.Bool.{both_ways}
 use Rattle.std.proofs.lemmas.Option.{slice_get_within}
 use Rattle.fact_store.specs.declared.facts.Facts.{Facts}
-use Rattle.planning_tests.proofs.Names.{some_there}
+use Rattle.planning_tests.proofs.NamesLemmas.{some_there}
 use Rattle.planning_tests.proofs.requests.asked.Goals as goal
 
 pub request-requires-clause-stream : goal.request-requires-clause-stream

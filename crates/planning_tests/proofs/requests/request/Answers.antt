@@ -1,4 +1,4 @@
-use Rattle.planning_tests.proofs.Names.{two_within}
+use Rattle.planning_tests.proofs.NamesLemmas.{two_within}
 use Rattle.planning_tests.proofs.requests.request.Goals as goal
 
 pub request_text-requires : goal.request_text-requires
