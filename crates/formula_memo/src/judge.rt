@@ -42,17 +42,17 @@ pub(crate) fn truth<L: Look>(
     match &formula.node {
         FormulaNode::Atom { pred, args } => {
             let row = objects_at(scene.state.allocator(), args.as_slice(), env);
-            Ok(atom(scene, memo, depth, *pred, row)?)
+            atom(scene, memo, depth, *pred, row)
         }
         FormulaNode::Equal(first, second) => {
             Ok(object_of(*first, env) == object_of(*second, env))
         }
-        FormulaNode::All(parts) => Ok(all_true(scene, memo, depth, parts.as_slice(), env)?),
-        FormulaNode::Any(parts) => Ok(any_true(scene, memo, depth, parts.as_slice(), env)?),
+        FormulaNode::All(parts) => all_true(scene, memo, depth, parts.as_slice(), env),
+        FormulaNode::Any(parts) => any_true(scene, memo, depth, parts.as_slice(), env),
         FormulaNode::Not(part) => Ok(!truth(scene, memo, depth, part, env)?),
         FormulaNode::Exists { first, sorts, body } => {
             let sorts = sorts.as_slice();
-            Ok(some_tuple(scene, memo, depth, *first, sorts, body, env)?)
+            some_tuple(scene, memo, depth, *first, sorts, body, env)
         }
     }
 }
@@ -142,7 +142,7 @@ fn some_tuple<L: Look>(
         scene.now.state.now memo.new }
 {
     let Some((sort, rest)) = sorts.split_first() else {
-        return Ok(truth(scene, memo, depth, body, env)?);
+        return truth(scene, memo, depth, body, env);
     };
     let kept = env.get(first);
     let found = some_object(scene, memo, depth, first, *sort, rest, body, env);
@@ -219,7 +219,7 @@ fn passes<L: Look>(
         return Ok(false);
     };
     env.set(first, object);
-    Ok(some_tuple(scene, memo, depth, first + 1, rest, body, env)?)
+    some_tuple(scene, memo, depth, first + 1, rest, body, env)
 }
 
 /// Whether the atom is true.
@@ -341,5 +341,5 @@ fn follows_by<L: Look>(
         return Ok(false);
     }
     let mut env = Env::new(args);
-    Ok(truth(scene, memo, depth, &item.body, &mut env)?)
+    truth(scene, memo, depth, &item.body, &mut env)
 }

@@ -3,6 +3,7 @@ use Rattle.task_model.proofs.TruthLemmas.{have_types-length}
 use Rattle.task_model.specs.Condition.{Atom, All as every, Any, Not, Exists, parts_of}
 use Rattle.task_model.specs.Known.{objects_of}
 use Rattle.task_model.specs.Roles.{role_of}
+use Rattle.task_model.specs.Truth.{is_true}
 use Rattle.task_model.specs.View.{view_of}
 use Rattle.task_model.specs.declared.domain.Role.TheVariants as role
 use Rattle.formula_eval.specs.Judged.{some_at, derived_at}
@@ -57,6 +58,16 @@ truth-some_tuple-requires g t c κs within =
     exists_rests domain c.args.depth c.in-Exists.first c.in-Exists.sorts c.in-Exists.body.value
     (subst (AllRest domain c.args.depth) is c.requires.rests) in
     search rules
+
+pub truth-returns-in-Exists-clause-value : goal.truth-returns-in-Exists-clause-value
+truth-returns-in-Exists-clause-value g t c =
+    let domain = c.args.scene.now.task.now.domain in
+    let known = g.L.Look.known c.args.scene.now.look.now in
+    let state = c.args.scene.now.state.now in
+    let is : c.args.formula.now ≡ Exists c.in-Exists.first c.in-Exists.sorts c.in-Exists.body.value =
+    sym c.formula.view_is ∙ ap view_of c.in-Exists.is in
+    subst (λ f. IfOk c.some_tuple.result (λ value. value ≡ is_true domain known state f c.args.env.now)) (sym is)
+    (rw c.deref-in-Exists.ensures at (rw c.as_slice-sorts.ensures at c.some_tuple.ensures.value))
 
 pub all_true-truth-requires : goal.all_true-truth-requires
 all_true-truth-requires g t c κs within =
@@ -247,12 +258,7 @@ passes-returns-clause-value g t c = search rules
 
 pub passes-returns-clause-same : goal.passes-returns-clause-same
 passes-returns-clause-same g t c o =
-    ap (λ s. slice_set s c.args.first o) (c.in_ok-some_tuple.ensures.same ∙ c.set.ensures)
-    ∙ set_twice c.args.env.now c.args.first c.in-Some.object o
-
-pub passes-returns-in_err-some_tuple-clause-same : goal.passes-returns-in_err-some_tuple-clause-same
-passes-returns-in_err-some_tuple-clause-same g t c o =
-    ap (λ s. slice_set s c.args.first o) (c.in_err-some_tuple.ensures.same ∙ c.set.ensures)
+    ap (λ s. slice_set s c.args.first o) (c.some_tuple.ensures.same ∙ c.set.ensures)
     ∙ set_twice c.args.env.now c.args.first c.in-Some.object o
 
 pub derived_atom-unreachable-requires : goal.derived_atom-unreachable-requires
