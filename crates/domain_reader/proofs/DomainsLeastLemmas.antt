@@ -31,10 +31,6 @@ pub of_text : (t b : Trees) (v : Vocabulary) (o : Option Fault) → b ≡ body_o
     → v ≡ vocabulary_in b → AnswersNames v b o → AnswersNames (domain_names t) (body_of t) o
 of_text t b v o e f a = subst (λ c. AnswersNames (domain_names t) c o) e (subst (λ w. AnswersNames w b o) (f ∙ ap vocabulary_in e) a)
 
-pub domain_by : (t b : Trees) (v : Vocabulary) (d : Domain) → b ≡ body_of t → v ≡ vocabulary_in b
-    → IsDomainBy v t d → IsDomainBy (domain_names t) t d
-domain_by t b v d e f i = subst (λ w. IsDomainBy w t d) (f ∙ ap vocabulary_in e) i
-
 pub read_whole : (t : Trees) (d : Domain) → least_fault (form_faults Domain' t) ≡ None
     → AnswersNames (domain_names t) (body_of t) None → IsDomainBy (domain_names t) t d
     → IsDomainRead t d

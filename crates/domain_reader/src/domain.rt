@@ -1,13 +1,15 @@
 //! A domain, from its tree.
 #![tactic(auto, using(form_reader::proofs::FaultsFirstLemmas::first_append))]
 
-ghost use Rattle.std.specs.Prelude.{◌≡◌, IfOk, OnOk};
+ghost use Rattle.std.specs.Prelude.{◌≡◌, [], None, IfOk, OnOk};
 ghost use Rattle.sexpr_text.specs.Trees.{tree, trees};
-ghost use Rattle.form_reader.specs.Faults.{least_fault};
+ghost use Rattle.form_reader.specs.Faults.{first, least_fault};
 ghost use Rattle.form_reader.specs.declared.groups.Spot.TheVariants.{Start};
 ghost use Rattle.name_tables.specs.Variables.{named_words};
 ghost use Rattle.domain_reader.specs.Effects.{after_effect};
 ghost use Rattle.domain_reader.specs.Domains as specs;
+ghost use Rattle.domain_reader.specs.Names.{items_names};
+ghost use Rattle.domain_reader.specs.Tables.{heads_in};
 
 use crate::changes::{Changes, note_effect};
 use crate::cycles::{derived_edges, derived_items, listed_types, sorts_of, type_edges};
@@ -236,6 +238,16 @@ pub(crate) fn domain_of(
     })
 }
 
+/// The name faults of a domain's items, each by itself. Fails only where memory is wanting.
+fn check_each(alloc: Global, names: &Vocabulary, body: &[Tree]) -> Result<Option<Fault>, AllocError>
+    ensures { IfOk result (λ f. f ≡ first None
+        (items_names names.now (heads_in [] (trees body.now)) (trees body.now))) }
+{
+    let mut heads = NameTable::new(alloc);
+    add_heads(&mut heads, body)?;
+    check_items(alloc, names, &heads, body, None)
+}
+
 /// The name faults of a domain with these items that aren't of cycles.
 pub(crate) fn check_plain(
     alloc: Global,
@@ -244,9 +256,7 @@ pub(crate) fn check_plain(
 ) -> Result<Option<Fault>, AllocError>
     ensures { IfOk result (λ f. f ≡ least_fault (specs.plain_names names.now (trees body.now))) }
 {
-    let mut heads = NameTable::new(alloc);
-    add_heads(&mut heads, body)?;
-    let used = check_items(alloc, names, &heads, body, None)?;
+    let used = check_each(alloc, names, body)?;
     let single = check_second_items(alloc, TextKind::Domain, body, used)?;
     let predicates = check_second_signatures(alloc, Declares::Predicates, body, single)?;
     let functions = check_second_signatures(alloc, Declares::Functions, body, predicates)?;

@@ -13,7 +13,7 @@ use sexpr_text::{Front, Tree, front_of};
 use std::alloc::{AllocError, Global};
 
 /// What declarations declare.
-#[derive(Clone, Copy, Debug, PartialEq, Eq)]
+#[derive(Clone, Copy, PartialEq, Eq)]
 pub(crate) enum Declared {
     /// Predicates.
     Predicates,

@@ -1,5 +1,5 @@
 //! Domains, from trees.
-ghost use Rattle.std.specs.Prelude.{IfOk};
+ghost use Rattle.std.specs.Prelude.{◌≡◌, IfOk};
 ghost use Rattle.sexpr_text.specs.Trees.{tree, trees};
 ghost use Rattle.task_model.specs.Fit.{IsFitDomain};
 ghost use Rattle.name_tables.specs.Sizes.{IsBounded};
@@ -28,19 +28,31 @@ fn check_names(
     Ok(answered)
 }
 
+/// The domain that a text spells by these names, or its name fault that is answered. Fails only
+/// where memory is wanting.
+fn read_by(
+    alloc: Global,
+    names: &Vocabulary,
+    text: &Tree,
+) -> Result<Result<Domain, Fault>, AllocError>
+    requires { names.now ≡ specs.domain_names (tree text.now) }
+    ensures { IfOk result (λ r. specs.DomainReadsNamed (tree text.now) r) }
+{
+    match check_names(alloc, names, body_of(text))? {
+        Some(fault) => Ok(Err(fault)),
+        None => {
+            let domain = domain_of(alloc, names, text)?;
+            Ok(Ok(domain))
+        }
+    }
+}
+
 /// The domain, or its name fault that is answered. Fails only where memory is wanting.
 fn read_named(alloc: Global, text: &Tree) -> Result<Result<Domain, Fault>, AllocError>
     ensures { IfOk result (λ r. specs.DomainReadsNamed (tree text.now) r) }
 {
-    let body = body_of(text);
-    let names = vocabulary_of(alloc, body)?;
-    match check_names(alloc, &names, body)? {
-        Some(fault) => Ok(Err(fault)),
-        None => {
-            let domain = domain_of(alloc, &names, text)?;
-            Ok(Ok(domain))
-        }
-    }
+    let names = vocabulary_of(alloc, body_of(text))?;
+    read_by(alloc, &names, text)
 }
 
 /// The domain, or the fault that is answered.

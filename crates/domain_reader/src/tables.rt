@@ -3,6 +3,7 @@ ghost use Rattle.std.specs.Prelude.{◌≡◌, length, IfOk, OnOk};
 ghost use Rattle.sexpr_text.specs.Trees.{tree, trees};
 ghost use Rattle.form_reader.specs.declared.groups.Spot.TheVariants.{Start};
 ghost use Rattle.name_tables.specs.Variables.{named_words, seen_after};
+ghost use Rattle.name_tables.specs.Vocabulary.{with_total_cost};
 ghost use Rattle.domain_reader.specs.Tables as specs;
 
 use form_reader::{Item, Spot, TextKind, head_of, inner_of, is_dash, is_total_cost, tail_of};
@@ -144,13 +145,22 @@ fn add_item(names: &mut Vocabulary, item: Item, items: &[Tree]) -> Result<(), Al
     }
 }
 
+/// Adds what items declare, and the total cost.
+fn add_all(names: &mut Vocabulary, items: &[Tree]) -> Result<(), AllocError>
+    ensures { OnOk result (names.new
+        ≡ with_total_cost (specs.with_items names.old (trees items.now))) }
+{
+    add_items(names, items)?;
+    names.functions.declare(b"total-cost", 0)?;
+    Ok(())
+}
+
 /// The names of a domain with these items. Fails only where memory is wanting.
 pub(crate) fn vocabulary_of(alloc: Global, body: &[Tree]) -> Result<Vocabulary, AllocError>
     ensures { IfOk result (λ names. names ≡ specs.vocabulary_in (trees body.now)) }
 {
     let mut names = no_names(alloc)?;
-    add_items(&mut names, body)?;
-    names.functions.declare(b"total-cost", 0)?;
+    add_all(&mut names, body)?;
     Ok(names)
 }
 
