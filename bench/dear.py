@@ -8,7 +8,8 @@ the largest of them, and the seconds that they took.
 
 Seconds are wall time, read off the moments at which the files were written, one behind the other. They are right
 where one job wrote them (`rt check --jobs 1`, from nothing), and processor seconds only where nothing ran beside it.
-A pause of more than --pause seconds is taken for the time between two checks, and left out.
+A pause of more than --pause seconds is taken for the time between two checks, and left out. Where a crate was checked
+again over kept work, modules that went out of use are counted too: remove out/ and check anew for right figures.
 """
 
 import argparse
