@@ -1,0 +1,91 @@
+//! Lines of words, and what they ask for.
+use crate::out::Out;
+use crate::word::words_of;
+use command_line::{Config, ReplayConfig, SolveConfig, WordsFault, read_words};
+use std::alloc::Global;
+use transcript_model::Mode;
+
+/// Writes a word, where `_` stands for an empty one.
+fn write_word(out: &mut Out, word: &str) {
+    out.put(" ");
+    out.put(if word.is_empty() { "_" } else { word });
+}
+
+/// Writes words.
+pub(crate) fn write_words(out: &mut Out, words: &[String]) {
+    for word in words {
+        write_word(out, word.as_str());
+    }
+}
+
+/// Writes a number behind a space.
+fn write_number(out: &mut Out, number: u32) {
+    out.put(" ");
+    out.print(number);
+}
+
+fn mode_word(mode: Mode) -> &'static str {
+    match mode {
+        Mode::Incremental => " incremental",
+        Mode::Focused => " focused",
+        Mode::Binding => " binding",
+        Mode::Adaptive => " adaptive",
+    }
+}
+
+/// Writes paths, calls, states, depth, workers and mode, and then the map or the program.
+fn write_solve(out: &mut Out, config: &SolveConfig) {
+    out.put("solve");
+    write_word(out, config.domain.as_str());
+    write_word(out, config.problem.as_str());
+    write_word(out, config.streams.as_str());
+    write_number(out, config.calls);
+    write_number(out, config.states);
+    write_number(out, u32::from(config.depth));
+    write_number(out, u32::from(config.workers));
+    out.put(mode_word(config.mode));
+    if let Some(map) = &config.map {
+        out.put(" map");
+        write_word(out, map.as_str());
+    }
+    write_words(out, config.program.as_slice());
+}
+
+/// Writes paths and states.
+fn write_replay(out: &mut Out, config: &ReplayConfig) {
+    out.put("replay");
+    write_word(out, config.domain.as_str());
+    write_word(out, config.problem.as_str());
+    write_word(out, config.streams.as_str());
+    write_word(out, config.report.as_str());
+    write_number(out, config.states);
+}
+
+/// Writes a command.
+fn write_config(out: &mut Out, config: &Config) {
+    match config {
+        Config::Solve(config) => write_solve(out, config),
+        Config::Replay(config) => write_replay(out, config),
+        Config::Generate(number) => {
+            out.put("generate");
+            write_number(out, *number);
+        }
+    }
+}
+
+/// Writes what words ask for.
+fn write_read(alloc: Global, out: &mut Out, words: &[String]) {
+    match read_words(alloc, words) {
+        Ok(config) => write_config(out, &config),
+        Err(WordsFault::Usage) => out.put("usage"),
+        Err(WordsFault::Memory) => out.lose(),
+    }
+}
+
+/// Writes what a line of words asks for.
+pub(crate) fn write_asked(alloc: Global, out: &mut Out, line: &[u8]) {
+    match words_of(alloc, line) {
+        Ok(words) => write_read(alloc, out, words.as_slice()),
+        Err(_) => out.lose(),
+    }
+}
