@@ -1,4 +1,0 @@
-use Rattle.reader_tests.proofs.shown.+write_formula.Given as goal
-
-abbrev pub decreases-write_formula : goal.decreases-write_formula
-decreases-write_formula l = l.depth
