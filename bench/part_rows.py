@@ -20,10 +20,12 @@ CARRIED = [
     ('trees', 'beginnings', 'reader_tests/trees', {'each_beginning_of_a_domain_is_unclosed_at_its_end': 2}),
     ('trees', 'fronts', 'reader_tests/trees', {'fronts_go_through_a_tree': 7}),
     ('trees', 'text-fault', 'reader_tests/trees', {'faults_are_printed': ['PRINTED']}),
-    ('domains', 'domain-form marked', 'reader_tests/refused_forms', {'texts_of_each_kind_have_the_marked_fault': ['DOMAINS']}),
+    ('domains', 'domain-form marked', 'reader_tests/refused_forms', {
+        'texts_of_each_kind_have_the_marked_fault': ['DOMAINS']}),
     ('problems', 'problem-form marked', 'reader_tests/forms', {'texts_of_each_kind_have_the_marked_fault': ['PROBLEMS']}),
     ('streams', 'stream-form marked', 'reader_tests/forms', {'texts_of_each_kind_have_the_marked_fault': ['STREAMS']}),
-    ('domains problems streams', 'domain-form; problem-form; stream-form', 'reader_tests/forms', {'right_texts_have_no_fault': ['RIGHT']}),
+    ('domains problems streams', 'domain-form; problem-form; stream-form', 'reader_tests/forms', {
+        'right_texts_have_no_fault': ['RIGHT']}),
     ('domains', 'domain marked', 'reader_tests/refused_domains', {'domains_have_the_marked_fault': ['REFUSED']}),
     ('domains', 'domain', 'reader_tests/domains', {'the_65th_derived_predicate_is_one_too_many': 1, 'domains_are_read_whole': ['READ'],
         'domains_are_refused_with_kind_and_place': ['refused_texts/DOMAINS']}),
@@ -57,7 +59,8 @@ CARRIED = [
         'solve_takes_three_words_and_a_program': ['solve_tests/WORDS'], 'numbers_are_in_their_ranges': ['solve_tests/LIMITS'],
         'a_map_stands_alone': ['solve_tests/MAPS'], 'modes_are_named': ['solve_tests/MODES'], 'no_words_are_refused': 1}),
     ('commands', 'usage', 'command_line_tests/usage_tests', {'each_command_has_a_usage_line': 1}),
-    ('maps', 'map', 'map_tests/texts', {'maps_give_pools_or_their_first_fault': ['RIGHT', 'JSON', 'SHAPE', 'OTHERS', 'PAIRS', 'maps/EMPTY'],
+    ('maps', 'map', 'map_tests/texts', {
+        'maps_give_pools_or_their_first_fault': ['RIGHT', 'JSON', 'SHAPE', 'OTHERS', 'PAIRS', 'maps/EMPTY'],
         'a_map_of_one_name_is_refused': 1}),
     ('maps', 'map-grid', 'map_tests/maps', {'the_text_stands_in_the_place_of_the_grids_file': 2}),
     ('maps', 'words', 'map_tests/words', {'words_give_a_pool_or_their_first_fault': ['WORDS', 2]}),
