@@ -41,6 +41,7 @@ impl Notes {
 
     /// A line of the child's number and its words, parted by spaces.
     fn push_start(&mut self, child: u8, argv: &[String]) {
+        self.push_word(b"start ");
         if child > 9 {
             self.push(b'1');
         }
@@ -55,7 +56,7 @@ impl Notes {
 
 /// A host that answers as another one does, writes down the starts and counts the other calls.
 #[derive(Drop)]
-pub struct NotingHost<H> {
+pub(crate) struct NotingHost<H> {
     host: H,
     notes: Notes,
     writes: usize,
@@ -65,7 +66,7 @@ pub struct NotingHost<H> {
 
 impl<H: Host> NotingHost<H> {
     /// The same children as this host, of which no start was written down.
-    pub fn new(host: H) -> NotingHost<H>
+    pub(crate) fn new(host: H) -> NotingHost<H>
         ensures { (k : ℕ) → ⟦<NotingHost<H> as Host>⟧.running result k ≡ H.running host k }
     {
         NotingHost {
@@ -77,14 +78,14 @@ impl<H: Host> NotingHost<H> {
         }
     }
 
-    /// The starts so far: for each a line of the child's number and its words.
-    pub fn starts(&self, alloc: Global) -> Result<Vec<u8>, AllocError> {
-        Vec::from_slice(alloc, self.notes.text())
-    }
-
-    /// How often a child was written to, read from and stopped.
-    pub fn counts(&self) -> [usize; 3] {
-        [self.writes, self.reads, self.stops]
+    /// The calls so far: a line for each start, with the child's number and its words, and one that
+    /// says how often a child was written to, read from and stopped.
+    pub(crate) fn calls(&self, alloc: Global) -> Result<String, AllocError> {
+        let starts = str::from_utf8(self.notes.text()).unwrap_or("");
+        let writes = self.writes;
+        let reads = self.reads;
+        let stops = self.stops;
+        format!(in alloc; "{starts}writes {writes} reads {reads} stops {stops}\n")
     }
 }
 
