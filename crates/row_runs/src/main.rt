@@ -21,7 +21,7 @@ use std::process::ExitCode;
 use std::{env, io};
 
 /// The files of rows, in the order in which they are run.
-const SUBJECTS: [&str; 18] = [
+const SUBJECTS: [&str; 19] = [
     "outcomes.rows",
     "limits.rows",
     "faults.rows",
@@ -40,6 +40,7 @@ const SUBJECTS: [&str; 18] = [
     "adaptive.rows",
     "picks.rows",
     "starts.rows",
+    "tables.rows",
 ];
 
 /// The most bytes of a file of rows.
