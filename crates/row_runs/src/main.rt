@@ -21,7 +21,7 @@ use std::process::ExitCode;
 use std::{env, io};
 
 /// The files of rows, in the order in which they are run.
-const SUBJECTS: [&str; 19] = [
+const SUBJECTS: [&str; 21] = [
     "outcomes.rows",
     "limits.rows",
     "faults.rows",
@@ -41,6 +41,8 @@ const SUBJECTS: [&str; 19] = [
     "picks.rows",
     "starts.rows",
     "tables.rows",
+    "reports.rows",
+    "dreams.rows",
 ];
 
 /// The most bytes of a file of rows.
