@@ -21,7 +21,7 @@ use std::process::ExitCode;
 use std::{env, io};
 
 /// The files of rows, in the order in which they are run.
-const SUBJECTS: [&str; 21] = [
+const SUBJECTS: [&str; 22] = [
     "outcomes.rows",
     "limits.rows",
     "faults.rows",
@@ -43,6 +43,7 @@ const SUBJECTS: [&str; 21] = [
     "tables.rows",
     "reports.rows",
     "dreams.rows",
+    "blocks.rows",
 ];
 
 /// The most bytes of a file of rows.
