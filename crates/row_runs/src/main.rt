@@ -21,7 +21,7 @@ use std::process::ExitCode;
 use std::{env, io};
 
 /// The files of rows, in the order in which they are run.
-const SUBJECTS: [&str; 22] = [
+const SUBJECTS: [&str; 23] = [
     "outcomes.rows",
     "limits.rows",
     "faults.rows",
@@ -44,6 +44,7 @@ const SUBJECTS: [&str; 22] = [
     "reports.rows",
     "dreams.rows",
     "blocks.rows",
+    "real.rows",
 ];
 
 /// The most bytes of a file of rows.
