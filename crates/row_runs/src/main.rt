@@ -21,7 +21,7 @@ use std::process::ExitCode;
 use std::{env, io};
 
 /// The files of rows, in the order in which they are run.
-const SUBJECTS: [&str; 23] = [
+const SUBJECTS: [&str; 26] = [
     "outcomes.rows",
     "limits.rows",
     "faults.rows",
@@ -45,6 +45,9 @@ const SUBJECTS: [&str; 23] = [
     "dreams.rows",
     "blocks.rows",
     "real.rows",
+    "values.rows",
+    "supposing.rows",
+    "edges.rows",
 ];
 
 /// The most bytes of a file of rows.
