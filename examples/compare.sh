@@ -44,8 +44,8 @@ if [ ! -x "$program" ]; then
     echo "skipped: all runs, since there is no program; rt run in crates/pddlstream builds it, or name one"
 fi
 
-# ---- shelf: one generator three times. Its files stand in crates/worked_runs/data, where the gate runs the shell's.
-data=$here/crates/worked_runs/data
+# ---- shelf: one generator three times. Its files stand in crates/row_runs/data, where the gate runs the shell's.
+data=$here/crates/row_runs/data
 requests=$work/requests
 for item in cup pan; do
     for turn in 0 1 2 3 4 5; do echo "next $turn spot $item"; done
@@ -54,7 +54,7 @@ for item in cup pan; do
     done
 done > "$requests"
 echo "next 0 lift cup" >> "$requests"
-awk '/^pddlstream /{n++} n == 2' "$here/crates/worked_runs/stdout" | sed '/^done$/q' > "$work/shelf"
+awk '/^== /{shelf = /a map of two pools, of two workers and of one$/; next} shelf' "$here/crates/row_runs/stdout" | sed '/^done$/q' > "$work/shelf"
 
 sh "$data/shelf/shelf.sh" < "$requests" > "$work/sh.answers"
 # generator NAME WORDS: it answers as the shell's does, and the plan with it is the stored one

@@ -1,38 +1,56 @@
 //! What a row says so far.
-use crate::word::{first_word, number};
-use io_world::{MemFiles, MemSink, Script, ScriptHost};
-use pddlstream_app::{Status, run};
+use crate::talk::Talk;
+use crate::texts::Texts;
+use crate::word::{first_word, number, numbers};
+use io_world::{Files, RealFiles};
 use std::alloc::{AllocError, Global};
 
-/// The most children.
-const CHILDREN: usize = 17;
-
-/// How many bytes the sink takes in a call, and in all.
-const SINK_PIECE: usize = 7;
-
-const SINK_BYTES: usize = 100_000;
+/// The most bytes of a real file.
+const FILE_BYTES: usize = 1 << 20;
 
 /// What the lines of text in a row belong to.
-#[derive(Clone, Copy, Debug, PartialEq, Eq)]
+#[derive(Clone, Copy)]
 enum Part {
-    /// A file.
+    /// The open file.
     File,
+    /// What stands in place of a line of it.
+    Line,
+    /// The text of which copies are added to it.
+    Unit,
     /// What a child says.
-    Child(usize),
+    Child,
 }
 
-/// A row: a command with its files, what its children say, and which calls of the host and of the
-/// sink fail.
+/// How often the run is done.
+#[derive(Clone, Copy)]
+pub(crate) enum Series {
+    Once,
+    /// For each of some numbers, with at most so many bytes a read.
+    Pieces,
+    /// Over each front of the open file.
+    Fronts,
+}
+
+/// A row: a command with its files, what its children say, which calls of the host and of the sink
+/// fail, how often the run is done, and what of it is printed.
 #[derive(Drop)]
 pub(crate) struct Draft {
-    alloc: Global,
+    pub(crate) alloc: Global,
     part: Part,
-    files: Vec<(String, Vec<u8>)>,
-    piece: usize,
-    words: Vec<String>,
-    scripts: Vec<Script>,
-    host_fails: Vec<u64>,
-    sink_fails: Vec<u64>,
+    pub(crate) words: Vec<String>,
+    pub(crate) texts: Texts,
+    pub(crate) talk: Talk,
+    pub(crate) sink_fails: Vec<u64>,
+    pub(crate) series: Series,
+    pieces: Vec<usize>,
+    /// The children are real ones.
+    pub(crate) is_real: bool,
+    /// The calls on the children are printed.
+    pub(crate) is_logged: bool,
+    /// What is written is printed up to the first line that begins with this word.
+    pub(crate) until: String,
+    /// How many lines say nothing.
+    pub(crate) mute: usize,
 }
 
 impl Draft {
@@ -41,148 +59,155 @@ impl Draft {
         Draft {
             alloc,
             part: Part::File,
-            files: Vec::new(alloc),
-            piece: 0,
             words: Vec::new(alloc),
-            scripts: Vec::new(alloc),
-            host_fails: Vec::new(alloc),
+            texts: Texts::new(alloc),
+            talk: Talk::new(alloc),
             sink_fails: Vec::new(alloc),
+            series: Series::Once,
+            pieces: Vec::new(alloc),
+            is_real: false,
+            is_logged: false,
+            until: String::new(alloc),
+            mute: 0,
         }
     }
 
-    /// Takes a line of the row, and answers whether it says something. A line of a text begins with
-    /// `|`, and with `\` where it has no line feed.
-    pub(crate) fn take(&mut self, line: &[u8]) -> Result<bool, AllocError> {
-        match line {
-            [b'|', text @ ..] => {
-                self.add(text)?;
-                self.add(b"\n")
-            }
-            [b'\\', text @ ..] => self.add(text),
-            _ => {
-                let (key, rest) = first_word(line);
-                self.say(key, rest)
-            }
+    /// Takes a line of the row. A line of a text begins with `|`, and with `\` where it has no line
+    /// feed.
+    pub(crate) fn take(&mut self, rt: &HostRuntime, line: &[u8]) -> Result<(), AllocError> {
+        let says = match line {
+            [b'|', text @ ..] => self.add(text)? && self.add(b"\n")?,
+            [b'\\', text @ ..] => self.add(text)?,
+            _ => self.say(rt, line)?,
+        };
+        if !says {
+            self.mute = self.mute.saturating_add(1);
         }
+        Ok(())
     }
 
     /// Puts bytes behind those of the part that is open, and answers whether one is.
     fn add(&mut self, bytes: &[u8]) -> Result<bool, AllocError> {
         match self.part {
-            Part::File => match self.files.last_mut() {
-                Some((_, text)) => text.extend_from_slice(bytes)?,
-                None => return Ok(false),
-            },
-            Part::Child(child) => match self.scripts.get_mut(child) {
-                Some(script) => script.bytes.extend_from_slice(bytes)?,
-                None => return Ok(false),
-            },
+            Part::File => self.texts.add(bytes),
+            Part::Line => self.texts.add_changed(bytes),
+            Part::Unit => self.texts.add_unit(bytes),
+            Part::Child => self.talk.add(bytes),
         }
-        Ok(true)
     }
 
-    /// Takes a line of this key, and answers whether there is such a key.
-    fn say(&mut self, key: &[u8], rest: &[u8]) -> Result<bool, AllocError> {
+    /// Takes a line of a key, and answers whether there is such a key.
+    fn say(&mut self, rt: &HostRuntime, line: &[u8]) -> Result<bool, AllocError> {
+        let (key, rest) = first_word(line);
         match key {
-            b"words" => self.add_words(rest)?,
-            b"file" => self.begin_file(rest)?,
-            b"fill" => return self.fill(number(rest)),
-            b"child" => self.begin_child(number(rest))?,
-            b"piece" => self.piece = number(rest),
-            b"needs" => return self.add_need(rest),
-            b"host" => self.host_fails.push(number(rest) as u64)?,
-            b"sink" => self.sink_fails.push(number(rest) as u64)?,
+            b"load" => self.load(rt, rest),
+            _ => Ok(
+                self.say_file(key, rest)? || self.say_child(key, rest)? || self.say_run(key, rest)?,
+            ),
+        }
+    }
+
+    /// The keys of the files.
+    fn say_file(&mut self, key: &[u8], rest: &[u8]) -> Result<bool, AllocError> {
+        match key {
+            b"file" => {
+                self.part = Part::File;
+                self.texts.begin_file(rest)?;
+            }
+            b"line" => {
+                self.part = Part::Line;
+                self.texts.begin_change(number(rest))?;
+            }
+            b"unit" => {
+                self.part = Part::Unit;
+                self.texts.begin_unit();
+            }
+            b"repeat" => {
+                self.part = Part::File;
+                return self.texts.repeat(number(rest));
+            }
+            b"fill" => return self.texts.fill(number(rest)),
             _ => return Ok(false),
         }
         Ok(true)
     }
 
-    /// The words of the command, parted by spaces.
-    fn add_words(&mut self, words: &[u8]) -> Result<(), AllocError> {
-        for word in words.split(|byte| *byte == b' ') {
-            self.words.push(String::from_utf8_lossy(self.alloc, word)?)?;
-        }
-        Ok(())
-    }
-
-    /// A file of this path begins.
-    fn begin_file(&mut self, path: &[u8]) -> Result<(), AllocError> {
-        let path = String::from_utf8_lossy(self.alloc, path)?;
-        self.files.push((path, Vec::new(self.alloc)))?;
+    /// Opens the file of this path, with what the real file of this path has. Answers whether it
+    /// could be read.
+    fn load(&mut self, rt: &HostRuntime, path: &[u8]) -> Result<bool, AllocError> {
+        let name = String::from_utf8_lossy(self.alloc, path)?;
+        let Ok(text) = RealFiles::new(self.alloc, rt).read(name.as_str(), FILE_BYTES) else {
+            return Ok(false);
+        };
         self.part = Part::File;
-        Ok(())
+        self.texts.begin_file(path)?;
+        self.texts.add(text.as_slice())
     }
 
-    /// Spaces behind the last file fill it up to so many bytes.
-    fn fill(&mut self, size: usize) -> Result<bool, AllocError> {
-        let alloc = self.alloc;
-        let Some((_, text)) = self.files.last_mut() else {
-            return Ok(false);
-        };
-        let spaces = vec![in alloc; b' '; size.saturating_sub(text.len())]?;
-        text.extend_from_slice(spaces.as_slice())?;
-        Ok(true)
-    }
-
-    /// What this child says begins. There are children up to it.
-    fn begin_child(&mut self, child: usize) -> Result<(), AllocError> {
-        let child = child.min(CHILDREN - 1);
-        for _ in self.scripts.len()..child + 1 {
-            self.scripts.push(Script {
-                bytes: Vec::new(self.alloc),
-                cuts: Vec::new(self.alloc),
-                needs: Vec::new(self.alloc),
-            })?;
-        }
-        self.part = Part::Child(child);
-        Ok(())
-    }
-
-    /// The bytes of the open child from a place on wait until so many lines were written to
-    /// another: place, child and lines.
-    fn add_need(&mut self, rest: &[u8]) -> Result<bool, AllocError> {
-        let (place, rest) = first_word(rest);
-        let (child, lines) = first_word(rest);
-        let Ok(child) = u8::try_from(number(child)) else {
-            return Ok(false);
-        };
-        let need = (number(place), child, number(lines) as u64);
-        match self.scripts.last_mut() {
-            Some(script) => script.needs.push(need)?,
-            None => return Ok(false),
+    /// The keys of the children.
+    fn say_child(&mut self, key: &[u8], rest: &[u8]) -> Result<bool, AllocError> {
+        match key {
+            b"child" => {
+                self.part = Part::Child;
+                self.talk.begin_child(number(rest))?;
+            }
+            b"needs" => return self.talk.add_need(rest),
+            b"host" => self.talk.fail(number(rest))?,
+            b"real" => self.is_real = true,
+            _ => return Ok(false),
         }
         Ok(true)
     }
 
-    /// Child 0 gives at most so many bytes a read as the row says, if it says that.
-    fn cut(&mut self) -> Result<(), AllocError> {
-        if self.piece == 0 {
-            return Ok(());
+    /// The keys of the run.
+    fn say_run(&mut self, key: &[u8], rest: &[u8]) -> Result<bool, AllocError> {
+        match key {
+            b"words" => self.set_words(rest)?,
+            b"word" => self.add_word(rest)?,
+            b"sink" => self.sink_fails.push(number(rest) as u64)?,
+            b"piece" => {
+                self.series = Series::Pieces;
+                self.pieces = numbers(self.alloc, rest)?;
+            }
+            b"fronts" => self.series = Series::Fronts,
+            b"log" => self.is_logged = true,
+            b"until" => self.until = String::from_utf8_lossy(self.alloc, rest)?,
+            _ => return Ok(false),
         }
-        if let Some(script) = self.scripts.first_mut() {
-            let alloc = self.alloc;
-            script.cuts = vec![in alloc; self.piece; script.bytes.len()]?;
+        Ok(true)
+    }
+
+    /// The words of the command are these, parted by spaces.
+    fn set_words(&mut self, words: &[u8]) -> Result<(), AllocError> {
+        self.words.clear();
+        for word in words.split(|byte| *byte == b' ') {
+            self.add_word(word)?;
         }
         Ok(())
     }
 
-    /// What the run writes, and how it ends.
-    pub(crate) fn play(mut self) -> Result<(String, Status), AllocError> {
-        self.cut()?;
-        let Draft {
-            alloc,
-            files,
-            words,
-            scripts,
-            host_fails,
-            sink_fails,
-            ..
-        } = self;
-        let mut files = MemFiles::new(alloc, files, Vec::new(alloc));
-        let mut host = ScriptHost::new(alloc, scripts, host_fails);
-        let mut sink = MemSink::new(alloc, SINK_PIECE, SINK_BYTES, sink_fails)?;
-        let status = run(alloc, words.as_slice(), &mut files, &mut host, &mut sink);
-        let text = String::from_utf8_lossy(alloc, sink.taken())?;
-        Ok((text, status))
+    /// One word more, which may have spaces.
+    fn add_word(&mut self, word: &[u8]) -> Result<(), AllocError> {
+        self.words.push(String::from_utf8_lossy(self.alloc, word)?)?;
+        Ok(())
+    }
+
+    /// The numbers by which the run is done, once for each.
+    pub(crate) fn numbers(&self) -> Result<Vec<usize>, AllocError> {
+        match self.series {
+            Series::Once => Ok(vec![in self.alloc; 0]?),
+            Series::Pieces => self.pieces.clone(),
+            Series::Fronts => (0..self.texts.open_len()).collect(self.alloc),
+        }
+    }
+
+    /// The run is the one of this number.
+    pub(crate) fn set_number(&mut self, number: usize) -> Result<(), AllocError> {
+        match self.series {
+            Series::Once => {}
+            Series::Pieces => self.talk.cut(number)?,
+            Series::Fronts => self.texts.cut(number),
+        }
+        Ok(())
     }
 }

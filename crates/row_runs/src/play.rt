@@ -1,51 +1,112 @@
 //! Rows, one after another.
-use crate::draft::Draft;
+use crate::draft::{Draft, Series};
+use crate::hosts::run_row;
+use crate::ran::Ran;
+use crate::row::Row;
 use std::io;
 
-/// Plays a row and prints what it writes, and behind that how it ends. A text whose last line has
-/// no line feed has `\` there.
-fn print_run(rt: &HostRuntime, draft: Draft) -> io::Result<()> {
-    let (text, status) = draft.play()?;
+/// Prints what a run wrote, and behind that how it ended, and which calls were noted. A text whose
+/// last line has no line feed has `\` there.
+fn print_ran(rt: &HostRuntime, ran: &Ran) -> io::Result<()> {
+    let Ran { text, calls, .. } = ran;
     let end = if text.is_empty() || text.ends_with('\n') {
         ""
     } else {
         "\\\n"
     };
-    let code = status.code();
-    println!(rt; "{text}{end}-- {code}")
+    let code = ran.status.code();
+    print!(rt; "{text}{end}-- {code}\n{calls}")
 }
 
-/// Plays what was said, if a row began.
-fn print_last(rt: &HostRuntime, draft: Option<Draft>) -> io::Result<()> {
-    match draft {
-        Some(draft) => print_run(rt, draft),
-        None => Ok(()),
+/// Prints by which number a run was done.
+fn print_number(rt: &HostRuntime, series: Series, number: usize) -> io::Result<()> {
+    match series {
+        Series::Once => Ok(()),
+        Series::Pieces => println!(rt; "piece {number}"),
+        Series::Fronts => println!(rt; "front {number}"),
     }
 }
 
-/// Plays the rows of a text. A row begins with `== ` and its name; lines that begin with `;` are
-/// passed over.
+/// The row's run of this number.
+fn run_number(rt: &HostRuntime, row: &Row<'_>, number: usize) -> io::Result<Box<Ran>> {
+    let mut draft = row.draft(rt)?;
+    draft.set_number(number)?;
+    run_row(rt, &mut draft)
+}
+
+/// Prints a run where it isn't as the one before, and by which number it was done.
+fn print_news(
+    rt: &HostRuntime,
+    series: Series,
+    number: usize,
+    last: Option<&Ran>,
+    ran: &Ran,
+) -> io::Result<()> {
+    if let Some(last) = last {
+        if ran.is_as(last) {
+            return Ok(());
+        }
+        print_number(rt, series, number)?;
+    }
+    print_ran(rt, ran)
+}
+
+/// Does the row's runs of these numbers, and prints the first, and each that isn't as the one
+/// before.
+fn play_numbers(
+    rt: &HostRuntime,
+    row: &Row<'_>,
+    series: Series,
+    numbers: &[usize],
+) -> io::Result<()> {
+    let mut last: Option<Box<Ran>> = None;
+    for number in numbers {
+        let ran = run_number(rt, row, *number)?;
+        print_news(rt, series, *number, last.as_deref(), &ran)?;
+        last = Some(ran);
+    }
+    Ok(())
+}
+
+/// Prints how many lines of the row say nothing, if some do.
+fn print_mute(rt: &HostRuntime, draft: &Draft) -> io::Result<()> {
+    let mute = draft.mute;
+    if mute > 0 {
+        println!(rt; "{mute} lines say nothing")?;
+    }
+    Ok(())
+}
+
+/// Plays a row, if one began: prints its name, and then its runs.
+fn play_row(rt: &HostRuntime, row: &Row<'_>) -> io::Result<()> {
+    let Some(name) = row.name else {
+        return Ok(());
+    };
+    let name = String::from_utf8_lossy(rt.alloc(), name)?;
+    println!(rt; "== {name}")?;
+    let draft = row.draft(rt)?;
+    print_mute(rt, &draft)?;
+    let numbers = draft.numbers()?;
+    play_numbers(rt, row, draft.series, numbers.as_slice())
+}
+
+/// Plays the rows of a text. A row begins with `== ` and its name, and one that varies the last of
+/// these with `=> `; lines that begin with `;` are passed over.
 pub(crate) fn play_rows(rt: &HostRuntime, text: &[u8]) -> io::Result<()> {
-    let alloc = rt.alloc();
-    let mut draft = None;
+    let mut row = Row::new(rt.alloc());
     for line in text.split(|byte| *byte == b'\n') {
         match line {
             [] | [b';', ..] => {}
             [b'=', b'=', b' ', name @ ..] => {
-                print_last(rt, draft)?;
-                let name = String::from_utf8_lossy(alloc, name)?;
-                println!(rt; "== {name}")?;
-                draft = Some(Draft::new(alloc));
+                play_row(rt, &row)?;
+                row.begin(name);
             }
-            _ => match &mut draft {
-                Some(row) => {
-                    if !row.take(line)? {
-                        println!(rt; "a line that says nothing")?;
-                    }
-                }
-                None => println!(rt; "a line in no row")?,
-            },
+            [b'=', b'>', b' ', name @ ..] => {
+                play_row(rt, &row)?;
+                row.vary(name);
+            }
+            _ => row.add(line)?,
         }
     }
-    print_last(rt, draft)
+    play_row(rt, &row)
 }

@@ -1,4 +1,5 @@
 //! The words of a row's line.
+use std::alloc::{AllocError, Global};
 
 /// The bytes before the first space, and those behind it.
 pub(crate) fn first_word(line: &[u8]) -> (&[u8], &[u8]) {
@@ -17,4 +18,13 @@ pub(crate) fn number(word: &[u8]) -> usize {
         Ok(number) => number as usize,
         Err(_) => 0,
     }
+}
+
+/// The numbers that these words write.
+pub(crate) fn numbers(alloc: Global, words: &[u8]) -> Result<Vec<usize>, AllocError> {
+    let mut list = Vec::new(alloc);
+    for word in words.split(|byte| *byte == b' ') {
+        list.push(number(word))?;
+    }
+    Ok(list)
 }
