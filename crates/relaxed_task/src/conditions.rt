@@ -38,7 +38,11 @@ impl<'a, 'b, L: Look> Scene<'a, 'b, L> {
 
 /// Puts a part that doesn't decide the whole behind the others, if it is a fact, and answers the
 /// whole where it does. Fails only where memory is wanting.
-fn gather(joint: Joint, part: Literal, facts: &mut Vec<u32>) -> Result<Option<Literal>, AllocError> {
+fn gather(
+    joint: Joint,
+    part: Literal,
+    facts: &mut Vec<u32>,
+) -> Result<Option<Literal>, AllocError> {
     let whole = joint.decided_by(part);
     if whole.is_none() {
         if let Literal::Fact(fact) = part {

@@ -156,7 +156,12 @@ impl Costs {
 
     /// Says that the fact holds at first.
     pub(crate) fn hold(&mut self, fact: u32) {
-        if self.board.costs.get(fact as usize).is_some_and(|known| !known.is_barred) {
+        if self
+            .board
+            .costs
+            .get(fact as usize)
+            .is_some_and(|known| !known.is_barred)
+        {
             self.board.offer(fact, 0);
         }
     }
@@ -172,12 +177,20 @@ impl Costs {
 
     /// What the fact costs, as far as was seen.
     pub(crate) fn cost(&self, fact: u32) -> u32 {
-        self.board.costs.as_slice().get(fact as usize).map_or(UNREACHED, |known| known.cost)
+        self.board
+            .costs
+            .as_slice()
+            .get(fact as usize)
+            .map_or(UNREACHED, |known| known.cost)
     }
 
     /// Whether all that the rule needs was reached.
     pub(crate) fn is_ready(&self, rule: usize) -> bool {
-        self.board.open.as_slice().get(rule).is_some_and(|open| open.left == 0)
+        self.board
+            .open
+            .as_slice()
+            .get(rule)
+            .is_some_and(|open| open.left == 0)
     }
 
     /// Goes through the facts, the cheapest first, until it comes to this one, or there are no more.

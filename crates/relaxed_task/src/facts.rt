@@ -17,7 +17,11 @@ pub(crate) struct Sides {
 impl Sides {
     /// That it is true or false, as wanted.
     fn side(&mut self, wanted: bool) -> &mut Option<u32> {
-        if wanted { &mut self.holds } else { &mut self.lacks }
+        if wanted {
+            &mut self.holds
+        } else {
+            &mut self.lacks
+        }
     }
 }
 
@@ -62,7 +66,10 @@ impl AtomFacts {
         if let Some(sides) = self.atoms.get_mut(atom) {
             return Ok(side_fact(rules, sides.side(wanted)));
         }
-        let mut sides = Sides { holds: None, lacks: None };
+        let mut sides = Sides {
+            holds: None,
+            lacks: None,
+        };
         let numbered = side_fact(rules, sides.side(wanted));
         self.atoms.insert(atom.copy()?, sides)?;
         Ok(numbered)
@@ -72,7 +79,10 @@ impl AtomFacts {
 /// The fact that is there, or else a new one, which is there then.
 fn side_fact(rules: &mut Rules, side: &mut Option<u32>) -> Numbered {
     if let Some(fact) = *side {
-        return Numbered { fact, is_new: false };
+        return Numbered {
+            fact,
+            is_new: false,
+        };
     }
     let fact = rules.add_fact();
     *side = Some(fact);

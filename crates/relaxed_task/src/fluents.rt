@@ -9,12 +9,7 @@ use task_model::{Atom, Domain, Formula, FormulaNode, Role};
 
 /// The condition as an atom, where the slots have these objects, if it is one of a fluent. It takes
 /// no memory.
-pub fn fluent_atom(
-    alloc: Global,
-    domain: &Domain,
-    condition: &Formula,
-    env: &Env,
-) -> Option<Atom>
+pub fn fluent_atom(alloc: Global, domain: &Domain, condition: &Formula, env: &Env) -> Option<Atom>
     requires fit { IsFitDomain domain.now }
     requires readable { is_readable domain.now condition.now ≡ true }
 {

@@ -20,7 +20,11 @@ pub(crate) enum Literal {
 impl Literal {
     /// What is known to be so or not.
     pub(crate) fn known(is_so: bool) -> Literal {
-        if is_so { Literal::Always } else { Literal::Never }
+        if is_so {
+            Literal::Always
+        } else {
+            Literal::Never
+        }
     }
 }
 
@@ -169,7 +173,12 @@ impl Net {
     }
 
     /// Adds the rules by which the parts give the fact. Fails only where memory is wanting.
-    pub(crate) fn give(&mut self, joint: Joint, parts: &[u32], fact: u32) -> Result<(), AllocError> {
+    pub(crate) fn give(
+        &mut self,
+        joint: Joint,
+        parts: &[u32],
+        fact: u32,
+    ) -> Result<(), AllocError> {
         match joint {
             Joint::All => self.rules.add(0, parts, &[fact])?,
             Joint::Any => {

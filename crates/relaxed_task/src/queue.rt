@@ -37,7 +37,10 @@ impl Queue {
         let buckets = rules.saturating_mul(8).saturating_add(64);
         heads.resize(buckets.min(MOST_BUCKETS), NONE)?;
         let mut entries = Vec::new(alloc);
-        let free = Entry { fact: 0, next: NONE };
+        let free = Entry {
+            fact: 0,
+            next: NONE,
+        };
         entries.resize(times, free)?;
         Ok(Queue {
             heads,
@@ -55,7 +58,12 @@ impl Queue {
 
     /// Takes all facts out.
     pub(crate) fn clear(&mut self) {
-        for head in self.heads.iter_mut().take(self.last.saturating_add(1)).skip(self.at) {
+        for head in self
+            .heads
+            .iter_mut()
+            .take(self.last.saturating_add(1))
+            .skip(self.at)
+        {
             *head = NONE;
         }
         self.used = 0;

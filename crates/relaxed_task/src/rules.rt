@@ -69,7 +69,12 @@ impl Rules {
     }
 
     /// Adds a rule, if there is room. Fails only where memory is wanting.
-    pub(crate) fn add(&mut self, cost: u32, needs: &[u32], gives: &[u32]) -> Result<(), AllocError> {
+    pub(crate) fn add(
+        &mut self,
+        cost: u32,
+        needs: &[u32],
+        gives: &[u32],
+    ) -> Result<(), AllocError> {
         self.count(1);
         self.count(needs.len());
         self.count(gives.len());

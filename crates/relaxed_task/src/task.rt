@@ -51,11 +51,7 @@ impl RelaxedTask {
     /// The task over what is known. It takes all its room here: where there is none for all parts of
     /// conditions, of these the fluent atoms at their top alone count, and where there is none for
     /// these, nothing is ever left. Fails only where memory is wanting.
-    pub fn new<L: Look>(
-        alloc: Global,
-        task: &Task,
-        look: &L,
-    ) -> Result<RelaxedTask, AllocError>
+    pub fn new<L: Look>(alloc: Global, task: &Task, look: &L) -> Result<RelaxedTask, AllocError>
         requires { IsFit task.now }
         ensures { IfOk result HasRoom }
     {
@@ -163,7 +159,10 @@ impl RelaxedTask {
             reached.add(atom.copy()?)?;
         }
         for (atom, sides) in self.atoms.entries() {
-            if sides.holds.is_some_and(|fact| self.costs.cost(fact) < UNREACHED) {
+            if sides
+                .holds
+                .is_some_and(|fact| self.costs.cost(fact) < UNREACHED)
+            {
                 reached.add(atom.copy()?)?;
             }
         }

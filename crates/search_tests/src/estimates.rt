@@ -31,13 +31,15 @@ const APART: &str = "(clear b pb a home-a)";
 /// Two blocks at home, each of which has one more place: that of a is where b stands, and that of b
 /// is out of the way of a at home where that is said here.
 fn blocks(alloc: Global, apart: &str, goal: &str) -> Result<String, AllocError> {
-    format!(in alloc; "(define (problem two) (:domain grid)
+    format!(in alloc;
+        "(define (problem two) (:domain grid)
   (:objects a b - block ra rb - region home-a home-b pa pb - pose g - side c - cell)
   (:init (free) (at a home-a) (at b home-b) (pose a home-a) (pose a pa) (pose b home-b) (pose b pb)
     (in a pa ra) (in b pb rb) (reach a home-a g c) (reach a pa g c) (reach b home-b g c)
     (reach b pb g c) (clear a home-a b home-b) (clear b home-b a home-a) (clear a pa b pb)
     (clear b pb a pa) {apart})
-  (:goal {goal}))")
+  (:goal {goal}))"
+    )
 }
 
 /// What is known of the way besides, goals, and how many steps are left.
@@ -51,7 +53,14 @@ const BLOCKS_LEFT: [(&str, &str, u64); 3] = [
 /// What the blocks take in a domain.
 fn blocks_left(alloc: Global, domain: &str, apart: &str, goal: &str) -> Result<u64, Fail> {
     let problem = blocks(alloc, apart, goal)?;
-    cost_left(alloc, &Texts { domain, problem: problem.as_str(), streams: LAMPS.streams })
+    cost_left(
+        alloc,
+        &Texts {
+            domain,
+            problem: problem.as_str(),
+            streams: LAMPS.streams,
+        },
+    )
 }
 
 #[test]
@@ -61,7 +70,10 @@ fn what_stands_in_the_way_is_moved(rt: HostRuntime) -> Result<(), Fail> {
         assert_eq!(rt; left, want.saturating_mul(WEIGHT));
     }
     // nothing has to be moved where no step asks
-    assert_eq!(rt; blocks_left(rt.alloc(), CARELESS, APART, "(placed a ra)")?, 10);
+    assert_eq!(rt;
+        blocks_left(rt.alloc(), CARELESS, APART, "(placed a ra)")?,
+        10
+    );
     Ok(())
 }
 
@@ -96,10 +108,20 @@ const STEPS_LEFT: [(&str, &str, u64); 11] = [
 #[test]
 fn derived_atoms_and_other_conditions_count(rt: HostRuntime) -> Result<(), Fail> {
     for (init, goal, want) in &STEPS_LEFT {
-        let problem = format!(in rt.alloc(); "(define (problem r) (:domain rests) (:objects o1 o2)
-  (:init {init}) (:goal {goal}))")?;
-        let texts = Texts { domain: RESTS, problem: problem.as_str(), streams: LAMPS.streams };
-        assert_eq!(rt; cost_left(rt.alloc(), &texts)?, want.saturating_mul(WEIGHT), "{goal}");
+        let problem = format!(in rt.alloc();
+            "(define (problem r) (:domain rests) (:objects o1 o2)
+  (:init {init}) (:goal {goal}))"
+        )?;
+        let texts = Texts {
+            domain: RESTS,
+            problem: problem.as_str(),
+            streams: LAMPS.streams,
+        };
+        assert_eq!(rt;
+            cost_left(rt.alloc(), &texts)?,
+            want.saturating_mul(WEIGHT),
+            "{goal}"
+        );
     }
     Ok(())
 }
@@ -134,7 +156,11 @@ fn long_way(alloc: Global) -> Result<String, AllocError> {
 #[test]
 fn a_long_way_counts_each_step(rt: HostRuntime) -> Result<(), Fail> {
     let problem = long_way(rt.alloc())?;
-    let texts = Texts { domain: ROW, problem: problem.as_str(), streams: LAMPS.streams };
+    let texts = Texts {
+        domain: ROW,
+        problem: problem.as_str(),
+        streams: LAMPS.streams,
+    };
     assert_eq!(rt; cost_left(rt.alloc(), &texts)?, 1000);
     Ok(())
 }
@@ -156,8 +182,10 @@ fn objects(alloc: Global, count: u32) -> Result<String, AllocError> {
     for n in 0..count {
         text.push_str(format!(in alloc; " o{n}")?.as_str())?;
     }
-    text.push_str(") (:init) (:goal (and (p)
-  (exists (?x ?y ?z) (and (s ?x) (s ?y) (not (s ?z)) (not (= ?x ?y)))))))")?;
+    text.push_str(
+        ") (:init) (:goal (and (p)
+  (exists (?x ?y ?z) (and (s ?x) (s ?y) (not (s ?z)) (not (= ?x ?y)))))))",
+    )?;
     Ok(text)
 }
 
@@ -175,7 +203,11 @@ const ROOM_LEFT: [(&str, u32, u64); 4] = [
 fn where_there_is_no_room_less_counts(rt: HostRuntime) -> Result<(), Fail> {
     for (domain, count, want) in &ROOM_LEFT {
         let problem = objects(rt.alloc(), *count)?;
-        let texts = Texts { domain, problem: problem.as_str(), streams: LAMPS.streams };
+        let texts = Texts {
+            domain,
+            problem: problem.as_str(),
+            streams: LAMPS.streams,
+        };
         assert_eq!(rt; cost_left(rt.alloc(), &texts)?, want.saturating_mul(WEIGHT));
     }
     Ok(())
@@ -183,7 +215,10 @@ fn where_there_is_no_room_less_counts(rt: HostRuntime) -> Result<(), Fail> {
 
 /// Twenty blocks at home, each of which is to come to a place of its own; none is in another's way.
 fn twenty_blocks(alloc: Global) -> Result<String, AllocError> {
-    let mut text = String::from_str(alloc, "(define (problem twenty) (:domain grid)\n  (:objects g - side c - cell")?;
+    let mut text = String::from_str(
+        alloc,
+        "(define (problem twenty) (:domain grid)\n  (:objects g - side c - cell",
+    )?;
     for n in 0..20u32 {
         text.push_str(format!(in alloc; " b{n} - block r{n} - region h{n} p{n} - pose")?.as_str())?;
     }
@@ -192,8 +227,12 @@ fn twenty_blocks(alloc: Global) -> Result<String, AllocError> {
         text.push_str(format!(in alloc; " (at b{n} h{n}) (in b{n} p{n} r{n})")?.as_str())?;
         text.push_str(format!(in alloc; " (reach b{n} h{n} g c) (reach b{n} p{n} g c)")?.as_str())?;
         for m in 0..20u32 {
-            text.push_str(format!(in alloc; " (clear b{n} p{n} b{m} h{m}) (clear b{n} p{n} b{m} p{m})")?.as_str())?;
-            text.push_str(format!(in alloc; " (clear b{n} h{n} b{m} h{m}) (clear b{n} h{n} b{m} p{m})")?.as_str())?;
+            text.push_str(format!(in alloc;
+                " (clear b{n} p{n} b{m} h{m}) (clear b{n} p{n} b{m} p{m})"
+            )?.as_str())?;
+            text.push_str(format!(in alloc;
+                " (clear b{n} h{n} b{m} h{m}) (clear b{n} h{n} b{m} p{m})"
+            )?.as_str())?;
         }
     }
     text.push_str(")\n  (:goal (and")?;
@@ -207,9 +246,16 @@ fn twenty_blocks(alloc: Global) -> Result<String, AllocError> {
 #[test]
 fn derived_goals_lead_a_search(rt: HostRuntime) -> Result<(), Fail> {
     let problem = twenty_blocks(rt.alloc())?;
-    let texts = Texts { domain: GRID.domain, problem: problem.as_str(), streams: LAMPS.streams };
+    let texts = Texts {
+        domain: GRID.domain,
+        problem: problem.as_str(),
+        streams: LAMPS.streams,
+    };
     // each block is picked up and put down once
-    let plan = Outcome::Plan { steps: 40, cost: 40 };
+    let plan = Outcome::Plan {
+        steps: 40,
+        cost: 40,
+    };
     assert_eq!(rt; searched_by_costs(rt.alloc(), &texts, 1_000)?, plan);
     assert_eq!(rt; searched(rt.alloc(), &texts, 1_000)?, Outcome::Limit);
     Ok(())

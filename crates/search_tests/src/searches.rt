@@ -136,12 +136,7 @@ fn goals_that_are_left_are_counted(rt: HostRuntime) -> Result<(), Fail> {
 }
 
 /// Tasks, each with five times the steps that the goals take which are left at first.
-const COSTS_LEFT: [(Texts<'static>, u64); 4] = [
-    (FIRST, 5),
-    (BOTH, 10),
-    (ALWAYS, 0),
-    (THREE, 15),
-];
+const COSTS_LEFT: [(Texts<'static>, u64); 4] = [(FIRST, 5), (BOTH, 10), (ALWAYS, 0), (THREE, 15)];
 
 #[test]
 fn costs_that_are_left_are_added_up(rt: HostRuntime) -> Result<(), Fail> {

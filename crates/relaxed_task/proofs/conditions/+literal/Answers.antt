@@ -1,4 +1,4 @@
-use Rattle.std.proofs.Common.{rules, arith}
+use Rattle.std.proofs.Common.{arith}
 use Rattle.formula_eval.proofs.ConditionPartLemmas.{readable_part}
 use Rattle.formula_eval.proofs.WeightLemmas.{part_lighter}
 use Rattle.relaxed_task.proofs.conditions.+literal.Goals as goal
