@@ -3,4 +3,3 @@ pub mod Explored
 pub mod Frontiers
 pub mod Links
 pub mod Outcome
-pub mod Relaxed

@@ -1,35 +1,38 @@
 //! The additive estimate.
 ghost use Rattle.std.specs.Prelude.{IfOk};
 ghost use Rattle.task_model.specs.Fit.{IsFit};
-ghost use Rattle.best_first.specs.Relaxed.{HasRoom};
+ghost use Rattle.relaxed_task.specs.Room.{HasRoom};
 
 use crate::estimate::Estimate;
-use crate::relaxed::RelaxedTask;
+use relaxed_task::RelaxedTask;
 use std::alloc::{AllocError, Global};
 use task_model::{Look, State, Task};
 
-/// The additive estimate (Bonet and Geffner 2001): what the fluent atoms at the top of the goal
-/// cost together, where deletes are ignored. An atom of the state costs nothing, and any other atom
-/// the least that a step costs which adds it, together with the fluent atoms at the top of its
-/// condition. It can be more than that where a chain of more than 100 steps is needed.
+/// How much more a step that is left counts than one that was taken, so that the search goes for the
+/// goal and not for the cheapest plan.
+const WEIGHT: u64 = 5;
+
+/// The additive estimate (Bonet and Geffner 2001) of the steps that are left, each of which counts
+/// five times what a step costs on the average. Deletes are ignored but for what conditions need
+/// false. A fact of the state takes no step, and any other fact the least that a step takes which
+/// gives it, together with all facts that its condition needs. Derived atoms, `or` and `exists` take
+/// what the part takes that takes least.
 #[derive(Drop)]
 pub struct Additive {
     relaxed: RelaxedTask,
-    costs: Vec<u64>,
 }
 
 impl Additive {
-    /// The estimate for a task and what is known of it. It takes all its room here: there is room
-    /// for 1,000 fluent atoms and 10,000 steps, and where a task has more, each estimate is 0.
-    /// Fails only where memory is wanting.
+    /// The estimate for a task and what is known of it. It takes all its room here: 4,000,000 facts,
+    /// rules, conditions and effects together. Where a task has more, of its conditions the fluent
+    /// atoms at the top count alone, and where there are more of these too, each estimate is 0. Fails
+    /// only where memory is wanting.
     pub fn new<L: Look>(alloc: Global, task: &Task, look: &L) -> Result<Additive, AllocError>
         requires { IsFit task.now }
         ensures { IfOk result (λ estimate. HasRoom estimate.relaxed) }
     {
-        let relaxed = RelaxedTask::of(alloc, task, look)?;
-        let mut costs = Vec::new(alloc);
-        costs.resize(relaxed.len(), u64::MAX)?;
-        Ok(Additive { relaxed, costs })
+        let relaxed = RelaxedTask::new(alloc, task, look)?;
+        Ok(Additive { relaxed })
     }
 }
 
@@ -37,6 +40,7 @@ impl Estimate for Additive {
     fn estimate<L: Look>(&mut self, _task: &Task, _look: &L, state: &State) -> u64
         requires { IsFit _task.now }
     {
-        self.relaxed.goal_cost(state, self.costs.as_mut_slice())
+        let each = self.relaxed.step_cost().saturating_mul(WEIGHT);
+        self.relaxed.steps_left(state).saturating_mul(each)
     }
 }

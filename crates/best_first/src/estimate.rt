@@ -2,9 +2,9 @@
 ghost use Rattle.std.specs.Prelude.{◌≡◌};
 ghost use Rattle.task_model.specs.Fit.{IsFit};
 
-use crate::fluents::fluent_atom;
 use formula_eval::Env;
 use grounder::tops;
+use relaxed_task::fluent_atom;
 use task_model::{Look, State, Task};
 
 /// An estimate of what it costs to come from a state to the goal. It may order a search, and never

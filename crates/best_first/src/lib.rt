@@ -6,11 +6,9 @@ mod best;
 pub mod estimate;
 mod expand;
 mod explore;
-mod fluents;
 pub mod found;
 mod path;
 pub mod plans;
-mod relaxed;
 mod tree;
 
 pub use additive::Additive;

@@ -3,6 +3,8 @@
 
 #[cfg(test)]
 mod asked;
+#[cfg(test)]
+mod estimates;
 pub mod outcome;
 #[cfg(test)]
 mod searches;

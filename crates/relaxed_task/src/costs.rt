@@ -1,0 +1,215 @@
+//! What facts cost.
+ghost use Rattle.std.specs.Prelude.{◌≡◌, ◌≤◌, ◌↔◌, IfOk, IsTrue};
+ghost use Rattle.relaxed_task.specs.declared.rules.TheConstants.{MOST_PARTS};
+
+use crate::lists::{Lists, number};
+use crate::queue::Queue;
+use crate::rules::{MOST_PARTS, Open, Rules};
+use std::alloc::{AllocError, Global};
+
+/// What a fact costs that wasn't reached.
+pub(crate) const UNREACHED: u32 = u32::MAX;
+
+/// What a fact costs as far as was seen, and whether its rules were told.
+#[derive(Clone, Copy, Debug)]
+struct Cost {
+    cost: u32,
+    is_taken: bool,
+    /// Whether it doesn't hold at first, whatever is said afterwards.
+    is_barred: bool,
+}
+
+/// A fact that wasn't reached yet.
+const UNSEEN: Cost = Cost {
+    cost: UNREACHED,
+    is_taken: false,
+    is_barred: false,
+};
+
+/// What was found so far.
+#[derive(Drop)]
+struct Board {
+    open: Vec<Open>,
+    costs: Vec<Cost>,
+    queue: Queue,
+}
+
+impl Board {
+    /// Notes that the fact can be had for this cost.
+    fn offer(&mut self, fact: u32, cost: u32) {
+        if let Some(known) = self.costs.get_mut(fact as usize) {
+            if cost < known.cost {
+                known.cost = cost;
+                self.queue.push(fact, cost);
+            }
+        }
+    }
+
+    /// Offers what the rule gives.
+    fn give(&mut self, gives: &Lists, rule: u32) {
+        if let Some(open) = self.open.get(rule as usize) {
+            let cost = open.sum;
+            for fact in gives.row(rule as usize) {
+                self.offer(*fact, cost);
+            }
+        }
+    }
+
+    /// The rule lacks one fact less, which costs so much.
+    fn lower(&mut self, gives: &Lists, rule: u32, cost: u32) {
+        if let Some(open) = self.open.get_mut(rule as usize) {
+            open.sum = open.sum.saturating_add(cost).min(UNREACHED - 1);
+            open.left = open.left.saturating_sub(1);
+            if open.left == 0 {
+                self.give(gives, rule);
+            }
+        }
+    }
+
+    /// What the fact costs, if its rules weren't told yet. They count as told then.
+    fn take(&mut self, fact: u32) -> Option<u32> {
+        let known = self.costs.get_mut(fact as usize)?;
+        if known.is_taken {
+            return None;
+        }
+        known.is_taken = true;
+        Some(known.cost)
+    }
+}
+
+/// What facts cost by rules (Bonet and Geffner 2001): nothing where they hold at first, else the
+/// least over the rules that give them of what the rule and all that it needs cost together. All
+/// room is taken when it is made.
+#[derive(Drop)]
+pub(crate) struct Costs {
+    gives: Lists,
+    needed_by: Lists,
+    start: Vec<Open>,
+    /// The rules that need nothing.
+    free: Vec<u32>,
+    board: Board,
+}
+
+impl Costs {
+    ghost use Rattle.relaxed_task.specs.Room.{part_count};
+
+    /// Over no rules. Fails only where memory is wanting.
+    pub(crate) fn none(alloc: Global) -> Result<Costs, AllocError>
+        ensures { IfOk result (λ costs. part_count costs ≡ 0) }
+    {
+        let queue = Queue::new(alloc, 0, 0)?;
+        let board = Board {
+            open: Vec::new(alloc),
+            costs: Vec::new(alloc),
+            queue,
+        };
+        Ok(Costs {
+            gives: Lists::new(alloc),
+            needed_by: Lists::new(alloc),
+            start: Vec::new(alloc),
+            free: Vec::new(alloc),
+            board,
+        })
+    }
+
+    /// Over these rules. Fails only where memory is wanting.
+    pub(crate) fn new(alloc: Global, rules: Rules) -> Result<Costs, AllocError> {
+        let needed_by = rules.needed_by(alloc)?;
+        let mut free = Vec::new(alloc);
+        for (rule, open) in rules.start.as_slice().iter().enumerate() {
+            if open.left == 0 {
+                free.push(number(rule))?;
+            }
+        }
+        let open = Vec::from_slice(alloc, rules.start.as_slice())?;
+        let mut costs = Vec::new(alloc);
+        costs.resize(rules.facts as usize, UNSEEN)?;
+        let times = rules.gives.total().saturating_add(rules.facts as usize);
+        let queue = Queue::new(alloc, rules.len(), times)?;
+        let board = Board { open, costs, queue };
+        Ok(Costs {
+            gives: rules.gives,
+            needed_by,
+            start: rules.start,
+            free,
+            board,
+        })
+    }
+
+    /// Begins anew: no fact holds.
+    pub(crate) fn clear(&mut self) {
+        self.board.queue.clear();
+        for cost in self.board.costs.iter_mut() {
+            *cost = UNSEEN;
+        }
+        for (open, start) in self.board.open.iter_mut().zip(self.start.as_slice()) {
+            *open = *start;
+        }
+    }
+
+    /// Says that the fact doesn't hold at first, whatever is said afterwards.
+    pub(crate) fn bar(&mut self, fact: u32) {
+        if let Some(known) = self.board.costs.get_mut(fact as usize) {
+            known.is_barred = true;
+        }
+    }
+
+    /// Says that the fact holds at first.
+    pub(crate) fn hold(&mut self, fact: u32) {
+        if self
+            .board
+            .costs
+            .get(fact as usize)
+            .is_some_and(|known| !known.is_barred)
+        {
+            self.board.offer(fact, 0);
+        }
+    }
+
+    /// Whether there is room for the facts, rules, conditions and effects.
+    pub(crate) fn has_room(&self) -> bool
+        ensures { IsTrue result ↔ (part_count self.now ≤ MOST_PARTS) }
+    {
+        let conditions = self.needed_by.total().saturating_add(self.needed_by.len());
+        let effects = self.gives.total().saturating_add(self.gives.len());
+        conditions.saturating_add(effects) <= MOST_PARTS
+    }
+
+    /// What the fact costs, as far as was seen.
+    pub(crate) fn cost(&self, fact: u32) -> u32 {
+        self.board
+            .costs
+            .as_slice()
+            .get(fact as usize)
+            .map_or(UNREACHED, |known| known.cost)
+    }
+
+    /// Whether all that the rule needs was reached.
+    pub(crate) fn is_ready(&self, rule: usize) -> bool {
+        self.board
+            .open
+            .as_slice()
+            .get(rule)
+            .is_some_and(|open| open.left == 0)
+    }
+
+    /// Goes through the facts, the cheapest first, until it comes to this one, or there are no more.
+    pub(crate) fn spread(&mut self, until: Option<u32>) {
+        for rule in self.free.as_slice() {
+            self.board.give(&self.gives, *rule);
+        }
+        for _ in 0..self.board.queue.room() {
+            let Some(fact) = self.board.queue.pop() else {
+                return;
+            };
+            if Some(fact) == until {
+                return;
+            }
+            if let Some(cost) = self.board.take(fact) {
+                for rule in self.needed_by.row(fact as usize) {
+                    self.board.lower(&self.gives, *rule, cost);
+                }
+            }
+        }
+    }
+}

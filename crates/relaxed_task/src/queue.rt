@@ -1,0 +1,104 @@
+//! Facts in the order of what they cost.
+use crate::lists::number;
+use std::alloc::{AllocError, Global};
+
+/// The most buckets. What costs as much as the last or more lies there.
+const MOST_BUCKETS: usize = 65_536;
+
+/// No entry.
+const NONE: u32 = u32::MAX;
+
+/// A fact in a bucket, and the entry behind it.
+#[derive(Clone, Copy, Debug)]
+struct Entry {
+    fact: u32,
+    next: u32,
+}
+
+/// Facts, the cheapest first: a bucket for each cost. It takes its room when it is made.
+#[derive(Drop)]
+pub(crate) struct Queue {
+    /// The first entry of each bucket.
+    heads: Vec<u32>,
+    entries: Vec<Entry>,
+    /// How many entries are used.
+    used: usize,
+    /// No bucket before this one has an entry.
+    at: usize,
+    /// None behind this one has one.
+    last: usize,
+}
+
+impl Queue {
+    /// A queue for facts by so many rules, into which they can be put so many times. Fails only where
+    /// memory is wanting.
+    pub(crate) fn new(alloc: Global, rules: usize, times: usize) -> Result<Queue, AllocError> {
+        let mut heads = Vec::new(alloc);
+        let buckets = rules.saturating_mul(8).saturating_add(64);
+        heads.resize(buckets.min(MOST_BUCKETS), NONE)?;
+        let mut entries = Vec::new(alloc);
+        let free = Entry {
+            fact: 0,
+            next: NONE,
+        };
+        entries.resize(times, free)?;
+        Ok(Queue {
+            heads,
+            entries,
+            used: 0,
+            at: 0,
+            last: 0,
+        })
+    }
+
+    /// How many times facts can be put in.
+    pub(crate) fn room(&self) -> usize {
+        self.entries.len()
+    }
+
+    /// Takes all facts out.
+    pub(crate) fn clear(&mut self) {
+        for head in self
+            .heads
+            .iter_mut()
+            .take(self.last.saturating_add(1))
+            .skip(self.at)
+        {
+            *head = NONE;
+        }
+        self.used = 0;
+        self.at = 0;
+        self.last = 0;
+    }
+
+    /// Puts a fact in that costs so much, no less than the one that was taken out last.
+    pub(crate) fn push(&mut self, fact: u32, cost: u32) {
+        let bucket = (cost as usize).min(self.heads.len().saturating_sub(1));
+        let Some(head) = self.heads.get_mut(bucket) else {
+            return;
+        };
+        if let Some(entry) = self.entries.get_mut(self.used) {
+            *entry = Entry { fact, next: *head };
+            *head = number(self.used);
+            self.used = self.used.saturating_add(1);
+            self.last = self.last.max(bucket);
+        }
+    }
+
+    /// Takes out one of those that cost least.
+    pub(crate) fn pop(&mut self) -> Option<u32> {
+        for bucket in self.at..self.heads.len() {
+            if bucket > self.last {
+                return None;
+            }
+            self.at = bucket;
+            if let Some(head) = self.heads.get_mut(bucket) {
+                if let Some(entry) = self.entries.get(*head as usize) {
+                    *head = entry.next;
+                    return Some(entry.fact);
+                }
+            }
+        }
+        None
+    }
+}

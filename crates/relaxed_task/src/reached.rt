@@ -1,0 +1,69 @@
+//! What can be reached where deletes are ignored.
+use crate::lists::number;
+use indexmap::IndexSet;
+use std::alloc::{AllocError, Global};
+use task_model::Atom;
+
+/// The fluent atoms that are reached where deletes are ignored, and the steps.
+#[derive(Drop)]
+pub(crate) struct Reached {
+    atoms: IndexSet<Atom>,
+    /// The atoms of each predicate, by their numbers.
+    by_predicate: Vec<Vec<u32>>,
+    /// Whether each step is reached, in the order of the steps.
+    steps: Vec<bool>,
+}
+
+impl Reached {
+    /// No atoms of so many predicates, and these steps. Fails only where memory is wanting.
+    pub(crate) fn new(
+        alloc: Global,
+        predicates: usize,
+        steps: Vec<bool>,
+    ) -> Result<Reached, AllocError> {
+        let mut by_predicate = Vec::new(alloc);
+        for _ in 0..predicates {
+            by_predicate.push(Vec::new(alloc))?;
+        }
+        Ok(Reached {
+            atoms: IndexSet::new(alloc),
+            by_predicate,
+            steps,
+        })
+    }
+
+    /// Puts an atom behind the others, unless it is there. Fails only where memory is wanting.
+    pub(crate) fn add(&mut self, atom: Atom) -> Result<(), AllocError> {
+        let pred = atom.pred;
+        let (place, is_new) = self.atoms.insert_full(atom)?;
+        if is_new {
+            if let Some(atoms) = self.by_predicate.get_mut(pred as usize) {
+                atoms.push(number(place))?;
+            }
+        }
+        Ok(())
+    }
+
+    /// Whether the atom is there.
+    pub(crate) fn has(&self, atom: &Atom) -> bool {
+        self.atoms.contains(atom)
+    }
+
+    /// Whether the step at this place is reached.
+    pub(crate) fn has_step(&self, place: usize) -> bool {
+        self.steps.get(place).copied().unwrap_or(false)
+    }
+
+    /// The numbers of the predicate's atoms.
+    pub(crate) fn numbers(&self, pred: u32) -> &[u32] {
+        match self.by_predicate.as_slice().get(pred as usize) {
+            Some(numbers) => numbers.as_slice(),
+            None => &[],
+        }
+    }
+
+    /// The atom with this number.
+    pub(crate) fn atom(&self, number: u32) -> Option<&Atom> {
+        self.atoms.get_index(number as usize)
+    }
+}
