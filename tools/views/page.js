@@ -177,11 +177,12 @@ function drawTurns(svg, bottom) {
     if (!labels.has(x)) paths[kind] += `M${x} ${TOP - 8}V${end}`;
     labels.set(x, labels.has(x) ? `${labels.get(x)}, ${label}` : label);
   }
-  let free = 0;
+  const free = [0, 0];
   for (const [x, label] of labels) {
-    if (Number(x) < free || Number(x) + 7 * label.length > width()) continue;
-    svg.append(draw("text", { x: Number(x) + 2, y: 16, class: "soft" }, label));
-    free = Number(x) + 7 * label.length + 12;
+    const row = free.findIndex(end => Number(x) >= end);
+    if (row < 0 || Number(x) + 7 * label.length > width()) continue;
+    svg.append(draw("text", { x: Number(x) + 2, y: 11 + 12 * row, class: "soft" }, label));
+    free[row] = Number(x) + 7 * label.length + 12;
   }
   paths.forEach((path, kind) => path && svg.append(draw("path", { d: path, class: `turn turn-${data.turnWords[kind]}` })));
 }
