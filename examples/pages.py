@@ -48,7 +48,8 @@ def place(folder, command):
 def run(programs, there, command):
     """What the command prints in that folder, with the programs of another folder to be found first."""
     env = {**os.environ, "PATH": f"{programs}:{os.environ['PATH']}"}
-    done = subprocess.run(["bash", "-c", command], cwd=there, env=env, stdin=subprocess.DEVNULL, capture_output=True, text=True)
+    done = subprocess.run(["bash", "-c", command], cwd=there, env=env, stdin=subprocess.DEVNULL, capture_output=True,
+                          text=True)
     return done.stdout.split("\n")[:-1]
 
 

@@ -3,8 +3,8 @@
 
     pddlstream solve domain.pddl problem.pddl streams.pddl -- python3 tools/cached.py answers -- PROGRAM WORDS
 
-Each answer of the generator is put behind the file, a line `REQUEST<tab>ANSWER`, at once; so a run that was stopped goes on
-where it was when it is started again. Several workers may share one file. It serves generators that answer by the
+Each answer of the generator is put behind the file at once, a line `REQUEST<tab>ANSWER`; so a run that was stopped goes
+on where it was when it is started again. Several workers may share one file. It serves generators that answer by the
 request alone: where the generator or what it computes changes, remove the file.
 """
 from __future__ import annotations

@@ -6,15 +6,15 @@
 
 With --map FILE in place of a program each pool's program is asked its own streams. What is told: another answer than
 before, a second line to one request, a line before the first request, an answer that comes only when the input ends (it
-isn't flushed), none at all, and a program that doesn't end when its input does. Behind that, the requests of each stream
-with their mean and their greatest time. It ends with 1 where something is wrong.
+isn't flushed), none at all, and a program that doesn't end when its input does. Behind that, the requests of each
+stream with their mean and their greatest time. It ends with 1 where something is wrong.
 """
 from __future__ import annotations
 
 import argparse
 import sys
 
-from common.asking import Asked, Findings, ask_all
+from common.asking import Asked, Findings, Patience, ask_all
 from common.maps import pools_of
 from common.reports import Report, ReportFault, read_report
 
@@ -55,6 +55,7 @@ def main(words: list[str]) -> int:
     parser.add_argument("--map", metavar="FILE", help="the map whose programs are asked")
     parser.add_argument("--only", metavar="STREAMS", help="ask only these streams, with commas between them")
     parser.add_argument("--seconds", type=float, default=10, help="how long to wait for an answer (10)")
+    parser.add_argument("--silence", type=float, default=0.5, help="how long to listen before the first request (0.5)")
     parser.add_argument("--workers", type=int, default=2, help="how many processes share the requests (2)")
     parser.add_argument("--seed", type=int, default=1, help="of the order in which they are asked (1)")
     got = parser.parse_args(words)
@@ -62,7 +63,7 @@ def main(words: list[str]) -> int:
         parser.error("name a program behind --, or a map")
     findings = Findings()
     for run, asked in jobs_of(got, program, read_report(got.report)):
-        ask_all(run, asked, got.workers, got.seconds, got.seed, findings)
+        ask_all(run, asked, got.workers, Patience(got.seconds, got.silence), got.seed, findings)
     print("\n".join(findings.faults), end="\n" if findings.faults else "")
     print_times(findings)
     print("same" if not findings.faults else f"{len(findings.faults)} faults")

@@ -21,7 +21,8 @@ from common.uses import longest_chain
 
 def main(words: list[str]) -> int:
     """Prints what it finds, and the longest chain of streams."""
-    parser = argparse.ArgumentParser(prog="lint.py", description=__doc__, formatter_class=argparse.RawDescriptionHelpFormatter)
+    parser = argparse.ArgumentParser(prog="lint.py", description=__doc__,
+                                     formatter_class=argparse.RawDescriptionHelpFormatter)
     for name in ("domain", "problem", "streams"):
         parser.add_argument(name)
     got = parser.parse_args(words)

@@ -23,12 +23,15 @@ from views.page import page
 
 def main(words: list[str]) -> int:
     """Prints one view of a report."""
-    parser = argparse.ArgumentParser(prog="report.py", description=__doc__, formatter_class=argparse.RawDescriptionHelpFormatter)
+    parser = argparse.ArgumentParser(prog="report.py", description=__doc__,
+                                     formatter_class=argparse.RawDescriptionHelpFormatter)
     parser.add_argument("report", nargs="?", help="the report; standard input where none or - stands")
     kinds = parser.add_mutually_exclusive_group()
-    kinds.add_argument("--summary", action="store_true", help="counts of each stream and of the turns (so where no view is named)")
+    kinds.add_argument("--summary", action="store_true", help="counts of each stream and of the turns (so where no "
+                                                              "view is named)")
     kinds.add_argument("--json", action="store_true", help="all of it as JSON")
-    kinds.add_argument("--dot", action="store_true", help="which value led to which, for Graphviz: of the plan's objects, where there is a plan")
+    kinds.add_argument("--dot", action="store_true", help="which value led to which, for Graphviz: of the plan's "
+                                                          "objects, where there is a plan")
     kinds.add_argument("--html", action="store_true", help="a page to look at")
     parser.add_argument("--all", action="store_true", help="with --dot: of all values")
     got = parser.parse_args(words)

@@ -8,8 +8,8 @@ Rewritten are `forall` and `imply` in conditions, `either`, `when` (an action fo
 the problem's objects, negative initial facts, names with other letters, and of PDDLStream `:predicate` (a test of what
 is wanted, true or false), `:function` (a cost stream) and `:rule`. Into the folder come domain.pddl, problem.pddl,
 streams.pddl and `names`: what each new name stands for and what new streams answer. What can't be rewritten is told as
-FILE:LINE:COL with what to write in its place; then nothing is written, and it ends with 1. With --back the plan of a report
-is printed with the old names.
+FILE:LINE:COL with what to write in its place; then nothing is written, and it ends with 1. With --back the plan of a
+report is printed with the old names.
 """
 from __future__ import annotations
 
@@ -40,7 +40,8 @@ def rewrite(domain: str, problem: str, streams: str | None, folder: str) -> int:
         return 1
     for note in made.book.notes:
         print(note, file=sys.stderr)
-    texts = {"domain.pddl": made.domain, "problem.pddl": made.problem, "names": "".join(f"{row}\n" for row in made.book.table)}
+    texts = {"domain.pddl": made.domain, "problem.pddl": made.problem,
+             "names": "".join(f"{row}\n" for row in made.book.table)}
     if made.streams is not None:
         texts["streams.pddl"] = made.streams
     write(folder, texts)
@@ -49,7 +50,8 @@ def rewrite(domain: str, problem: str, streams: str | None, folder: str) -> int:
 
 def main(words: list[str]) -> int:
     """Rewrites a task, or a plan back."""
-    parser = argparse.ArgumentParser(prog="to_profile.py", description=__doc__, formatter_class=argparse.RawDescriptionHelpFormatter)
+    parser = argparse.ArgumentParser(prog="to_profile.py", description=__doc__,
+                                     formatter_class=argparse.RawDescriptionHelpFormatter)
     parser.add_argument("domain", help="the domain (with --back the report)")
     parser.add_argument("problem", nargs="?", help="the problem")
     parser.add_argument("streams", nargs="?", help="the stream file, where there is one")

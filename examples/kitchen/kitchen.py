@@ -3,8 +3,8 @@
     python3 kitchen.py scene.json             answers requests
     python3 kitchen.py scene.json --problem   prints the problem
 
-Lengths are metres and angles radians; a pose is `X,Y`, a configuration `SHOULDER,ELBOW`. Where a thing stands at the start
-is an object of the problem, `at-carrot`, which the generator knows by its name.
+Lengths are metres and angles radians; a pose is `X,Y`, a configuration `SHOULDER,ELBOW`. Where a thing stands at the
+start is an object of the problem, `at-carrot`, which the generator knows by its name.
 """
 import json
 import math
@@ -33,13 +33,15 @@ class Kitchen:
         return self.scene["food"][food]["radius"]
 
     def place(self, turn, food, region):
-        """A sample of the places where the whole thing is in the region; the source of chance is made of the request."""
+        """A sample of the places where the thing is in the region; the source of chance is made of the request."""
         chance = random.Random(f"place {food} {region} {turn}")
         (x, y), (width, height) = self.scene["regions"][region]["corner"], self.scene["regions"][region]["size"]
         radius = self.radius(food)
         if turn >= 100:
             return None
-        return [f"{chance.uniform(x + radius, x + width - radius):.3f},{chance.uniform(y + radius, y + height - radius):.3f}"]
+        x = chance.uniform(x + radius, x + width - radius)
+        y = chance.uniform(y + radius, y + height - radius)
+        return [f"{x:.3f},{y:.3f}"]
 
     def grip(self, turn, food):
         """The sides, one after the other."""
@@ -76,7 +78,8 @@ def problem(scene):
     poses = [f"at-{name}" for name in food]
     facts = ["(empty)", "(sink sink)", "(stove stove)"]
     facts += [f"(pose {name} {pose}) (at {name} {pose})" for name, pose in zip(food, poses)]
-    facts += [f"(in {name} {pose} {region})" for name, pose in zip(food, poses) for region in regions if inside(scene, name, region)]
+    facts += [f"(in {name} {pose} {region})" for name, pose in zip(food, poses) for region in regions
+              if inside(scene, name, region)]
     goal = " ".join(f"(cooked {name})" for name in scene["dinner"])
     return (f"(define (problem dinner) (:domain kitchen)\n"
             f"  (:objects {' '.join(food)} - food {' '.join(regions)} - region {' '.join(poses)} - pose)\n"

@@ -9,9 +9,17 @@ import time
 from collections import defaultdict
 from dataclasses import dataclass, field
 
-SILENCE = 0.5       # how long a program is listened to before its first request, in seconds
-AFTER = 0.005       # how long a second line is waited for
+AFTER = 0.005       # how long a second line is waited for, in seconds
+REST = 0.2          # how long more is waited for behind what came before the first request
 LINE = 1024         # the most bytes of a line
+
+
+@dataclass
+class Patience:
+    """How many seconds an answer is waited for, and how many a program is listened to before its first request."""
+
+    answer: float
+    silence: float
 
 
 @dataclass
@@ -99,18 +107,22 @@ def normal(line: bytes) -> str:
     return " ".join((text[:-1] if text.endswith("\r") else text).split(" ")).strip()
 
 
-def ask_all(program: list[str], asked: list[Asked], workers: int, seconds: float, seed: int, findings: Findings) -> None:
+def ask_all(
+    program: list[str], asked: list[Asked], workers: int, patience: Patience, seed: int, findings: Findings
+) -> None:
     """Asks the requests in an order by chance, of so many new processes in turn."""
     order = list(asked)
     random.Random(seed).shuffle(order)
     for share in (order[worker::workers] for worker in range(workers)):
         if share:
-            _ask_share(program, share, seconds, findings)
+            _ask_share(program, share, patience, findings)
 
 
-def _ask_share(program: list[str], share: list[Asked], seconds: float, findings: Findings) -> None:
-    child = Child(program)
-    if child.hear(SILENCE):
+def _ask_share(program: list[str], share: list[Asked], patience: Patience, findings: Findings) -> None:
+    child, seconds = Child(program), patience.answer
+    if child.hear(patience.silence):
+        while child.hear(REST):
+            pass
         findings.faults.append(f"before any request it wrote {child.rest()!r}")
     for one in share:
         if not _ask_one(child, one, seconds, findings):
@@ -132,7 +144,8 @@ def _ask_one(child: Child, one: Asked, seconds: float, findings: Findings) -> bo
     elif " ".join(normal(line).split()) != one.said:
         findings.faults.append(f"request {one.number}: {one.request}\n  now:    {normal(line)}\n  before: {one.said}")
     if child.held or child.hear(AFTER):
-        findings.faults.append(f"request {one.number}: {one.request}\n  more than one line; behind the first: {child.rest()!r}")
+        findings.faults.append(f"request {one.number}: {one.request}\n  more than one line; behind the first: "
+                               f"{child.rest()!r}")
     return True
 
 

@@ -12,7 +12,8 @@ from .tasks import read_streams
 from .texts import Source, TextFault
 
 USAGE = [
-    "The words mean no command (status 3). `explain.py --words` with the same words behind it says the likely reason. It is one of:",
+    "The words mean no command (status 3). `explain.py --words` with the same words behind it says the likely reason. "
+    "It is one of:",
     "  the first word is none of solve, replay and generate",
     "  a text is missing, or replay or generate has a word too many",
     "  an option that the command hasn't, or that is misspelled; none is shortened",
@@ -61,7 +62,8 @@ def _verdict(run: Run, words: list[str]) -> list[str]:
     if words[0] == "valid":
         return ["The report is valid: all that it claims is right (status 0)."]
     if words[0] == "limit":
-        return ["A claim of the report wants a search through more states than replay may make; give more by --states (status 2)."]
+        return ["A claim of the report wants a search through more states than replay may make; give more by --states "
+                "(status 2)."]
     line, kind = int(words[1]), int(words[2])
     said = [f"The report is wrong at line {line} (status 10): {BREACHES[kind]}."]
     if run.judged:
@@ -95,7 +97,8 @@ def _fault(run: Run, words: list[str]) -> list[str]:
 def _fault_of_text(run: Run, text: str, kind: str, place: int) -> list[str]:
     meaning = f"{kind}: {TEXT_FAULTS[kind]}"
     if text not in run.paths:
-        return [f"The {text} is refused at byte {place} (status 4). {meaning}", f"Name the {text} file to see the line."]
+        return [f"The {text} is refused at byte {place} (status 4). {meaning}",
+                f"Name the {text} file to see the line."]
     with open(run.paths[text], "rb") as file:
         data = file.read()
     source = Source(run.paths[text], data.decode("utf-8", "replace"))
@@ -118,7 +121,8 @@ def _fault_of_map(run: Run, kind: str) -> list[str]:
 def _fault_of_words(run: Run, kind: str, streams: list[str]) -> str:
     if kind == "unserved":
         named = f" ({', '.join(streams)})" if streams else ""
-        return f"The task has streams{named} and no program was named: put `-- PROGRAM WORDS` behind the texts, or --map FILE."
+        return (f"The task has streams{named} and no program was named: put `-- PROGRAM WORDS` behind the texts, "
+                "or --map FILE.")
     if kind == "workers":
         return "@grid has one worker."
     return "@grid has one file behind it, and a program at most 64 words."
@@ -150,7 +154,8 @@ def _of_report(run: Run, report: Report) -> list[str]:
     if report.outcome.kind == "plan":
         steps, cost = len(report.outcome.steps), report.outcome.cost
         asks = len(report.asks)
-        return [f"A plan of {steps} {_plural(steps, 'step')} at cost {cost} was found after {asks} {_plural(asks, 'request')} "
+        return [f"A plan of {steps} {_plural(steps, 'step')} at cost {cost} was found after {asks} "
+                f"{_plural(asks, 'request')} "
                 f"(status 0)."]
     calls, states, _ = report.limits
     status = 1 if report.outcome.kind == "no plan" else 2
@@ -175,7 +180,8 @@ def _fault_of_generator(run: Run, report: Report) -> list[str]:
                 f"  {ask.request}", *_by_hand(run, ask)]
     if words[0] != "generator":
         return [f"fault {' '.join(words)}"]
-    said = ["A generator couldn't be started, took no request, or ended before it answered (status 7). What it wrote to "
+    said = ["A generator couldn't be started, took no request, or ended before it answered (status 7). What it wrote "
+            "to "
             "standard error stands there, not in the report."]
     for ask in report.open_asks():
         said += [f"  open: request {ask.number}: {ask.request}", *_by_hand(run, ask)]
@@ -210,11 +216,14 @@ def _by_hand(run: Run, ask: Ask) -> list[str]:
 
 def _standing(run: Run, report: Report) -> list[str]:
     if report.outcome is not None:
-        return ["The outcome is there and its last line isn't: the report was cut off (status 8 where it couldn't be written)."]
+        return ["The outcome is there and its last line isn't: the report was cut off (status 8 where it couldn't be "
+                "written)."]
     opened = report.open_asks()
     if opened:
         said = [f"The run hasn't ended, or was stopped: {len(opened)} {_plural(len(opened), 'request')} "
-                f"{'waits' if len(opened) == 1 else 'wait'} for an answer, so a generator is at work, hangs, or doesn't flush."]
+                f"{'waits' if len(opened) == 1 else 'wait'} for an answer, so a generator is at work, hangs, or "
+                f"doesn't flush."]
         first = opened[0]
         return said + [f"  the first: request {first.number}: {first.request}", *_by_hand(run, first)]
-    return ["The run hasn't ended, or was stopped: no request is open, so the planner is at work (a search, or the next request)."]
+    return ["The run hasn't ended, or was stopped: no request is open, so the planner is at work (a search, or the "
+            "next request)."]

@@ -56,8 +56,10 @@ class Linter:
             use = self._first_negated(name)
             if use:
                 self.tell(use.source, use.atom.place, "negation",
-                          f"{use.owner}: `{name}` is wanted false here, and a test certifies it: until the test is asked it counts "
-                          "as false, so a plan may rest on a test that was never made; certify the safe case and want it true")
+                          f"{use.owner}: `{name}` is wanted false here, and a test certifies it: until the test is "
+                          f"asked it counts "
+                          "as false, so a plan may rest on a test that was never made; certify the safe case and want "
+                          "it true")
 
     def _first_negated(self, name: str) -> Use | None:
         for use in self.uses.conditions:
@@ -97,7 +99,8 @@ class Linter:
             for atom in stream.certified:
                 if atom.name not in wanted:
                     self.tell(self.streams.source, atom.place, "unused",
-                              f"stream {stream.name} certifies {atom}, and no action, no goal and no stream wants `{atom.name}`")
+                              f"stream {stream.name} certifies {atom}, and no action, no goal and no stream wants "
+                              f"`{atom.name}`")
 
     def depth(self) -> None:
         """A chain of streams that is longer than the default depth."""
@@ -105,7 +108,8 @@ class Linter:
         if len(longest) > DEFAULT_DEPTH:
             last: Stream = self.streams.named(longest[-1])
             self.tell(self.streams.source, last.place, "depth",
-                      f"{' > '.join(longest)} is a chain of {len(longest)} streams: in focused, binding and adaptive mode give "
+                      f"{' > '.join(longest)} is a chain of {len(longest)} streams: in focused, binding and adaptive "
+                      f"mode give "
                       f"--depth {min(len(longest), 8)} ({DEFAULT_DEPTH} is the default)")
 
 

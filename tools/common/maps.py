@@ -88,8 +88,8 @@ def _workers_fault(pools: list[dict]) -> MapFault | None:
         if not 1 <= count <= (1 if is_grid else MOST_WORKERS):
             return MapFault("workers", f"pool {number} has {count} workers")
         if grids > 1 or together > MOST_WORKERS:
-            why = "a second @grid" if grids > 1 else f"with it there are {together} workers, and {MOST_WORKERS} are the most"
-            return MapFault("workers", f"pool {number}: {why}")
+            many = f"with it there are {together} workers, and {MOST_WORKERS} are the most"
+            return MapFault("workers", f"pool {number}: {'a second @grid' if grids > 1 else many}")
     return None
 
 
@@ -97,7 +97,8 @@ def _streams_fault(pools: list[MapPool], streams: list[str]) -> MapFault | None:
     named = [(number, name) for number, pool in enumerate(pools, 1) for name in pool.streams]
     for number, name in named:
         if name not in streams:
-            return MapFault("unknown", f"pool {number} names `{name}`, which is no stream of the task: {', '.join(streams) or 'it has none'}")
+            return MapFault("unknown", f"pool {number} names `{name}`, which is no stream of the task: "
+                                       f"{', '.join(streams) or 'it has none'}")
     seen: dict[str, int] = {}
     for number, name in named:
         if name in seen:

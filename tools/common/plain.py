@@ -11,8 +11,9 @@ from .texts import Group, Tree, spelled
 from .trees import conjunction, group, printed
 
 PREFIXES = ("g", "gen", "value", "made")
-REQUIREMENTS = ":strips :typing :equality :negative-preconditions :disjunctive-preconditions :existential-preconditions " \
-               ":derived-predicates :action-costs"
+REQUIREMENTS = [
+    ":strips", ":typing", ":equality", ":negative-preconditions", ":disjunctive-preconditions",
+    ":existential-preconditions", ":derived-predicates", ":action-costs"]
 
 
 @dataclass
@@ -145,7 +146,7 @@ class Writer:
     def domain_text(self) -> str:
         """The text of the domain."""
         domain = self.domain
-        items: list[Tree] = [group(":requirements", *REQUIREMENTS.split())]
+        items: list[Tree] = [group(":requirements", *REQUIREMENTS)]
         if self.is_typed and domain.all_types():
             rows = [(name, (set(domain.types.get(name, [])) - {ROOT} or {ROOT}).pop()) for name in domain.all_types()]
             items.append(group(":types", *(text for name, above in rows for text in (name, "-", above))))
@@ -175,8 +176,9 @@ class Writer:
         facts: list[Tree] = [group(*(self.names.get(name, name) for name in fact)) for fact in self.known.facts]
         facts += self._sort_facts()
         if self.problem.has_metric:
-            values = {("total-cost",): 0, **{term: value for term, value in self.known.values.items() if term != ("total-cost",)}}
-            facts += [group("=", group(*(self.names.get(name, name) for name in term)), str(value)) for term, value in values.items()]
+            values = {**self.known.values, ("total-cost",): 0}
+            facts += [group("=", group(*(self.names.get(name, name) for name in term)), str(value))
+                      for term, value in values.items()]
         items = [group(":domain", self.domain.name), group(":objects", *self._objects(objects)), group(":init", *facts),
                  group(":goal", self.condition(self.problem.goal))]
         if self.problem.has_metric:

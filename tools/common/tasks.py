@@ -1,4 +1,4 @@
-"""Domains, problems and stream files as data. They are taken as the program takes them: a text that it refuses may pass."""
+"""Domains, problems and stream files as data, for texts that the program accepts: one that it refuses may pass."""
 from __future__ import annotations
 
 from dataclasses import dataclass, field

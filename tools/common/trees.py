@@ -4,6 +4,8 @@ from __future__ import annotations
 from .texts import Group, Tree, Word, spelled
 
 WIDE = 110
+# The second part of these stands beside their head.
+NAMED = ("define", ":action", ":stream", ":cost-stream", ":derived", "exists")
 
 
 def word(text: str, place: int = 0) -> Word:
@@ -48,7 +50,7 @@ def printed(tree: Tree, indent: int = 0) -> str:
     if isinstance(tree, Word) or indent + len(flat) <= WIDE or not len(tree):
         return flat
     parts = list(tree)
-    first = 2 if tree.head in ("define", ":action", ":stream", ":cost-stream", ":derived", "exists") and len(parts) > 2 else 1
+    first = 2 if tree.head in NAMED and len(parts) > 2 else 1
     head = " ".join(spelled(part) for part in parts[:first])
     pad = "\n" + " " * (indent + 2)
     return f"({head}{''.join(pad + text for text in _rows(parts[first:], indent + 2))})"
@@ -66,7 +68,7 @@ def _rows(parts: list[Tree], indent: int) -> list[str]:
         if _is_key(one) and at + 1 < len(parts) and not _is_key(parts[at + 1]):
             rows.append(f"{one.text} {printed(parts[at + 1], indent + len(one.text) + 1)}")
             at += 2
-        elif isinstance(one, Word) and rows and not rows[-1].endswith(")") and len(rows[-1]) + len(one.text) < WIDE - indent:
+        elif isinstance(one, Word) and rows and rows[-1][-1] != ")" and len(rows[-1]) + len(one.text) < WIDE - indent:
             rows[-1] += f" {one.text}"
             at += 1
         else:

@@ -68,7 +68,8 @@ def uses_of(domain: Domain, problem: Problem) -> Uses:
     """All uses of a task's predicates."""
     found = Uses()
 
-    def collect(source: Source, tree: Tree | None, sorts: dict[str, str], owner: str, derived: str | None = None) -> None:
+    def collect(source: Source, tree: Tree | None, sorts: dict[str, str], owner: str,
+                derived: str | None = None) -> None:
         walk(source, tree, sorts, False, lambda atom, inner, negated: found.conditions.append(
             Use(atom, source, inner, negated, owner, derived)))
 

@@ -74,7 +74,8 @@ class Either:
 
     def typed(self, source: Source, items: tuple[Tree, ...]) -> list[Tree]:
         """A typed list with one word for each `either`."""
-        return [self.sort(source, item) if isinstance(item, Group) and item.head == "either" else item for item in items]
+        return [self.sort(source, item) if isinstance(item, Group) and item.head == "either" else item
+                for item in items]
 
     def sort(self, source: Source, tree: Group) -> Word:
         """The type for one `either`."""

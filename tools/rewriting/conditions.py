@@ -28,7 +28,8 @@ class Conditions:
             return Group((tree[0], *(self.plain(source, part) for part in tree[1:])), tree.place)
         if tree.head in NUMERIC or tree.head == "=" and any(isinstance(part, Group) for part in tree[1:]):
             self.book.refuse(source, tree.place, "a comparison of numbers",
-                             "objects for the values, a static predicate such as (less ?a ?b), and a fact that says which value is")
+                             "objects for the values, a static predicate such as (less ?a ?b), and a fact that says "
+                             "which value is")
         elif tree.head == "preference":
             self.book.refuse(source, tree.place, "a preference", "leave it out, or want it by the goal")
         return tree

@@ -63,7 +63,8 @@ class Effects:
         if NUMBER.match(amount) and not amount.isdigit():
             self.book.refuse(source, tree.place, f"the cost {amount}", "whole numbers from 0 on, in a finer unit")
         elif isinstance(tree[2], Group) and tree[2].head in ("+", "-", "*", "/"):
-            self.book.refuse(source, tree.place, "a sum or product as a cost", "one `increase` for each, or a function of the result")
+            self.book.refuse(source, tree.place, "a sum or product as a cost",
+                             "one `increase` for each, or a function of the result")
         return True
 
     def _forall(self, source: Source, tree: Group, condition: Tree | None) -> list[Part]:
@@ -71,7 +72,8 @@ class Effects:
         made = [sort for _, sort in variables if sort in self.objects.open]
         if made:
             self.book.refuse(source, tree.place, f"`forall` in an effect over {made[0]}",
-                             "streams make objects of this type, so that they aren't known: keep one fact that says which holds, and delete that")
+                             "streams make objects of this type, so that they aren't known: keep one fact that says "
+                             "which holds, and delete that")
             return []
         self.book.note(source, tree.place, "forall in an effect: one effect for each object of the problem")
         found: list[Part] = []
@@ -84,7 +86,8 @@ class Effects:
 
 def simplified(parts: list[Part]) -> list[Part]:
     """`(when P (not P))` deletes P in any case, and `(when (not P) P)` adds it."""
-    return [Part(None, part.literal) if part.condition is not None and spelled(negated(part.condition)) == spelled(part.literal)
+    return [Part(None, part.literal) if part.condition is not None
+            and spelled(negated(part.condition)) == spelled(part.literal)
             else part for part in parts]
 
 

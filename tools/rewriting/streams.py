@@ -9,9 +9,11 @@ from common.trees import group
 from .book import Book, Either
 
 KEYS = (":inputs", ":outputs", ":domain", ":certified", ":value")
+NOT_KNOWN = "nothing of it is known here"
 INSTEAD = {
     ":optimizer": "nothing: each sampler answers by itself",
-    ":fluents": "a test of each pair, as (clear ?t ?o ?p), and a derived predicate that is true where some object stands where the "
+    ":fluents": "a test of each pair, as (clear ?t ?o ?p), and a derived predicate that is true where some object "
+                "stands where the "
                 "test hasn't passed",
     ":wild-stream": "a stream for each predicate that it certifies",
 }
@@ -55,21 +57,22 @@ class StreamFile:
         elif item.head in (":stream", ":cost-stream"):
             self._stream(item)
         else:
-            self.book.refuse(self.source, item.place, f"`{item.head}`", INSTEAD.get(item.head, "nothing of it is known here; streams and cost streams are"))
+            self.book.refuse(self.source, item.place, f"`{item.head}`", INSTEAD.get(item.head, NOT_KNOWN))
 
     def _rule(self, item: Group) -> None:
         self.found.rules += 1
         name = f"rule-{self.found.rules}"
         self.book.note(self.source, item.place, f":rule: the test {name}, whose answer is always yes")
         self.book.row("stream", name, "answers `yield` to each request")
-        self._stream(Group((Word(":stream", ":stream", item.place), Word(name, name, item.place), *item[1:]), item.place))
+        self._stream(Group((Word(":stream", ":stream", item.place), Word(name, name, item.place), *item[1:]),
+                           item.place))
 
     def _stream(self, item: Group) -> None:
         keys = keys_of(self.source, item[2:])
         parts: list[Tree] = [item[0], item[1]]
         for key, tree in keys.items():
             if key not in KEYS:
-                self.book.refuse(self.source, tree.place, f"`{key}` of a stream", INSTEAD.get(key, "nothing of it is known here"))
+                self.book.refuse(self.source, tree.place, f"`{key}` of a stream", INSTEAD.get(key, NOT_KNOWN))
                 continue
             parts.append(Word(key, key, item.place))
             if key in (":inputs", ":outputs") and isinstance(tree, Group):
@@ -86,7 +89,8 @@ class StreamFile:
             return Group((tree[0], *map(self._atoms, tree[1:])), tree.place)
         if tree.head in ("not", "or", "exists", "forall", "imply", "="):
             self.book.refuse(self.source, tree.place, f"`{tree.head}` in a stream's atoms",
-                             "a predicate of its own, which a test or the :init certifies, or the question left to the generator")
+                             "a predicate of its own, which a test or the :init certifies, or the question left to the "
+                             "generator")
         return tree
 
 

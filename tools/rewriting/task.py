@@ -69,12 +69,13 @@ class Rewriter:
         """The name and the items of a text, with plain names."""
         source = self.sources[kind]
         tree = with_plain_names(self.book, read_tree(source))
-        if tree.head != "define" or len(tree) < 2 or not isinstance(tree[1], Group) or tree[1].head != kind or len(tree[1]) != 2:
+        name = tree[1] if tree.head == "define" and len(tree) > 1 else tree
+        if not isinstance(name, Group) or name.head != kind or len(name) != 2:
             raise TextFault(source, tree.place, f"(define ({kind} NAME) .. is due")
         for item in tree[2:]:
             if not isinstance(item, Group) or not item.head:
                 raise TextFault(source, item.place, "an item such as (:objects ..) is due")
-        return spelled(tree[1][1]), list(tree[2:])
+        return spelled(name[1]), list(tree[2:])
 
     def rewritten(self) -> Rewritten:
         """The new texts."""
@@ -100,8 +101,9 @@ class Rewriter:
         self._refuse_recursion()
         self._take_predicates()
         self._take_functions()
-        streams = printed(group("define", group("stream", stream_name), *self.items.streams)) + "\n" if stream_name else None
-        return Rewritten(self._domain_text(domain), self._problem_text(problem, domain), streams, self.book)
+        streams = printed(group("define", group("stream", stream_name), *self.items.streams)) + "\n"
+        texts = self._domain_text(domain), self._problem_text(problem, domain), streams if stream_name else None
+        return Rewritten(*texts, self.book)
 
     # ---- declarations
 
@@ -115,16 +117,19 @@ class Rewriter:
         elif item.head == ":constants":
             task.constants += self._declared(source, item)
         elif item.head == ":predicates":
-            task.predicates += [Group(tuple(self._typed(source, one.items)), one.place) for one in item[1:] if isinstance(one, Group)]
+            task.predicates += [Group(tuple(self._typed(source, one.items)), one.place) for one in item[1:]
+                                if isinstance(one, Group)]
         elif item.head == ":functions":
             task.functions += self._function_rows(source, item)
         elif item.head != ":requirements":
-            self.book.refuse(source, item.place, f"`{item.head}`", DOMAIN_INSTEAD.get(item.head, "nothing of it is known here"))
+            self.book.refuse(source, item.place, f"`{item.head}`",
+                             DOMAIN_INSTEAD.get(item.head, "nothing of it is known here"))
 
     def _declared(self, source: Source, item: Group) -> list[Tree]:
         for one in item[1:]:
             if isinstance(one, Group):
-                self.book.refuse(source, one.place, "an object of `either`", "one of the types, or a type of its own below all of them")
+                self.book.refuse(source, one.place, "an object of `either`",
+                                 "one of the types, or a type of its own below all of them")
         return [one if isinstance(one, Word) else word(ROOT) for one in item[1:]]
 
     def _function_rows(self, source: Source, item: Group) -> list[Tree]:
@@ -133,13 +138,15 @@ class Rewriter:
             if isinstance(one, Group):
                 found += [Group(tuple(self._typed(source, one.items)), one.place), word("-"), word("number")]
             elif one.text not in ("-", "number"):
-                self.book.refuse(source, one.place, f"a function of type `{one.raw}`", "a predicate of its arguments and its value")
+                self.book.refuse(source, one.place, f"a function of type `{one.raw}`",
+                                 "a predicate of its arguments and its value")
         return found
 
     def _objects(self) -> Objects:
         source = self.sources["domain"]
         above: dict[str, set[str]] = {}
-        for name, sort in [*typed(source, tuple(self.task.types)), *((one, up) for up, sorts in self.either.made.items() for one in sorts)]:
+        for name, sort in [*typed(source, tuple(self.task.types)),
+                           *((one, up) for up, sorts in self.either.made.items() for one in sorts)]:
             above.setdefault(name, set()).add(sort)
         def up(sort: str) -> set[str]:
             return {sort, ROOT}.union(*(up(one) for one in above.get(sort, ()) if one != sort))
@@ -173,7 +180,8 @@ class Rewriter:
         keys = keys_of(source, item[2:])
         for key, tree in keys.items():
             if key not in (":parameters", ":precondition", ":effect"):
-                self.book.refuse(source, tree.place, f"`{key}` of an action", "parameters, for which the precondition holds")
+                self.book.refuse(source, tree.place, f"`{key}` of an action",
+                                 "parameters, for which the precondition holds")
         given = keys.get(":parameters", group())
         parameters = Group(tuple(self._typed(source, given.items if isinstance(given, Group) else ())), given.place)
         condition = self.conditions.plain(source, keys[":precondition"]) if ":precondition" in keys else group("and")
@@ -181,7 +189,8 @@ class Rewriter:
         count = len({spelled(part.condition) for part in parts if part.condition is not None})
         if count > MOST_CONDITIONS:
             self.book.refuse(source, item.place, f"{count} conditional effects, so {2 ** count} actions",
-                             f"at most {MOST_CONDITIONS}: an effect of another step, or a derived predicate that says what follows")
+                             f"at most {MOST_CONDITIONS}: an effect of another step, or a derived predicate that says "
+                             f"what follows")
             return
         for letters, wanted, literals in cases(parts):
             case = f"{name}--{letters}" if letters else name
@@ -225,7 +234,8 @@ class Rewriter:
         elif item.head == ":metric":
             self._metric(source, item)
         elif item.head not in (":domain", ":requirements", ":length"):
-            self.book.refuse(source, item.place, f"`{item.head}`", DOMAIN_INSTEAD.get(item.head, "nothing of it is known here"))
+            self.book.refuse(source, item.place, f"`{item.head}`",
+                             DOMAIN_INSTEAD.get(item.head, "nothing of it is known here"))
 
     def _fact(self, source: Source, fact: Tree) -> None:
         if not isinstance(fact, Group):
@@ -243,7 +253,8 @@ class Rewriter:
         number = spelled(fact[2]) if len(fact) > 2 else ""
         whole = number[:number.index(".")] if "." in number and not number.partition(".")[2].strip("0") else number
         if not whole.isdigit() or int(whole) > 1_000_000:
-            self.book.refuse(source, fact.place, f"the value {number}", "a whole number from 0 to 1,000,000, in a finer or coarser unit")
+            self.book.refuse(source, fact.place, f"the value {number}",
+                             "a whole number from 0 to 1,000,000, in a finer or coarser unit")
             return
         self.task.facts.append(group("=", fact[1], whole))
 
@@ -251,7 +262,8 @@ class Rewriter:
         if [spelled(one) for one in item[1:]] in (["minimize", "(total-cost)"], ["minimize", "total-cost"]):
             self.task.metric = item
         else:
-            self.book.refuse(source, item.place, "this metric", "(:metric minimize (total-cost)), with an `increase` of total-cost in each action")
+            self.book.refuse(source, item.place, "this metric",
+                             "(:metric minimize (total-cost)), with an `increase` of total-cost in each action")
 
     # ---- PDDLStream's predicates and functions
 
@@ -275,9 +287,11 @@ class Rewriter:
         inner = Signs(signs.predicates)
         inner.want(item[2])
         if len(wanted) > 1 and set(inner.wanted) & signs.predicates:
-            self.book.refuse(self.sources["domain"], item.place, f"`{head}` is wanted true and false, and rests on a PDDLStream predicate",
+            self.book.refuse(self.sources["domain"], item.place,
+                             f"`{head}` is wanted true and false, and rests on a PDDLStream predicate",
                              "two derived predicates, one for each")
-        return group(":derived", item[1], in_safe_terms(item[2], signs.predicates, opposites, True in wanted), place=item.place)
+        return group(":derived", item[1], in_safe_terms(item[2], signs.predicates, opposites, True in wanted),
+                     place=item.place)
 
     def _tests(self, name: str, found, wanted: set[bool]) -> None:
         source = self.sources["stream"]

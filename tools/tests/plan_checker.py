@@ -49,7 +49,8 @@ class World:
 
     def of(self, sorts: list[str]) -> list[str]:
         """The objects of one of these types."""
-        return [name for name, own in self.objects.items() if any(sort in self.up(one) for one in own for sort in sorts)]
+        return [name for name, own in self.objects.items() if any(sort in self.up(one) for one in own
+                                                                  for sort in sorts)]
 
     def tuples(self, variables) -> Iterator[dict[str, str]]:
         """All values of typed variables."""
@@ -121,7 +122,8 @@ class World:
             return None
         parameters, condition, effect = self.actions[step[0]]
         listed = pairs(parameters)
-        if len(listed) != len(step) - 1 or not all(value in self.of(sorts) for (_, sorts), value in zip(listed, step[1:])):
+        if len(listed) != len(step) - 1 or not all(value in self.of(sorts) for (_, sorts),
+                                                   value in zip(listed, step[1:])):
             return None
         env = dict(zip((name for name, _ in listed), step[1:]))
         if not self.holds(condition, state, env):
@@ -157,12 +159,14 @@ class World:
                 if self.holds(self.goal, state, {}):
                     found.append(plan)
                     continue
-                following += [([*plan, step], made[0]) for step in steps if (made := self.after(state, step)) is not None]
+                following += [([*plan, step], made[0]) for step in steps
+                              if (made := self.after(state, step)) is not None]
             front = following
         return found
 
 
-def world(domain: str, problem: str, outside: dict[str, Callable[..., bool]] | None = None, facts: list[Atom] = ()) -> World:
+def world(domain: str, problem: str, outside: dict[str, Callable[..., bool]] | None = None,
+          facts: list[Atom] = ()) -> World:
     """The task of two texts, with further facts."""
     made = World(outside=outside or {})
     for item in read_tree(Source("domain", domain))[2:]:

@@ -13,7 +13,8 @@ class Cached(Folder):
     def answers(self, requests: str) -> tuple[int, str]:
         """What is answered to some requests."""
         program = self.put("generator.py", GENERATOR)
-        status, out, _ = tool(cached.main, os.path.join(self.folder, "answers"), "--", sys.executable, program, os.path.join(self.folder, "asked"), given=requests)
+        status, out, _ = tool(cached.main, os.path.join(self.folder, "answers"), "--", sys.executable, program,
+                              os.path.join(self.folder, "asked"), given=requests)
         return status, out
 
     def asked(self) -> str:

@@ -17,10 +17,10 @@ for line in sys.stdin:
 
 
 class Check(Folder):
-    def asked(self, program: str, *words: str) -> tuple[int, str]:
+    def asked(self, program: str, *words: str, seconds: str = "30") -> tuple[int, str]:
         """What is said of a program in Python."""
         report = self.put("report", REPORT)
-        status, out, _ = tool(check.main, report, "--seconds", "2", *words, "--", sys.executable, "-u", "-c", program)
+        status, out, _ = tool(check.main, report, "--seconds", seconds, *words, "--", sys.executable, "-u", "-c", program)
         return status, out
 
     def test_the_same_answers(self):
@@ -39,19 +39,20 @@ class Check(Folder):
         self.assertIn("more than one line; behind the first: b'end\\n'", out)
 
     def test_a_line_before_the_first_request(self):
-        status, out = self.asked("print('hello')" + GOOD)
+        status, out = self.asked("print('hello')" + GOOD, "--silence", "20", "--workers", "1")
         self.assertEqual(status, 1)
         self.assertIn("before any request it wrote b'hello\\n'", out)
 
     def test_a_missing_flush(self):
-        status, out = self.asked(GOOD.replace(", flush=True", "").replace("import sys", "import sys, io\nsys.stdout = io.TextIOWrapper(open(1, 'wb'))"))
+        kept_back = "import sys, io\nsys.stdout = io.TextIOWrapper(open(1, 'wb'))"
+        status, out = self.asked(GOOD.replace(", flush=True", "").replace("import sys", kept_back), seconds="5")
         self.assertEqual(status, 1)
         self.assertIn("the line isn't flushed", out)
 
     def test_a_program_that_does_not_end(self):
-        status, out = self.asked(GOOD + "\nimport time; time.sleep(60)")
+        status, out = self.asked(GOOD + "\nimport time; time.sleep(60)", seconds="5")
         self.assertEqual(status, 1)
-        self.assertIn("it hadn't ended 2 s after its input did", out)
+        self.assertIn("it hadn't ended 5 s after its input did", out)
 
     def test_a_program_that_ends_early(self):
         status, out = self.asked("input(); raise SystemExit(3)")
@@ -74,7 +75,8 @@ for line in sys.stdin:
         self.assertEqual((status, out.split("\n")[-2]), (0, "same"))
 
     def test_only_some_streams(self):
-        status, out, _ = tool(check.main, os.path.join(TRAY, "report"), "--only", "turn", "--", sys.executable, os.path.join(TRAY, "tray.py"))
+        status, out, _ = tool(check.main, os.path.join(TRAY, "report"), "--only", "turn", "--", sys.executable,
+                              os.path.join(TRAY, "tray.py"))
         self.assertEqual(status, 0)
         self.assertEqual([line.split()[0] for line in out.split("\n")[:-1]], ["turn", "same"])
 

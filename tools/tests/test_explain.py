@@ -17,7 +17,8 @@ class Explained(Folder):
         return out
 
     def test_a_fault_of_a_text_is_shown_with_its_line(self):
-        problem = self.put("problem.pddl", "(define (problem one) (:domain fetch)\n  (:init (item mug))\n  (:goal (done cup)))\n")
+        problem = self.put("problem.pddl", "(define (problem one) (:domain fetch)\n  (:init (item mug))\n  (:goal "
+                                           "(done cup)))\n")
         place = len("(define (problem one) (:domain fetch)\n  (:init (item ")
         said = self.said(f"fault input problem unknown {place}\n", task(FETCH)[0], problem)
         self.assertIn(f"{problem}:2:16: unknown", said)
@@ -42,7 +43,8 @@ class Explained(Folder):
         self.assertIn("open: request 1: next 0 grip cup", self.said(HEAD + "fault generator\n"))
 
     def test_a_program_that_is_not_there(self):
-        said = self.said("pddlstream 1 incremental\nlimits 1 1 1\npool 1 grip\nlevel\nfault generator\n", "--", "/no/such")
+        said = self.said("pddlstream 1 incremental\nlimits 1 1 1\npool 1 grip\nlevel\nfault generator\n", "--",
+                         "/no/such")
         self.assertIn("/no/such: there is no such program", said)
 
     def test_a_run_that_stands(self):
@@ -51,13 +53,15 @@ class Explained(Folder):
         self.assertIn("no request is open", self.said(HEAD + "got 1 left\nask 2 0 gr"))
 
     def test_outcomes(self):
-        self.assertIn("A plan of 1 step at cost 1 was found after 1 request ", self.said(HEAD + "got 1 a\nplan 1\ndo x #a\ncost 1\nfrom #a 1\ndone\n"))
+        self.assertIn("A plan of 1 step at cost 1 was found after 1 request ", self.said(HEAD + "got 1 a\nplan 1\ndo x "
+                                                                                                "#a\ncost 1\nfrom #a 1\ndone\n"))
         self.assertIn("(status 1)", self.said(HEAD + "end 1\nno plan\ndone\n"))
         for limit in ("calls", "states", "instances"):
             self.assertIn("(status 2)", self.said(HEAD + f"end 1\nlimit {limit}\ndone\n"))
 
     def test_a_stream_that_is_never_asked_is_named(self):
-        self.assertIn("Never asked: apart", self.said(HEAD.replace("grip\nlevel", "grip apart\nlevel") + "end 1\nno plan\ndone\n"))
+        self.assertIn("Never asked: apart", self.said(HEAD.replace("grip\nlevel",
+                                                                   "grip apart\nlevel") + "end 1\nno plan\ndone\n"))
 
     def test_verdicts(self):
         self.assertIn("valid", self.said("valid\n"))
@@ -73,7 +77,8 @@ class Explained(Folder):
         self.assertIn("too long", self.said("fault read report too-long\n"))
         self.assertIn("Memory", self.said("fault memory\n"))
         self.assertIn("status 8", self.said(""))
-        self.assertIn("3 blocks ended with `no plan` after 2 levels and 54 requests", self.said("generate 3 no-plan levels 2 asks 54\n"))
+        self.assertIn("3 blocks ended with `no plan` after 2 levels and 54 requests",
+                      self.said("generate 3 no-plan levels 2 asks 54\n"))
 
     def test_a_fault_of_a_grid_is_shown_with_its_line(self):
         grid = self.put("grid", "grid 4 4\nblock a 9 1 0 0\n")
@@ -100,18 +105,24 @@ class Maps(Folder):
         for kind, text in MAPS.items():
             with self.subTest(kind):
                 path = self.put("map.json", text)
-                status, out, _ = tool(explain.main, self.put("printed", f"fault input map {kind}\n"), *task(SHELF), path)
+                status, out, _ = tool(explain.main, self.put("printed", f"fault input map {kind}\n"), *task(SHELF),
+                                      path)
                 self.assertEqual(status, 0)
                 self.assertIn(f"map.json: {kind}: ", out)
 
     @needs_program
     def test_the_program_tells_the_same_faults(self):
-        more = ['{"pools": [{"run": ["@grid"], "streams": ["spot"]}]}', '{"pools": [], "x": 1}', '{"pools": 3}', "[]", "",
+        more = ['{"pools": [{"run": ["@grid"], "streams": ["spot"]}]}', '{"pools": [], "x": 1}', '{"pools": 3}', "[]",
+                "",
                 '{"pools": [{"run": [], "streams": ["spot"]}]}', '{"pools": [{"run": ["x"], "streams": []}]}',
-                '{"pools": [{"run": ["x"], "streams": ["spot"], "workers": 1.5}]}', '{"pools": [{"run": ["x"], "streams": ["spot"], "workers": 0}]}',
-                '{"pools": [{"run": ["x"], "workers": 9, "streams": ["spot"]}, {"run": ["x"], "workers": 9, "streams": ["apart"]}]}',
+                '{"pools": [{"run": ["x"], "streams": ["spot"], "workers": 1.5}]}', '{"pools": [{"run": ["x"], '
+                                                                                    '"streams": ["spot"], "workers": '
+                                                                                    '0}]}',
+                '{"pools": [{"run": ["x"], "workers": 9, "streams": ["spot"]}, {"run": ["x"], "workers": 9, "streams": '
+                '["apart"]}]}',
                 '{"pools": [{"run": ["@grid", "f"], "workers": 2, "streams": ["spot"]}]}',
-                '{"pools": [{"run": ["@grid", "f"], "streams": ["spot"]}, {"run": ["@grid", "f"], "streams": ["apart"]}]}']
+                '{"pools": [{"run": ["@grid", "f"], "streams": ["spot"]}, {"run": ["@grid", "f"], "streams": '
+                '["apart"]}]}']
         for text in [*MAPS.values(), *more]:
             with self.subTest(text):
                 path = self.put("map.json", text)
@@ -130,8 +141,10 @@ class Runs(Folder):
                 self.assertIn("A plan of 2 steps at cost 6306", out)
 
     def test_refused_texts(self):
-        for text in ("(define (domain d) (:action a :precondition (forall (?x) (p ?x))))", "(define (domain d)", "(define (domain d)))",
-                     "(define (domain d) (:predicates (p)) (:derived (p) (p)))", "(define (domain d) (:action a :effect (increase (total-cost) 1.5)))",
+        for text in ("(define (domain d) (:action a :precondition (forall (?x) (p ?x))))", "(define (domain d)",
+                     "(define (domain d)))",
+                     "(define (domain d) (:predicates (p)) (:derived (p) (p)))", "(define (domain d) (:action a "
+                                                                                 ":effect (increase (total-cost) 1.5)))",
                      "\u00e9", "(define (domain d) (:types a - b b - a))", "(define (domain d) (:predicates (p) (p)))"):
             with self.subTest(text):
                 domain = self.put("domain.pddl", text)

@@ -39,7 +39,8 @@ class Manual(unittest.TestCase):
 
     @unittest.skipUnless(shutil.which("man"), "there is no man")
     def test_the_page_is_set_without_a_warning(self):
-        done = subprocess.run(["man", "--warnings", "-l", os.path.join(TOOLS, "pddlstream.1")], capture_output=True, text=True,
+        done = subprocess.run(["man", "--warnings", "-l", os.path.join(TOOLS, "pddlstream.1")], capture_output=True,
+                              text=True,
                               env={**os.environ, "MANPAGER": "cat", "LC_ALL": "C.UTF-8"})
         self.assertEqual((done.returncode, done.stderr), (0, ""))
 
@@ -49,7 +50,8 @@ class Completions(unittest.TestCase):
         """What bash offers for the last word."""
         script = (f'. "{TOOLS}/completions/pddlstream.bash"; COMP_WORDS=("$@"); COMP_CWORD=$(($# - 1)); _pddlstream; '
                   'printf "%s\\n" "${COMPREPLY[@]}"')
-        done = subprocess.run(["bash", "-c", script, "bash", "pddlstream", *words], capture_output=True, text=True, cwd=TOOLS)
+        done = subprocess.run(["bash", "-c", script, "bash", "pddlstream", *words], capture_output=True, text=True,
+                              cwd=TOOLS)
         return done.stdout.split("\n")[:-1]
 
     def test_commands_options_and_modes(self):
@@ -65,11 +67,13 @@ class Completions(unittest.TestCase):
         self.assertIn("explain.py", self.completed("solve", "d", "p", "s", "--", "expl"))
 
     def test_zsh_has_the_same_options(self):
-        self.assertEqual(sorted(set(re.findall(r"'(--\w+)=", read("tools", "completions", "_pddlstream")))), sorted(OPTIONS["solve"]))
+        self.assertEqual(sorted(set(re.findall(r"'(--\w+)=", read("tools", "completions", "_pddlstream")))),
+                         sorted(OPTIONS["solve"]))
 
     @unittest.skipUnless(shutil.which("zsh"), "there is no zsh")
     def test_zsh_reads_it(self):
-        done = subprocess.run(["zsh", "-n", os.path.join(TOOLS, "completions", "_pddlstream")], capture_output=True, text=True)
+        done = subprocess.run(["zsh", "-n", os.path.join(TOOLS, "completions", "_pddlstream")], capture_output=True,
+                              text=True)
         self.assertEqual((done.returncode, done.stderr), (0, ""))
 
 

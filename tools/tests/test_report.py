@@ -48,11 +48,13 @@ class Reading(unittest.TestCase):
         self.assertEqual([(pool.workers, pool.streams) for pool in got.pools], [(2, ["spot", "apart"])])
         self.assertEqual(got.asks[3].request, "next 1 spot cup")
         self.assertEqual([ask.answer.said for ask in got.asks.values()], ["yield 2", "end", "yield 4", "yield"])
-        self.assertEqual((got.outcome.steps, got.outcome.cost, got.outcome.origins), ([["put", "cup", "#4", "corner"]], 1, {"#4": (3, 0)}))
+        self.assertEqual((got.outcome.steps, got.outcome.cost, got.outcome.origins),
+                         ([["put", "cup", "#4", "corner"]], 1, {"#4": (3, 0)}))
         self.assertTrue(got.is_done)
 
     def test_a_report_of_version_2_is_read(self):
-        text = DREAMED.replace("pddlstream 1", "pddlstream 2").replace("got 1 2", "got 1 2 | 3").replace("from #4 3", "from #4 3 1")
+        text = DREAMED.replace("pddlstream 1", "pddlstream 2").replace("got 1 2", "got 1 2 | 3").replace("from #4 3",
+                                                                                                         "from #4 3 1")
         got = read(text)
         self.assertEqual((got.asks[1].answer.tuples, got.outcome.origins), ([["2"], ["3"]], {"#4": (3, 1)}))
         self.assertEqual(got.asks[1].answer.said, "yield 2 | 3")
@@ -101,7 +103,8 @@ class Views(Folder):
 
     def test_json(self):
         made = json.loads(self.shown(DREAMED, "--json"))
-        self.assertEqual(made["entries"][0]["uses"][1], {"entry": 3, "stream": "apart", "inputs": ["cup", "@1.1", "corner"]})
+        self.assertEqual(made["entries"][0]["uses"][1], {"entry": 3, "stream": "apart",
+                                                         "inputs": ["cup", "@1.1", "corner"]})
         self.assertEqual(made["entries"][2], {"ask": 1, "turn": 0, "stream": "spot", "inputs": ["cup"], "line": 9})
         self.assertEqual(made["outcome"]["from"], {"#4": {"ask": 3, "tuple": 0}})
         self.assertTrue(made["done"])
@@ -138,14 +141,17 @@ class Views(Folder):
 
     @needs_program
     def test_each_mode(self):
-        for folder, words in ((TRAY, ("python3", "tray.py")), (SHELF, ("sh", "shelf.sh")), (GRID, ("@grid", "grid.txt"))):
+        for folder, words in ((TRAY, ("python3", "tray.py")), (SHELF, ("sh", "shelf.sh")),
+                              (GRID, ("@grid", "grid.txt"))):
             for mode in MODES:
                 with self.subTest((folder, mode)):
                     text = solve(task(folder), "--algorithm", mode, "--", *words, folder=folder)
                     asked = sum(line.startswith("ask ") for line in text.split("\n"))
                     self.assertEqual(len(page_data(self.shown(text, "--html"))["lanes"]), asked)
                     self.assertIn(f"{asked} requests", self.shown(text))
-                    self.assertEqual(back_from_json(self.shown(text, "--json")), [line for line in text.split("\n") if line.startswith(("ask", "got", "end", "value"))])
+                    self.assertEqual(back_from_json(self.shown(text, "--json")),
+                                     [line for line in text.split("\n")
+                                      if line.startswith(("ask", "got", "end", "value"))])
 
 
 def page_data(text: str) -> dict:

@@ -7,11 +7,13 @@ from plan_checker import world
 import to_pddl
 
 TWO_TYPES = ("(define (domain d) (:types a b c) (:predicates (p ?x - a) (q ?x - b) (done))\n"
-             "  (:action go :parameters (?x - a) :precondition (exists (?y - b) (and (= ?x ?y) (p ?x) (q ?y))) :effect (done)))\n",
+             "  (:action go :parameters (?x - a) :precondition (exists (?y - b) (and (= ?x ?y) (p ?x) (q ?y))) :effect "
+             "(done)))\n",
              "(define (problem p) (:domain d) (:objects o - c) (:init) (:goal (done)))\n",
              "(define (stream s) (:stream one :inputs (?o - c) :outputs (?x - a) :certified (p ?x))\n"
              "  (:stream two :inputs (?o - c) :outputs (?x - b) :certified (q ?x)))\n")
-SAID = ("pddlstream 1 incremental\nlimits 9 9 3\npool 1 one two\nlevel\nask 1 0 one o\ngot 1 v\nask 2 0 two o\ngot 2 v\n"
+SAID = ("pddlstream 1 incremental\nlimits 9 9 3\npool 1 one two\nlevel\nask 1 0 one o\ngot 1 v\nask 2 0 two o\ngot 2 "
+        "v\n"
         "plan 1\ndo go #v\ncost 1\nfrom #v 1\ndone\n")
 
 
@@ -24,7 +26,8 @@ class ToPddl(Folder):
         for name in os.listdir(os.path.join(self.folder, "plain")):
             with open(os.path.join(self.folder, "plain", name), encoding="utf-8") as file:
                 texts[name] = file.read()
-        steps = [tuple(line.strip("()\n").split()) for line in texts.get("plan", "").split("\n") if line.startswith("(")]
+        steps = [tuple(line.strip("()\n").split()) for line in texts.get("plan", "").split("\n")
+                 if line.startswith("(")]
         return world(texts["domain.pddl"], texts["problem.pddl"]).cost_of(steps), texts
 
     def test_stored_plans_are_valid_at_their_costs(self):
@@ -46,7 +49,8 @@ class ToPddl(Folder):
         self.assertNotIn(":types", texts["domain.pddl"])
 
     def test_new_names_are_new(self):
-        files = [self.put(f"{name}.pddl", text.replace("objects o", "objects o g1")) for name, text in zip(("domain", "problem", "streams"), TWO_TYPES)]
+        files = [self.put(f"{name}.pddl", text.replace("objects o", "objects o g1")) for name,
+                 text in zip(("domain", "problem", "streams"), TWO_TYPES)]
         cost, texts = self.judged(files, self.put("report", SAID))
         self.assertEqual((cost, "; gen1 is #v" in texts["problem.pddl"]), (1, True))
 
@@ -57,7 +61,8 @@ class ToPddl(Folder):
 
     @needs_program
     def test_each_mode(self):
-        for folder, words in ((TRAY, ("python3", "tray.py")), (SHELF, ("sh", "shelf.sh")), (GRID, ("@grid", "grid.txt"))):
+        for folder, words in ((TRAY, ("python3", "tray.py")), (SHELF, ("sh", "shelf.sh")),
+                              (GRID, ("@grid", "grid.txt"))):
             for mode in MODES:
                 with self.subTest((folder, mode)):
                     text = solve(task(folder), "--algorithm", mode, "--", *words, folder=folder)

@@ -13,34 +13,51 @@ PLAIN = "(define (domain d) (:types room box)\n  (:predicates (at ?b - box ?r - 
 SMALL = "(define (problem p) (:domain d) (:objects k h - room b c - box) (:init (at b k) (at c h) (lit h)) (:goal %s))"
 
 FORMS = {
-    "forall in a condition": (PLAIN % "(:action light :parameters (?r - room) :precondition (not (lit ?r)) :effect (lit ?r))\n"
-                              "(:action end :precondition (forall (?r - room) (lit ?r)) :effect (done))", SMALL % "(done)"),
+    "forall in a condition": (PLAIN % "(:action light :parameters (?r - room) :precondition (not (lit ?r)) :effect "
+                                      "(lit ?r))\n"
+                              "(:action end :precondition (forall (?r - room) (lit ?r)) :effect (done))",
+                              SMALL % "(done)"),
     "imply": (PLAIN % "(:action light :parameters (?r - room) :effect (lit ?r))\n(:action end :parameters (?b - box)\n"
               ":precondition (forall (?r - room) (imply (at ?b ?r) (lit ?r))) :effect (done))", SMALL % "(done)"),
-    "imply under not": (PLAIN % "(:action end :parameters (?r - room) :precondition (not (imply (lit ?r) (open ?r))) :effect (done))", SMALL % "(done)"),
-    "forall of or": (PLAIN % "(:action light :parameters (?r - room) :effect (open ?r))", SMALL % "(forall (?r - room) (or (lit ?r) (open ?r)))"),
-    "either": (PLAIN.replace("(open ?r - room)", "(open ?r - (either room box))") % "(:action open :parameters (?r - (either room box)) :effect (open ?r))",
+    "imply under not": (PLAIN % "(:action end :parameters (?r - room) :precondition (not (imply (lit ?r) (open ?r))) "
+                                ":effect (done))", SMALL % "(done)"),
+    "forall of or": (PLAIN % "(:action light :parameters (?r - room) :effect (open ?r))",
+                     SMALL % "(forall (?r - room) (or (lit ?r) (open ?r)))"),
+    "either": (PLAIN.replace("(open ?r - room)", "(open ?r - (either room box))") % "(:action open :parameters (?r - "
+                                                                                    "(either room box)) :effect (open "
+                                                                                    "?r))",
                SMALL % "(and (open k) (open b) (exists (?x - (either box room)) (open ?x)))"),
     "either of types": (PLAIN.replace("room box", "room box - object lid - (either room box)")
                         % "(:action end :parameters (?r - (either lid room)) :effect (done))", SMALL % "(done)"),
-    "when": (PLAIN % "(:action press :parameters (?r - room) :effect (and (open ?r) (when (lit ?r) (done)) (when (not (lit ?r)) (lit ?r))))", SMALL % "(and (done) (lit k))"),
-    "when of what is deleted": (PLAIN % "(:action press :parameters (?r - room) :effect (and (open ?r) (when (lit ?r) (not (lit ?r)))))", SMALL % "(and (open h) (not (lit h)))"),
-    "when in when": (PLAIN % "(:action press :parameters (?r - room) :effect (when (lit ?r) (and (open ?r) (when (at c ?r) (done)))))".replace("at c ?r", "open ?r"), SMALL % "(done)"),
-    "forall in an effect": (PLAIN % "(:action off :effect (and (forall (?r - room) (not (lit ?r))) (done)))", SMALL % "(and (done) (not (lit h)))"),
-    "forall and when": (PLAIN % "(:action move :parameters (?to - room) :effect (forall (?b - box) (when (lit ?to) (and (at ?b ?to) (open ?to)))))", SMALL % "(and (at b h) (open h))"),
-    "forall with an inner variable of the same name": (PLAIN % "(:action off :effect (forall (?r - room) (when (exists (?r - room) (lit ?r)) (open ?r))))", SMALL % "(and (open k) (open h))"),
+    "when": (PLAIN % "(:action press :parameters (?r - room) :effect (and (open ?r) (when (lit ?r) (done)) (when (not "
+                     "(lit ?r)) (lit ?r))))", SMALL % "(and (done) (lit k))"),
+    "when of what is deleted": (PLAIN % "(:action press :parameters (?r - room) :effect (and (open ?r) (when (lit ?r) "
+                                        "(not (lit ?r)))))", SMALL % "(and (open h) (not (lit h)))"),
+    "when in when": (PLAIN % "(:action press :parameters (?r - room) :effect (when (lit ?r) (and (open ?r) (when (at c "
+                             "?r) (done)))))".replace("at c ?r", "open ?r"), SMALL % "(done)"),
+    "forall in an effect": (PLAIN % "(:action off :effect (and (forall (?r - room) (not (lit ?r))) (done)))",
+                            SMALL % "(and (done) (not (lit h)))"),
+    "forall and when": (PLAIN % "(:action move :parameters (?to - room) :effect (forall (?b - box) (when (lit ?to) "
+                                "(and (at ?b ?to) (open ?to)))))", SMALL % "(and (at b h) (open h))"),
+    "forall with an inner variable of the same name": (PLAIN % "(:action off :effect (forall (?r - room) (when (exists "
+                                                               "(?r - room) (lit ?r)) (open ?r))))",
+                                                               SMALL % "(and (open k) (open h))"),
     "negative facts": (PLAIN % "(:action end :parameters (?r - room) :precondition (not (lit ?r)) :effect (done))",
                        (SMALL % "(done)").replace("(lit h)", "(lit h) (not (lit k))")),
-    "upper case": (PLAIN.replace("done", "Done") % "(:action End :parameters (?R - room) :precondition (Lit ?r) :effect (DONE))",
+    "upper case": (PLAIN.replace("done", "Done") % "(:action End :parameters (?R - room) :precondition (Lit ?r) "
+                                                   ":effect (DONE))",
                    (SMALL % "(Done)").replace(" k ", " K ").replace("k)", "K)")),
     "a derived predicate with forall": (PLAIN % "(:derived (done) (forall (?r - room) (imply (open ?r) (lit ?r))))\n"
-                                        "(:action open :parameters (?r - room) :precondition (not (open ?r)) :effect (open ?r))", SMALL % "(and (open h) (done))"),
-    "costs": ((PLAIN % "(:functions (dear ?r - room) (total-cost))\n(:action end :parameters (?r - room) :effect (and (done) (increase (total-cost) (dear ?r)) (when (lit ?r) (increase (total-cost) 3))))"),
+                                        "(:action open :parameters (?r - room) :precondition (not (open ?r)) :effect "
+                                        "(open ?r))", SMALL % "(and (open h) (done))"),
+    "costs": ((PLAIN % "(:functions (dear ?r - room) (total-cost))\n(:action end :parameters (?r - room) :effect (and "
+                       "(done) (increase (total-cost) (dear ?r)) (when (lit ?r) (increase (total-cost) 3))))"),
               (SMALL % "(done)").replace("(lit h)", "(lit h) (= (total-cost) 0) (= (dear k) 2.0) (= (dear h) 4)")[:-1] + " (:metric minimize (total-cost)))"),
 }
 
 REFUSED = {
-    "numbers that change": ("(:functions (fuel) - number)\n  (:action a :effect (decrease (fuel) 1))", "4:22: `decrease` of a number: objects n0 n1 n2"),
+    "numbers that change": ("(:functions (fuel) - number)\n  (:action a :effect (decrease (fuel) 1))",
+                            "4:22: `decrease` of a number: objects n0 n1 n2"),
     "comparisons": ("(:action a :precondition (> (fuel) 0) :effect (done))", "3:28: a comparison of numbers"),
     "durative actions": ("(:durative-action a)", "3:3: `:durative-action`: an action without a duration"),
     "recursion": ("(:derived (done) (and (done) (done)))", "3:3: `done` rests on itself"),
@@ -55,7 +72,8 @@ REFUSED = {
 class Rewriting(Folder):
     def rewritten(self, domain: str, problem: str, streams: str | None = None):
         """The status, what was told, and the new texts."""
-        files = [self.put(f"{name}.pddl", text) for name, text in (("d", domain), ("p", problem), ("s", streams)) if text is not None]
+        files = [self.put(f"{name}.pddl", text) for name,
+                 text in (("d", domain), ("p", problem), ("s", streams)) if text is not None]
         out = os.path.join(self.folder, "plain")
         status, _, err = tool(to_profile.main, *files, "--out", out)
         texts = {}
@@ -68,7 +86,8 @@ class Rewriting(Folder):
     @staticmethod
     def old_step(texts: dict[str, str], step: tuple[str, ...]) -> tuple[str, ...]:
         """A step with the old action's name; names in lower case."""
-        actions = {row.split()[1]: row.split()[2].lower() for row in texts["names"].split("\n") if row.startswith("action ")}
+        actions = {row.split()[1]: row.split()[2].lower() for row in texts["names"].split("\n")
+                   if row.startswith("action ")}
         return (actions.get(step[0], step[0]), *step[1:])
 
 
@@ -94,8 +113,10 @@ class Forms(Rewriting):
                 self.assertIn(f"d.pddl:{wanted}", err)
 
     def test_problems_that_can_not_be(self):
-        for old, new, wanted in (("(lit h)", "(lit h) (= (dear h) -1)", "p.pddl:1:98: the value -1"), ("(lit h)", "(lit h) (at 5 (lit k))", "a timed initial literal"),
-                                 ("b c - box", "b - box c - (either box room)", "an object of `either`"), ("(:goal", "(:metric maximize (f)) (:goal", "this metric")):
+        for old, new, wanted in (("(lit h)", "(lit h) (= (dear h) -1)", "p.pddl:1:98: the value -1"),
+                                 ("(lit h)", "(lit h) (at 5 (lit k))", "a timed initial literal"),
+                                 ("b c - box", "b - box c - (either box room)", "an object of `either`"),
+                                 ("(:goal", "(:metric maximize (f)) (:goal", "this metric")):
             with self.subTest(new):
                 status, err, _ = self.rewritten(PLAIN % "", (SMALL % "(done)").replace(old, new))
                 self.assertEqual(status, 1)
@@ -135,7 +156,9 @@ STREAMS = """(define (stream kitchen)
   (:predicate (Collides ?b ?p ?o ?q) (and (Pose ?b ?p) (Pose ?o ?q)))
   (:function (Dist ?p) ())
   (:rule :inputs (?b ?p) :domain (Pose ?b ?p) :certified (Known ?b)))
-""".replace("(:function (Dist ?p) ())", "(:function (Dist ?p) (Somewhere ?p))").replace("certified (Pose ?b ?p))\n", "certified (and (Pose ?b ?p) (Somewhere ?p)))\n")
+""".replace("(:function (Dist ?p) ())", "(:function (Dist ?p) (Somewhere ?p))").replace("certified (Pose ?b ?p))\n",
+                                                                                        "certified (and (Pose ?b ?p) "
+                                                                                        "(Somewhere ?p)))\n")
 ANSWERS = '''
 import sys
 for line in sys.stdin:
@@ -154,11 +177,13 @@ for line in sys.stdin:
 
 class PddlStream(Rewriting):
     def test_predicates_functions_and_rules(self):
-        status, err, texts = self.rewritten(KITCHEN.replace("(Free)", "(Free) (Known ?b) (Somewhere ?p)"), BLOCKS, STREAMS)
+        status, err, texts = self.rewritten(KITCHEN.replace("(Free)", "(Free) (Known ?b) (Somewhere ?p)"), BLOCKS,
+                                            STREAMS)
         self.assertEqual(status, 0, err)
         made = read_streams(self.put("new.pddl", texts["streams.pddl"]))
         self.assertEqual([stream.name for stream in made.items], ["sample-pose", "rule-1", "test-not-collides", "dist"])
-        self.assertEqual([str(atom) for atom in made.named("test-not-collides").certified], ["(not-collides ?b ?p ?o ?q)"])
+        self.assertEqual([str(atom) for atom in made.named("test-not-collides").certified], ["(not-collides ?b ?p ?o "
+                                                                                             "?q)"])
         self.assertTrue(made.named("dist").is_cost)
         self.assertIn("(not (not-collides ?b ?p ?o ?q))", texts["domain.pddl"])
         self.assertIn("stream test-not-collides answers `yield` where collides is false, else `end`", texts["names"])
@@ -178,20 +203,26 @@ class PddlStream(Rewriting):
         self.assertEqual(len(new.plans(2)), 4)
 
     def test_a_predicate_that_is_wanted_true_and_false(self):
-        domain = KITCHEN.replace("(Free)", "(Free) (Known ?b) (Somewhere ?p)").replace("(not (Placed ?b)))", "(not (Placed ?b)) (Collides ?b ?p ?b ?p))")
+        domain = KITCHEN.replace("(Free)", "(Free) (Known ?b) (Somewhere ?p)").replace("(not (Placed ?b)))",
+                                                                                       "(not (Placed ?b)) (Collides ?b "
+                                                                                       "?p ?b ?p))")
         _, _, texts = self.rewritten(domain, BLOCKS, STREAMS)
         names = [stream.name for stream in read_streams(self.put("new.pddl", texts["streams.pddl"])).items]
         self.assertEqual(names[2:4], ["test-collides", "test-not-collides"])
 
     def test_a_derived_predicate_that_is_wanted_true_and_false(self):
-        domain = KITCHEN.replace("(Free)", "(Free) (Known ?b) (Somewhere ?p)").replace("(not (Placed ?b)))", "(not (Placed ?b)) (Unsafe ?b ?p))")
+        domain = KITCHEN.replace("(Free)", "(Free) (Known ?b) (Somewhere ?p)").replace("(not (Placed ?b)))",
+                                                                                       "(not (Placed ?b)) (Unsafe ?b "
+                                                                                       "?p))")
         status, err, _ = self.rewritten(domain, BLOCKS, STREAMS)
         self.assertEqual(status, 1)
         self.assertIn("d.pddl:4:3: `unsafe` is wanted true and false", err)
 
     def test_what_can_not_be(self):
-        for old, new, wanted in ((":domain (Block ?b)", ":domain (Block ?b) :fluents (AtPose)", "`:fluents` of a stream: a test of each pair"),
-                                 ("(:rule", "(:optimizer", "`:optimizer`"), (":domain (Block ?b)", ":domain (not (Block ?b))", "`not` in a stream's atoms")):
+        for old, new, wanted in ((":domain (Block ?b)", ":domain (Block ?b) :fluents (AtPose)",
+                                  "`:fluents` of a stream: a test of each pair"),
+                                 ("(:rule", "(:optimizer", "`:optimizer`"),
+                                 (":domain (Block ?b)", ":domain (not (Block ?b))", "`not` in a stream's atoms")):
             with self.subTest(new):
                 status, err, _ = self.rewritten(KITCHEN, BLOCKS, STREAMS.replace(old, new))
                 self.assertEqual(status, 1)
@@ -210,7 +241,8 @@ class PddlStream(Rewriting):
         files = [self.put(f"new-{part}", texts[part]) for part in ("domain.pddl", "problem.pddl", "streams.pddl")]
         answers = self.put("answers.py", ANSWERS)
         for mode in ("incremental", "adaptive"):
-            done = subprocess.run([PROGRAM, "solve", *files, "--algorithm", mode, "--depth", "4", "--", "python3", answers], capture_output=True, text=True)
+            done = subprocess.run([PROGRAM, "solve", *files, "--algorithm", mode, "--depth", "4", "--", "python3",
+                                   answers], capture_output=True, text=True)
             self.assertEqual((done.returncode, done.stdout.count("\ndo put ")), (0, 2), done.stdout)
 
 

@@ -29,7 +29,8 @@ class Words(unittest.TestCase):
                 self.assertEqual(usage_cause(words) is not None, is_refused)
 
     def test_the_cause_names_the_word(self):
-        for line, wanted in (("solv d p s", "`solv`"), ("solve d p", "STREAMS is missing"), ("solve d p s --call 5", "`--call`"),
+        for line, wanted in (("solv d p s", "`solv`"), ("solve d p", "STREAMS is missing"),
+                             ("solve d p s --call 5", "`--call`"),
                              ("solve d p s --calls 0", "`--calls 0`"), ("solve d p s --depth", "no value"),
                              ("solve d p s --depth 2 --depth 3", "twice"), ("solve d p s --algorithm fast", "`fast`"),
                              ("solve d p s --map m -- g", "`g` stands beside"), ("solve d p s sh -c x", "put `--`"),

@@ -9,7 +9,8 @@ from common.reports import Ask, Dream, End, Entry, Got, Mark, Report, Value
 def entry_object(entry: Entry) -> dict:
     """One entry as an object whose first key is its word."""
     if isinstance(entry, Ask):
-        return {"ask": entry.number, "turn": entry.turn, "stream": entry.stream, "inputs": entry.inputs, "line": entry.line}
+        return {"ask": entry.number, "turn": entry.turn, "stream": entry.stream, "inputs": entry.inputs,
+                "line": entry.line}
     if isinstance(entry, Got):
         return {"got": entry.number, "tuples": entry.tuples, "line": entry.line}
     if isinstance(entry, Value):
@@ -30,7 +31,8 @@ def report_object(report: Report) -> dict:
     outcome = None
     if report.outcome is not None:
         origins = {name: {"ask": ask, "tuple": place} for name, (ask, place) in report.outcome.origins.items()}
-        outcome = {"kind": report.outcome.kind, "steps": report.outcome.steps, "cost": report.outcome.cost, "from": origins}
+        outcome = {"kind": report.outcome.kind, "steps": report.outcome.steps, "cost": report.outcome.cost,
+                   "from": origins}
     return {
         "version": report.version, "mode": report.mode, "limits": {"calls": calls, "states": states, "depth": depth},
         "pools": [{"workers": pool.workers, "streams": pool.streams} for pool in report.pools],

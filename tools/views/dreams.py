@@ -40,7 +40,8 @@ class _Matcher:
 
     def take(self, ask: Ask) -> None:
         for at, use in enumerate(self.uses):
-            if self.trial.asks[at] or use.stream != ask.stream or [self.real(name) for name in use.inputs] != ask.inputs:
+            if self.trial.asks[at] or use.stream != ask.stream or [self.real(name)
+                                                                   for name in use.inputs] != ask.inputs:
                 continue
             self.trial.asks[at] = ask.number
             if isinstance(ask.answer, Got) and ask.answer.tuples:

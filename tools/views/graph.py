@@ -51,5 +51,6 @@ def graph(report: Report, is_whole: bool) -> str:
                 drawn.add(name)
                 lines.append(f"  {quoted(name)}{' [penwidth=3]' if name in in_plan else ''};")
         label = f" [label={quoted(f'{ask.stream} {ask.number}')}];"
-        lines += [f"  {quoted(source)} -> {quoted(name)}{label}" for source in dict.fromkeys(ask.inputs) for name in outputs]
+        lines += [f"  {quoted(source)} -> {quoted(name)}{label}" for source in dict.fromkeys(ask.inputs)
+                  for name in outputs]
     return "\n".join([*lines, "}"])

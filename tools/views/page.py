@@ -18,7 +18,7 @@ KINDS = {type(None): 0, Got: 1, End: 2, Value: 3}
 
 
 def asks_data(report: Report, streams: dict[str, int]) -> dict:
-    """The requests as columns (stream, round, kind of answer: 0 none, 1 yield, 2 end, 3 value) and as lines, two for each."""
+    """The requests as columns (stream, round, kind of answer as in `KINDS`) and as lines, two for each."""
     lanes, rounds, kinds, lines, turns = [], [], [], [], []
     current, was_answer = 0, True
     for entry in report.entries:
@@ -48,7 +48,8 @@ def plan_data(report: Report, places: dict[int, int]) -> dict | None:
     if report.outcome is None or report.outcome.kind != "plan":
         return None
     origins = {name: places.get(ask, -1) for name, (ask, _) in report.outcome.origins.items()}
-    steps = [{"name": step[0], "args": [[name, origins.get(name, -1)] for name in step[1:]]} for step in report.outcome.steps]
+    steps = [{"name": step[0], "args": [[name, origins.get(name, -1)] for name in step[1:]]}
+             for step in report.outcome.steps]
     led = led_to_plan(report, first_givers(report))
     return {"steps": steps, "cost": report.outcome.cost, "led": sorted(places[ask] for ask in led)}
 
@@ -56,7 +57,8 @@ def plan_data(report: Report, places: dict[int, int]) -> dict | None:
 def dream_data(story: DreamStory, report: Report, places: dict[int, int]) -> dict:
     """A dream with the request of each `use` in its last trial."""
     asked = story.trials[-1].asks if story.trials else [0] * len(story.dream.uses)
-    uses = [[" ".join([use.stream, *use.inputs]), places.get(number, -1)] for use, number in zip(story.dream.uses, asked)]
+    uses = [[" ".join([use.stream, *use.inputs]), places.get(number, -1)] for use,
+            number in zip(story.dream.uses, asked)]
     return {"n": story.dream.number, "uses": uses, "steps": [" ".join(step) for step in story.dream.steps],
             "fate": fate(story, report.asks), "won": story.led_to_plan}
 
@@ -68,10 +70,12 @@ def page_data(report: Report, name: str) -> dict:
     columns = asks_data(report, streams)
     told = stories(report)
     counts = count(report)
-    rows = [[name, one.asked, one.yielded, one.ended, one.valued, one.unanswered] for name, one in counts.streams.items()]
+    rows = [[name, one.asked, one.yielded, one.ended, one.valued, one.unanswered] for name,
+            one in counts.streams.items()]
     return {
         "name": name, "mode": report.mode, "limits": report.limits, "ending": ending(report), "turnWords": TURNS,
-        "counts": rows, "turnCounts": [counts.turns[word] for word in TURNS], **columns, "plan": plan_data(report, places),
+        "counts": rows, "turnCounts": [counts.turns[word] for word in TURNS], **columns,
+        "plan": plan_data(report, places),
         "dreams": [dream_data(story, report, places) for story in told[:MOST_DREAMS]], "dreamCount": len(told),
         "streams": list(streams),
     }
@@ -87,7 +91,8 @@ def page(report: Report, name: str) -> str:
     """The page of a report; nothing that a generator named can end the data or become a tag."""
     data = json.dumps(page_data(report, name), separators=(",", ":")).replace("<", "\\u003c")
     filled = part("page.html")
-    for word, text in (("TITLE", html.escape(name)), ("STYLE", part("page.css")), ("SUMMARY", html.escape(summary(report))),
+    for word, text in (("TITLE", html.escape(name)), ("STYLE", part("page.css")),
+                       ("SUMMARY", html.escape(summary(report))),
                        ("SCRIPT", part("page.js")), ("DATA", data)):
         filled = filled.replace(f"<!--{word}-->", text, 1)
     return filled
