@@ -7,7 +7,7 @@ from typing import Callable
 
 from common.tasks import typed
 from common.texts import Group, Source, Tree, spelled
-from common.trees import conjunction, negated, substituted
+from common.trees import conjunction, negated, substituted, word
 from .book import Book, NUMBER
 
 MOST_CONDITIONS = 6
@@ -29,6 +29,10 @@ class Objects:
     of: dict[str, list[str]]
     open: set[str]
     named: set[str] = field(default_factory=set)
+
+    def of_any(self, sorts: list[str]) -> list[str]:
+        """The objects of one of these types, each once."""
+        return list(dict.fromkeys(name for sort in sorts for name in self.of.get(sort, [])))
 
 
 class Effects:
@@ -68,8 +72,8 @@ class Effects:
         return True
 
     def _forall(self, source: Source, tree: Group, condition: Tree | None) -> list[Part]:
-        variables = typed(source, tree[1].items)
-        made = [sort for _, sort in variables if sort in self.objects.open]
+        variables = sorts_of(source, tree[1].items if isinstance(tree[1], Group) else ())
+        made = [sort for _, sorts in variables for sort in sorts if sort in self.objects.open]
         if made:
             self.book.refuse(source, tree.place, f"`forall` in an effect over {made[0]}",
                              "streams make objects of this type, so that they aren't known: keep one fact that says "
@@ -77,11 +81,18 @@ class Effects:
             return []
         self.book.note(source, tree.place, "forall in an effect: one effect for each object of the problem")
         found: list[Part] = []
-        for chosen in itertools.product(*(self.objects.of.get(sort, []) for _, sort in variables)):
+        for chosen in itertools.product(*(self.objects.of_any(sorts) for _, sorts in variables)):
             self.objects.named.update(chosen)
             values = {name: value for (name, _), value in zip(variables, chosen)}
             found += self.parts(source, substituted(tree[2], values), condition)
         return found
+
+
+def sorts_of(source: Source, items: tuple[Tree, ...]) -> list[tuple[str, list[str]]]:
+    """The variables of a typed list, each with its types; several where `either` stands."""
+    plain = [word(spelled(item), item.place) for item in items]
+    either = {spelled(item): [spelled(one) for one in item[1:]] for item in items if isinstance(item, Group)}
+    return [(name, either.get(sort, [sort])) for name, sort in typed(source, tuple(plain))]
 
 
 def simplified(parts: list[Part]) -> list[Part]:

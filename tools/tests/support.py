@@ -19,8 +19,8 @@ GRID = os.path.join(ROOT, "examples", "grid")
 SHELF = os.path.join(ROOT, "crates", "worked_runs", "data", "shelf")
 FETCH = os.path.join(ROOT, "crates", "pddlstream", "data")
 MODES = ("incremental", "focused", "binding", "adaptive")
-PROGRAM = os.environ.get("PDDLSTREAM", "")
-needs_program = unittest.skipUnless(shutil.which(PROGRAM), "PDDLSTREAM names no program")
+PROGRAM = os.path.abspath(shutil.which(os.environ.get("PDDLSTREAM", "")) or "/no/program")
+needs_program = unittest.skipUnless(os.path.exists(PROGRAM), "PDDLSTREAM names no program")
 
 
 def task(folder: str) -> list[str]:

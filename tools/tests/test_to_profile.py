@@ -5,6 +5,7 @@ import subprocess
 import unittest
 
 from support import PROGRAM, Folder, needs_program, tool
+import chance_tasks
 from plan_checker import world
 import to_profile
 from common.tasks import read_streams
@@ -69,6 +70,11 @@ REFUSED = {
 }
 
 
+def taken(made, state) -> list[tuple]:
+    """Each step that can be taken in a state, with the state behind it and its cost."""
+    return [(step, *after) for step in made.steps() if (after := made.after(state, step)) is not None]
+
+
 class Rewriting(Folder):
     def rewritten(self, domain: str, problem: str, streams: str | None = None):
         """The status, what was told, and the new texts."""
@@ -104,6 +110,22 @@ class Forms(Rewriting):
                 for plan, shown in zip(plans, mapped):
                     self.assertEqual(old.cost_of(shown), new.cost_of(plan), shown)
                 self.assertEqual(sorted(map(tuple, old.plans(2))), sorted(set(map(tuple, mapped))))
+
+    def test_tasks_by_chance_have_the_same_steps_and_goals(self):
+        for seed in range(60):
+            with self.subTest(seed):
+                domain, problem = chance_tasks.task(seed)
+                status, err, texts = self.rewritten(domain, problem)
+                if status:
+                    self.assertIn("conditional effects, so", err)
+                    continue
+                old, new = world(domain, problem), world(texts["domain.pddl"], texts["problem.pddl"])
+                reached = {old.start} | {after for _, after, _ in taken(old, old.start)}
+                self.assertEqual(old.start, new.start)
+                for state in reached:
+                    self.assertEqual(old.holds(old.goal, state, {}), new.holds(new.goal, state, {}))
+                    mapped = {(self.old_step(texts, step), *rest) for step, *rest in taken(new, state)}
+                    self.assertEqual(set(taken(old, state)), mapped)
 
     def test_what_can_not_be_is_told_with_its_place(self):
         for name, (items, wanted) in REFUSED.items():
