@@ -2,9 +2,10 @@
 
 usage: python3 examples/pages.py PROGRAM [PAGES]
 
-PROGRAM is a built pddlstream. A command is an indented line `$ COMMAND` of a page, and its output are the indented lines
-below it. It is run in the folder that the page named last, in backticks, or in the one above, whichever has its files;
-in a copy of the repository, one for each page, so that nothing is written here. It ends with 1 where one differs.
+PROGRAM is a built pddlstream. A command is an indented line `$ COMMAND` of a page, and its output are the indented
+lines below it. It is run in the folder that the page named last, in backticks, or in the one above, whichever has its files;
+in a copy of the repository without its code, one for each page, so that nothing is written here. It ends with 1
+where one differs.
 """
 import os
 import re
@@ -56,7 +57,7 @@ def run(programs, there, command):
 def check(page, programs, copy):
     """Whether each command of a page prints what the page shows, in a copy of the repository."""
     well = True
-    shutil.copytree(".", copy, ignore=shutil.ignore_patterns("out", ".git", "__pycache__"))
+    shutil.copytree(".", copy, ignore=shutil.ignore_patterns("out", ".git", "__pycache__", "src", "specs", "proofs"))
     for folder, command, output in commands(page):
         there = place(folder, command)
         got = run(programs, os.path.join(copy, there), command)
@@ -64,6 +65,7 @@ def check(page, programs, copy):
         if got != output:
             print("\n".join(["  shown:", *output, "  printed:", *got]))
             well = False
+    shutil.rmtree(copy)
     return well
 
 
