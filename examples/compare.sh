@@ -92,6 +92,25 @@ if [ "$can_run" = yes ]; then
     same "light, the report" "$work/light" "$here/examples/light/report"
 fi
 
+# ---- arms and kitchen: samplers in Python
+# stored NAME WORDS: the example's stored report is valid, and comes out
+stored() {
+    local name=$1 folder=$here/examples/$1
+    shift
+    replay "$folder" "$folder/report" > "$work/said"
+    same "$name, its stored report is valid" "$work/said" "$work/valid"
+    if has python3; then
+        (cd "$folder" && solve . "$@") > "$work/$name.report"
+        same "$name, the report" "$work/$name.report" "$folder/report"
+    else
+        echo "skipped: $name, since there is no python3"
+    fi
+}
+if [ "$can_run" = yes ]; then
+    stored arms --algorithm focused -- python3 arms.py
+    stored kitchen --algorithm adaptive -- python3 kitchen.py scene.json
+fi
+
 # ---- tray: places that are sampled in Python
 tray=$here/examples/tray
 if [ "$can_run" = yes ]; then

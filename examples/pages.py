@@ -1,10 +1,11 @@
 """Runs each command of the guides and compares what it prints with what the page shows.
 
-usage: python3 examples/pages.py PROGRAM
+usage: python3 examples/pages.py PROGRAM [PAGES]
 
-PROGRAM is a built pddlstream. A command is an indented line `$ COMMAND` of a page, and its output are the indented lines
-below it. It is run in the folder that the page named last, in backticks, or in the one above, whichever has its files;
-in a copy, so that nothing is written here. It ends with 1 where one differs.
+PROGRAM is a built pddlstream. A command is an indented line `$ COMMAND` of a page, and its output are the indented
+lines below it. It is run in the folder that the page named last, in backticks, or in the one above, whichever has its files;
+in a copy of the repository without its code, one for each page, so that nothing is written here. It ends with 1
+where one differs.
 """
 import os
 import re
@@ -13,7 +14,8 @@ import subprocess
 import sys
 import tempfile
 
-PAGES = ["docs/TUTORIAL.md", "docs/GENERATORS.md", "docs/USING.md", "docs/REPORT.md", "examples/README.md"]
+PAGES = ["docs/TUTORIAL.md", "docs/GENERATORS.md", "docs/USING.md", "docs/RUNNING.md", "docs/REPORT.md",
+         "docs/FROM_PDDLSTREAM.md", "examples/README.md", "tools/README.md", "SECURITY.md"]
 
 
 def commands(page):
@@ -44,32 +46,40 @@ def place(folder, command):
     return folder
 
 
-def run(program, there, command):
-    """What the command prints in that folder."""
-    script = f'pddlstream() {{ "{program}" "$@"; }}\n{command}\n'
-    done = subprocess.run(["bash", "-c", script], cwd=there, stdin=subprocess.DEVNULL, capture_output=True, text=True)
+def run(programs, there, command):
+    """What the command prints in that folder, with the programs of another folder to be found first."""
+    env = {**os.environ, "PATH": f"{programs}:{os.environ['PATH']}"}
+    done = subprocess.run(["bash", "-c", command], cwd=there, env=env, stdin=subprocess.DEVNULL, capture_output=True,
+                          text=True)
     return done.stdout.split("\n")[:-1]
 
 
+def check(page, programs, copy):
+    """Whether each command of a page prints what the page shows, in a copy of the repository."""
+    well = True
+    shutil.copytree(".", copy, ignore=shutil.ignore_patterns("out", ".git", "__pycache__", "src", "specs", "proofs"))
+    for folder, command, output in commands(page):
+        there = place(folder, command)
+        got = run(programs, os.path.join(copy, there), command)
+        print("same:" if got == output else "differs:", f"{page}, in {there}: {command}", flush=True)
+        if got != output:
+            print("\n".join(["  shown:", *output, "  printed:", *got]))
+            well = False
+    shutil.rmtree(copy)
+    return well
+
+
 def main():
-    if len(sys.argv) != 2:
+    if len(sys.argv) < 2:
         sys.exit(__doc__)
-    program, worst, copies = os.path.abspath(sys.argv[1]), 0, {}
+    program, pages = os.path.abspath(sys.argv[1]), sys.argv[2:] or PAGES
     os.chdir(os.path.join(os.path.dirname(os.path.abspath(__file__)), ".."))
     with tempfile.TemporaryDirectory() as work:
-        for page in PAGES:
-            for folder, command, output in commands(page):
-                there = place(folder, command)
-                if there not in copies:
-                    copies[there] = os.path.join(work, str(len(copies)))
-                    shutil.copytree(there, copies[there], ignore=shutil.ignore_patterns("out", ".git"))
-                got = run(program, copies[there], command)
-                same = got == output
-                print("same:" if same else "differs:", f"{page}, in {there}: {command}")
-                if not same:
-                    print("\n".join(["  shown:", *output, "  printed:", *got]))
-                    worst = 1
-    sys.exit(worst)
+        programs = os.path.join(work, "bin")
+        os.mkdir(programs)
+        os.symlink(program, os.path.join(programs, "pddlstream"))
+        well = [check(page, programs, os.path.join(work, str(number))) for number, page in enumerate(pages)]
+    sys.exit(0 if all(well) else 1)
 
 
 if __name__ == "__main__":

@@ -1,0 +1,18 @@
+; Two arms at the two ends of a table move blocks; each reaches its own side and the middle.
+(define (domain arms)
+  (:types arm block zone pose conf)
+  (:predicates (pose ?b - block ?p - pose) (in ?b - block ?p - pose ?z - zone)
+    (reach ?a - arm ?b - block ?p - pose ?q - conf) (apart ?b - block ?p - pose ?o - block ?r - pose)
+    (at ?b - block ?p - pose) (free ?a - arm) (holding ?a - arm ?b - block)
+    (blocked ?b - block ?p - pose) (lies-in ?b - block ?z - zone))
+  ; another block stands where it may touch this one
+  (:derived (blocked ?b - block ?p - pose)
+    (exists (?o - block ?r - pose)
+      (and (at ?o ?r) (not (= ?o ?b)) (not (apart ?b ?p ?o ?r)) (not (apart ?o ?r ?b ?p)))))
+  (:derived (lies-in ?b - block ?z - zone) (exists (?p - pose) (and (at ?b ?p) (in ?b ?p ?z))))
+  (:action pick :parameters (?a - arm ?b - block ?p - pose ?q - conf)
+    :precondition (and (free ?a) (at ?b ?p) (reach ?a ?b ?p ?q))
+    :effect (and (holding ?a ?b) (not (at ?b ?p)) (not (free ?a))))
+  (:action put :parameters (?a - arm ?b - block ?p - pose ?q - conf)
+    :precondition (and (holding ?a ?b) (reach ?a ?b ?p ?q) (not (blocked ?b ?p)))
+    :effect (and (at ?b ?p) (free ?a) (not (holding ?a ?b)))))

@@ -1,0 +1,6 @@
+(define (problem swap) (:domain arms)
+  (:objects west east - arm red blue - block left middle right - zone at-red at-blue - pose)
+  (:init (free west) (free east)
+    (pose red at-red) (in red at-red left) (at red at-red)
+    (pose blue at-blue) (in blue at-blue right) (at blue at-blue))
+  (:goal (and (lies-in red right) (lies-in blue middle))))

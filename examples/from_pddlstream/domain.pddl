@@ -1,0 +1,11 @@
+; As PDDLStream's users write it: upper case, no types, a predicate that Python computes, forall in the goal.
+(define (domain line)
+  (:requirements :strips :equality :adl)
+  (:predicates (Block ?b) (Spot ?p) (Pose ?b ?p) (AtPose ?b ?p) (Placed ?b) (Collision ?b ?p ?o ?q) (Unsafe ?b ?p))
+  (:functions (Distance ?p) (total-cost))
+  (:derived (Unsafe ?b ?p)
+    (exists (?o ?q) (and (AtPose ?o ?q) (not (= ?o ?b)) (Collision ?b ?p ?o ?q))))
+  (:derived (Placed ?b) (exists (?p) (AtPose ?b ?p)))
+  (:action place :parameters (?b ?p)
+    :precondition (and (Pose ?b ?p) (not (Unsafe ?b ?p)) (not (Placed ?b)))
+    :effect (and (AtPose ?b ?p) (increase (total-cost) (Distance ?p)))))

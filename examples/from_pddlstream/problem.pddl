@@ -1,0 +1,5 @@
+(define (problem two-blocks) (:domain line)
+  (:objects A B)
+  (:init (Block A) (Block B) (= (total-cost) 0))
+  (:goal (forall (?b) (imply (Block ?b) (Placed ?b))))
+  (:metric minimize (total-cost)))

@@ -1,0 +1,1 @@
+"""What the tools share: texts with places, tasks, reports, and starting generators."""

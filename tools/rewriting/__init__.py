@@ -1,0 +1,1 @@
+"""PDDL and PDDLStream files rewritten into what the program reads."""
