@@ -1,0 +1,33 @@
+; A robot's arm washes food in the sink and cooks it on the stove; after the kitchen of PDDLStream's examples.
+(define (domain kitchen)
+  (:requirements :strips :equality)
+  (:predicates
+    (Food ?o) (Stackable ?o ?r) (Sink ?r) (Stove ?r) (Obstacle ?o ?p)
+    (Pose ?o ?p) (Supported ?o ?p ?r) (Grasp ?o ?g) (Kin ?o ?p ?g ?q) (Conf ?q)
+    (Traj ?t) (Motion ?q1 ?t ?q2) (CFreePose ?p ?o2 ?p2) (CFreeTraj ?t ?o2 ?p2)
+    (AtPose ?o ?p) (AtGrasp ?o ?g) (AtConf ?q) (HandEmpty) (CanMove) (Cleaned ?o) (Cooked ?o)
+    (On ?o ?r) (UnsafePose ?p) (UnsafeTraj ?t))
+  (:functions (Turn ?t) (total-cost))
+
+  (:action move :parameters (?q1 ?t ?q2)
+    :precondition (and (AtConf ?q1) (Motion ?q1 ?t ?q2) (CanMove) (not (UnsafeTraj ?t)))
+    :effect (and (AtConf ?q2) (not (AtConf ?q1)) (not (CanMove)) (increase (total-cost) (Turn ?t))))
+  (:action pick :parameters (?o ?p ?g ?q)
+    :precondition (and (AtConf ?q) (AtPose ?o ?p) (Kin ?o ?p ?g ?q) (HandEmpty))
+    :effect (and (AtGrasp ?o ?g) (CanMove) (not (AtPose ?o ?p)) (not (HandEmpty)) (increase (total-cost) 10)))
+  (:action place :parameters (?o ?p ?g ?q)
+    :precondition (and (AtConf ?q) (AtGrasp ?o ?g) (Kin ?o ?p ?g ?q) (not (UnsafePose ?p)))
+    :effect (and (AtPose ?o ?p) (HandEmpty) (CanMove) (not (AtGrasp ?o ?g)) (increase (total-cost) 10)))
+  (:action clean :parameters (?o ?r)
+    :precondition (and (Sink ?r) (On ?o ?r))
+    :effect (and (Cleaned ?o) (increase (total-cost) 10)))
+  (:action cook :parameters (?o ?r)
+    :precondition (and (Stove ?r) (On ?o ?r) (Cleaned ?o))
+    :effect (and (Cooked ?o) (not (Cleaned ?o)) (increase (total-cost) 10)))
+
+  (:derived (On ?o ?r) (exists (?p) (and (AtPose ?o ?p) (Supported ?o ?p ?r))))
+  ; A test that was never made counts as failed: what is safe is certified, and what isn't certified is in the way.
+  (:derived (UnsafePose ?p)
+    (exists (?o2 ?p2) (and (Obstacle ?o2 ?p2) (not (CFreePose ?p ?o2 ?p2)))))
+  (:derived (UnsafeTraj ?t)
+    (exists (?o2 ?p2) (and (Obstacle ?o2 ?p2) (not (CFreeTraj ?t ?o2 ?p2))))))

@@ -1,0 +1,45 @@
+"""Conditions as nested tuples, by PDDLStream's names.
+
+An atom is a tuple `(predicate, value, ..)`. A text that begins with `?` is a variable.
+"""
+from __future__ import annotations
+
+from typing import Any, Iterable
+
+AND, OR, NOT, EXISTS, EQ = "and", "or", "not", "exists", "="
+FORALL, IMPLY = "forall", "imply"
+
+
+def And(*conditions: Any) -> tuple:
+    """All of the conditions hold."""
+    return conditions[0] if len(conditions) == 1 else (AND, *conditions)
+
+
+def Or(*conditions: Any) -> tuple:
+    """One of the conditions holds."""
+    return conditions[0] if len(conditions) == 1 else (OR, *conditions)
+
+
+def Not(condition: Any) -> tuple:
+    """The condition doesn't hold. What no answer has certified counts as false."""
+    return (NOT, condition)
+
+
+def Exists(variables: Iterable[str], condition: Any) -> tuple:
+    """The condition holds of some objects in the place of the variables."""
+    return (EXISTS, tuple(variables), condition)
+
+
+def ForAll(variables: Iterable[str], condition: Any) -> tuple:
+    """The condition holds of all objects: there are none of which it doesn't."""
+    return Not(Exists(variables, Not(condition)))
+
+
+def Imply(premise: Any, conclusion: Any) -> tuple:
+    """Where the premise holds, the conclusion does."""
+    return Or(Not(premise), conclusion)
+
+
+def Equal(first: Any, second: Any) -> tuple:
+    """In a goal: the two are one object. In `init`: the function term `first`, a tuple, has the number `second`."""
+    return (EQ, first, second)
