@@ -20,9 +20,30 @@ if TYPE_CHECKING:
     from .generator import serve
 
 __all__ = [
-    "Action", "And", "Certificate", "Equal", "Exists", "ForAll", "Imply", "Not", "Or", "PDDLProblem",
-    "ProgramNotFoundError", "SamplerError", "Solution", "SolveError", "TextError", "UnsupportedError", "chance",
-    "from_cost_fn", "from_fn", "from_gen_fn", "from_list_fn", "from_sampler", "from_test", "solve",
+    "Action",
+    "And",
+    "Certificate",
+    "Equal",
+    "Exists",
+    "ForAll",
+    "Imply",
+    "Not",
+    "Or",
+    "PDDLProblem",
+    "ProgramNotFoundError",
+    "SamplerError",
+    "Solution",
+    "SolveError",
+    "TextError",
+    "UnsupportedError",
+    "chance",
+    "from_cost_fn",
+    "from_fn",
+    "from_gen_fn",
+    "from_list_fn",
+    "from_sampler",
+    "from_test",
+    "solve",
 ]
 
 
@@ -30,5 +51,6 @@ def __getattr__(name: str) -> Any:
     """`serve` is imported where it is asked for, since that takes standard input and output."""
     if name == "serve":
         from .generator import serve
+
         return serve
     raise AttributeError(f"module {__name__!r} has no attribute {name!r}")

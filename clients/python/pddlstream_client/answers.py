@@ -60,9 +60,17 @@ class Responder:
     protocol: 1 is one tuple a line; with 2 a list function's line has up to 16.
     """
 
-    def __init__(self, streams: Mapping[str, Stream | CostStream], store: Store, *,
-                 objects: Mapping[str, Any] | None = None, widths: Mapping[str, int] | None = None,
-                 seed: object = "", protocol: int = 1, is_alone: bool = True) -> None:
+    def __init__(
+        self,
+        streams: Mapping[str, Stream | CostStream],
+        store: Store,
+        *,
+        objects: Mapping[str, Any] | None = None,
+        widths: Mapping[str, int] | None = None,
+        seed: object = "",
+        protocol: int = 1,
+        is_alone: bool = True,
+    ) -> None:
         if protocol not in (1, 2):
             raise ValueError(f"protocol is 1 or 2, and not {protocol!r}")
         self._streams = checked_streams(streams)
@@ -86,7 +94,7 @@ class Responder:
         instance = self._instance_of(request)
         with instance.lock:
             self._draw(stream, request, instance)
-            told = instance.tuples[request.turn:]
+            told = instance.tuples[request.turn :]
         return tuples_line(told, self._most) if told else "end"
 
     def give_up(self, line: str) -> str:
@@ -126,10 +134,14 @@ class Responder:
 
     def _names(self, stream: str, outputs: Outputs) -> list[str]:
         if not isinstance(outputs, (tuple, list)):
-            raise TypeError(f"{stream} gave {outputs!r:.60}: an answer is a tuple of its outputs; one output is `(value,)`")
+            raise TypeError(
+                f"{stream} gave {outputs!r:.60}: an answer is a tuple of its outputs; one output is `(value,)`"
+            )
         width = self._widths.get(stream, len(outputs))
         if len(outputs) != width:
-            raise ValueError(f"{stream} gave {len(outputs)} values, and its number of outputs is {width}: {outputs!r:.60}")
+            raise ValueError(
+                f"{stream} gave {len(outputs)} values, and its number of outputs is {width}: {outputs!r:.60}"
+            )
         return [self._store.name_of(value) for value in outputs]
 
     def _cost(self, stream: CostStream, request: Request) -> str:
@@ -143,8 +155,10 @@ def checked_streams(streams: Mapping[str, Stream | CostStream]) -> dict[str, Str
     checked: dict[str, Stream | CostStream] = {}
     for name, stream in streams.items():
         if not isinstance(stream, (Stream, CostStream)):
-            raise TypeError(f"the stream {name} is a {type(stream).__name__}: make it by from_gen_fn, from_list_fn, "
-                            "from_fn, from_test or from_cost_fn")
+            raise TypeError(
+                f"the stream {name} is a {type(stream).__name__}: make it by from_gen_fn, from_list_fn, "
+                "from_fn, from_test or from_cost_fn"
+            )
         if name.lower() in checked:
             raise ValueError(f"two streams are named {name.lower()}; capital letters don't count")
         checked[name.lower()] = stream
@@ -158,8 +172,10 @@ def whole_cost(name: str, cost: Any) -> int:
     except AttributeError:
         number = None
     if number is None:
-        raise TypeError(f"{name} gave {cost!r:.60}: a cost is a whole number. Of a float write it in a smaller unit, "
-                        "as round(1000 * cost)")
+        raise TypeError(
+            f"{name} gave {cost!r:.60}: a cost is a whole number. Of a float write it in a smaller unit, "
+            "as round(1000 * cost)"
+        )
     if not 0 <= number <= MOST_COST:
         raise ValueError(f"{name} gave {number}: a cost is at least 0 and at most {MOST_COST:,}")
     return number

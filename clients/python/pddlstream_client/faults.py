@@ -20,10 +20,10 @@ KINDS: dict[str, str] = {
     "duplicate": "this stands a second time, or a term has two values",
     "type-cycle": "a type is above itself",
     "derived-cycle": "a derived predicate rests on itself",
-    "effect-on-static": "a stream's facts are of predicates that no action changes and that aren't derived; nor does an "
-                        "effect or :init set a derived one",
+    "effect-on-static": "a stream's facts are of predicates that no action changes and that aren't derived; nor does "
+    "an effect or :init set a derived one",
     "too-many": "more than 8 variables of a predicate, a function or a side of a stream, 16 in scope, or 64 derived "
-                "predicates",
+    "predicates",
     "stream-cycle": "streams feed themselves: give each round a predicate of its own",
 }
 """The kinds of `fault input`."""

@@ -87,9 +87,16 @@ def _drop_answers() -> None:
     os.close(nothing)
 
 
-def serve(streams: Mapping[str, Stream | CostStream], *, objects: Mapping[str, Any] | None = None,
-          store: str | os.PathLike[str] | Store | None = None, seconds: float | None = None, late: str = "stop",
-          seed: object = "", protocol: int = 1) -> None:
+def serve(
+    streams: Mapping[str, Stream | CostStream],
+    *,
+    objects: Mapping[str, Any] | None = None,
+    store: str | os.PathLike[str] | Store | None = None,
+    seconds: float | None = None,
+    late: str = "stop",
+    seed: object = "",
+    protocol: int = 1,
+) -> None:
     """Answers the planner's requests out of these streams until there are no more.
 
     streams: for each stream of the task its answers, made by `from_gen_fn` and its like.

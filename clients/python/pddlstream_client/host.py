@@ -7,6 +7,8 @@ import traceback
 from dataclasses import dataclass
 from typing import Callable
 
+from .relay import FAILED
+
 
 @dataclass(frozen=True)
 class Failure:
@@ -65,9 +67,9 @@ class Host:
             with connection, connection.makefile("r", encoding="ascii", errors="replace", newline="\n") as lines:
                 for line in lines:
                     reply = self._reply(line)
+                    connection.sendall(FAILED if reply is None else f"{reply}\n".encode("ascii"))
                     if reply is None:
                         return
-                    connection.sendall(f"{reply}\n".encode("ascii"))
         except (OSError, ValueError):
             return
 

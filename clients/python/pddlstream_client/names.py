@@ -72,7 +72,7 @@ def _parts(value: Any) -> list[bytes] | None:
     if any(part is None for part in contents):
         return None
     if type(value) is dict:
-        return sorted(_joined("pair", contents[at:at + 2]) for at in range(0, len(contents), 2))  # type: ignore
+        return sorted(_joined("pair", contents[at : at + 2]) for at in range(0, len(contents), 2))  # type: ignore
     return sorted(contents) if type(value) in (set, frozenset) else contents  # type: ignore
 
 

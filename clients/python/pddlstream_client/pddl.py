@@ -80,10 +80,20 @@ def keys_of(group: Group, first: int = 2) -> dict[str, Node]:
     return keys
 
 
-def variables_of(node: Node | None) -> list[str]:
-    """The variables of a list of variables with or without types."""
-    return [word.low for word in node.items if isinstance(word, Word) and word.text.startswith("?")] \
-        if isinstance(node, Group) else []
+def typed(node: Node | None, first: int = 0) -> list[tuple[str, str]]:
+    """The words of a list with types, each with its type in lower case; `object` where none is said."""
+    words = [word.low for word in node.items[first:] if isinstance(word, Word)] if isinstance(node, Group) else []
+    found: list[tuple[str, str]] = []
+    group: list[str] = []
+    rest = iter(words)
+    for word in rest:
+        if word == "-":
+            sort = next(rest, "object")
+            found += [(name, sort) for name in group]
+            group = []
+        else:
+            group.append(word)
+    return found + [(name, "object") for name in group]
 
 
 def atoms_of(node: Node | None) -> list[Group]:
@@ -108,5 +118,5 @@ def shown(text: str, place: int) -> str:
     """The line of a place, and a caret below it."""
     start = text.rfind("\n", 0, place) + 1
     end = text.find("\n", place)
-    line = text[start:end if end >= 0 else len(text)]
+    line = text[start : end if end >= 0 else len(text)]
     return f"    {line.expandtabs(1)}\n    {' ' * (place - start)}^"

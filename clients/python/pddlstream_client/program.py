@@ -25,8 +25,10 @@ def find_program(given: str | os.PathLike[str] | None = None) -> str:
     found = shutil.which(named or NAME)
     if found is None:
         looked = f"no program that can be run is at {named}" if named else f"there is no {NAME} on PATH"
-        raise ProgramNotFoundError(f"{looked}: name the planner by solve(.., program=PATH) or $PDDLSTREAM. "
-                                   "Built from its repository it is crates/pddlstream/out/pddlstream")
+        raise ProgramNotFoundError(
+            f"{looked}: name the planner by solve(.., program=PATH) or $PDDLSTREAM. "
+            "Built from its repository it is crates/pddlstream/out/pddlstream"
+        )
     return os.path.abspath(found)
 
 
@@ -41,8 +43,8 @@ class Ended:
 def run_program(command: Sequence[str], max_time: float, tell: Callable[[str], None] | None = None) -> Ended:
     """Runs the command for so many seconds at most, and gives what it printed.
 
-    It has a process group of its own; when this returns or raises, nothing of that group runs any more. `tell` is called
-    with each piece of text as it comes.
+    It has a process group of its own; when this returns or raises, nothing of that group runs any more. `tell` is
+    called with each piece of text as it comes.
     """
     deadline = time.monotonic() + max_time
     started = subprocess.Popen(command, stdin=subprocess.DEVNULL, stdout=subprocess.PIPE, start_new_session=True)

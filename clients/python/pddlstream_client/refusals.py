@@ -20,8 +20,8 @@ DOMAIN_LISTS: dict[str, str] = {
 """Lists of a domain, by their first word."""
 
 STREAM_ITEMS: dict[str, str] = {
-    ":predicate": "write a test of the safe case, as (:stream clear :inputs (?a ?b) :domain D :certified (clear ?a ?b)) "
-                  "with from_test, and want (clear ?a ?b), not (not (collides ?a ?b))",
+    ":predicate": "write a test of the safe case with from_test, as (:stream clear :inputs (?a ?b) :domain D "
+    ":certified (clear ?a ?b)), and want (clear ?a ?b) where you want (not (collides ?a ?b))",
     ":optimizer": "write a stream for each variable, and tests for its constraints",
     ":rule": "write it as a :stream without outputs, with from_test(lambda *inputs: True)",
     ":wild-stream": "write a :stream whose :certified names all that an answer makes known",

@@ -14,6 +14,7 @@ from . import relay
 from .answers import Responder
 from .errors import SamplerError, SolveError
 from .faults import fault_of
+from .forms import StreamForm
 from .host import Host
 from .pddl import Group, spelled
 from .program import Ended, find_program, run_program
@@ -21,7 +22,7 @@ from .refusals import refuse_arguments
 from .report import Asked, Report, read_report
 from .store import MemoryStore
 from .streams import CostStream, Stream
-from .task import PDDLProblem, StreamForm, Task, task_of
+from .task import PDDLProblem, Task, task_of
 
 ALGORITHMS = ("adaptive", "binding", "focused", "incremental")
 _MOST_PATH = 100
@@ -37,8 +38,8 @@ class Action(NamedTuple):
 class Certificate(NamedTuple):
     """What a plan may rest on.
 
-    all_facts: the facts of `init`, and behind them what the printed answers certify, in the order of the answers. A cost is
-        `("=", (function, value, ..), number)`.
+    all_facts: the facts of `init`, and behind them what the printed answers certify, in the order of the answers. A
+        cost is `("=", (function, value, ..), number)`.
     objects: the values of the report's objects, by their names there.
     """
 
@@ -55,26 +56,40 @@ class _Answer(NamedTuple):
 class Solution(_Answer):
     """A plan, its cost and its certificate, as `plan, cost, certificate = solution`.
 
-    Where there is no plan, `plan` is None and `cost` infinite. Beside these three, `outcome` is `plan`, `no plan`, `limit
-    calls`, `limit states`, `limit instances`, or `time` where `max_time` was up, and `report` is all that was printed.
+    Where there is no plan, `plan` is None and `cost` infinite. Beside these three, `outcome` is `plan`, `no plan`,
+    `limit calls`, `limit states`, `limit instances`, or `time` where `max_time` was up, and `report` is all that was
+    printed.
     """
 
     outcome: str
     report: str
 
-    def __new__(cls, plan: list[Action] | None, cost: float, certificate: Certificate, outcome: str,
-                report: str) -> Solution:
+    def __new__(
+        cls, plan: list[Action] | None, cost: float, certificate: Certificate, outcome: str, report: str
+    ) -> Solution:
         solution = super().__new__(cls, plan, cost, certificate)
         solution.outcome = outcome
         solution.report = report
         return solution
 
 
-def solve(problem: PDDLProblem, algorithm: str = "adaptive", *, max_time: float = math.inf, unit_costs: bool = False,
-          calls: int | None = None, states: int | None = None, depth: int | None = None, workers: int = 1,
-          seed: object = "", types: Mapping[str, Iterable[Any]] | None = None,
-          program: str | os.PathLike[str] | None = None, verbose: bool = False,
-          keep: str | os.PathLike[str] | None = None, **others: Any) -> Solution:
+def solve(
+    problem: PDDLProblem,
+    algorithm: str = "adaptive",
+    *,
+    max_time: float = math.inf,
+    unit_costs: bool = False,
+    calls: int | None = None,
+    states: int | None = None,
+    depth: int | None = None,
+    workers: int = 1,
+    seed: object = "",
+    types: Mapping[str, Iterable[Any]] | None = None,
+    program: str | os.PathLike[str] | None = None,
+    verbose: bool = False,
+    keep: str | os.PathLike[str] | None = None,
+    **others: Any,
+) -> Solution:
     """Plans by the planner's program, and answers its requests from `problem.stream_map` in this process.
 
     problem: a PDDLProblem, or six values in its order.
@@ -82,17 +97,18 @@ def solve(problem: PDDLProblem, algorithm: str = "adaptive", *, max_time: float 
     max_time: seconds until program and relays are ended. A function that is running then is let run, in its thread.
     unit_costs: each step costs 1; else what `increase` says, where an action of the domain has one.
     calls, states: the most requests, and the most states of a search; the planner's own where None.
-    depth: how often what is supposed may feed what is supposed next; where None, the longest chain of streams, at least 3.
-    workers: how many requests are answered at once, each in a thread. With more than one the functions have to bear that,
-        and draw from `chance()`.
+    depth: how often what is supposed may feed what is supposed next; where None, as many as the longest chain of
+        streams has, at least 3.
+    workers: how many requests are answered at once, each in a thread. With more than one the functions have to bear
+        that, and draw from `chance()`.
     seed: another seed gives other draws.
     types: for a domain with :types, the initial values of each type.
     program: the planner; where None, `$PDDLSTREAM` or `pddlstream` on PATH.
     verbose: prints the report as it comes.
     keep: a folder for the texts and the report, which `replay` judges.
 
-    UnsupportedError names what PDDLStream takes and this doesn't. A fault of the planner is a SolveError, of its texts a
-    TextError, of a stream's function a SamplerError with what the function raised.
+    UnsupportedError names what PDDLStream takes and this doesn't. A fault of the planner is a SolveError, of its texts
+    a TextError, of a stream's function a SamplerError with what the function raised.
     """
     refuse_arguments(others)
     if algorithm not in ALGORITHMS:
@@ -102,10 +118,20 @@ def solve(problem: PDDLProblem, algorithm: str = "adaptive", *, max_time: float 
     problem = problem._replace(init=list(problem.init))
     task = task_of(problem, types, unit_costs)
     store = MemoryStore()
-    responder = Responder(_streams_of(problem.stream_map, task.forms), store, objects=task.objects, seed=seed,
-                          widths={form.name: len(form.outputs) for form in task.forms.values() if form.value is None},
-                          is_alone=workers == 1)
-    options = {"algorithm": algorithm, "calls": calls, "states": states, "depth": task.depth if depth is None else depth}
+    responder = Responder(
+        _streams_of(problem.stream_map, task.forms),
+        store,
+        objects=task.objects,
+        seed=seed,
+        widths={form.name: len(form.outputs) for form in task.forms.values() if form.value is None},
+        is_alone=workers == 1,
+    )
+    options = {
+        "algorithm": algorithm,
+        "calls": calls,
+        "states": states,
+        "depth": task.depth if depth is None else depth,
+    }
     if task.forms:
         options["workers"] = workers
     with _folder() as folder:
@@ -147,8 +173,15 @@ def _folder() -> Iterator[Path]:
         shutil.rmtree(path, ignore_errors=True)
 
 
-def _run(found: str, folder: Path, task: Task, options: Mapping[str, Any], responder: Responder, max_time: float,
-         verbose: bool) -> tuple[Ended, Host]:
+def _run(
+    found: str,
+    folder: Path,
+    task: Task,
+    options: Mapping[str, Any],
+    responder: Responder,
+    max_time: float,
+    verbose: bool,
+) -> tuple[Ended, Host]:
     """Runs the planner with relays as its generators."""
     texts = {"domain.pddl": task.domain, "problem.pddl": task.problem, "streams.pddl": task.streams}
     for name, text in texts.items():
@@ -215,4 +248,7 @@ def _certified(asked: Asked, form: StreamForm, responder: Responder) -> list[tup
 def _fact(atom: Group, terms: Mapping[str, Any], responder: Responder) -> tuple[Any, ...]:
     """An atom with values in the place of its variables; its constants have theirs too."""
     head, *words = map(spelled, atom.items)
-    return (head, *(terms[word.lower()] if word.startswith("?") else responder.value_of(word.lower()) for word in words))
+    return (
+        head,
+        *(terms[word.lower()] if word.startswith("?") else responder.value_of(word.lower()) for word in words),
+    )

@@ -54,8 +54,10 @@ class FileStore:
         try:
             return pickle.dumps(value, protocol=4)
         except Exception as error:
-            raise TypeError(f"a {type(value).__name__} can't be kept in a file ({error}): yield what pickle takes, "
-                            "or call solve, which keeps any value") from error
+            raise TypeError(
+                f"a {type(value).__name__} can't be kept in a file ({error}): yield what pickle takes, "
+                "or call solve, which keeps any value"
+            ) from error
 
     def _write(self, name: str, pickled: bytes) -> None:
         self.folder.mkdir(parents=True, exist_ok=True)
@@ -72,8 +74,10 @@ class FileStore:
         try:
             pickled = (self.folder / name).read_bytes()
         except FileNotFoundError:
-            raise LookupError(f"the value {name} isn't in the store {self.folder}: give every worker the same folder, "
-                              "by serve(.., store=FOLDER) or $PDDLSTREAM_STORE") from None
+            raise LookupError(
+                f"the value {name} isn't in the store {self.folder}: give every worker the same folder, "
+                "by serve(.., store=FOLDER) or $PDDLSTREAM_STORE"
+            ) from None
         return pickle.loads(pickled)
 
 

@@ -7,14 +7,13 @@ from typing import Any, Iterable, Mapping, NamedTuple, Sequence
 
 from .answers import MOST_COST
 from .conditions import AND, EQ, EXISTS, FORALL, IMPLY, NOT, OR, ForAll, Imply
+from .forms import StreamForm, depth_of
 from .names import key_of, literal_name, type_word
-from .pddl import Group, all_groups, atoms_of, keys_of, read_tree, spelled, variables_of
+from .pddl import Group, all_groups, read_tree, spelled, typed
 from .refusals import refuse_domain, refuse_streams
 
 _NAME = re.compile(r"[A-Za-z][A-Za-z0-9_-]*\Z")
 _AT_WORD = re.compile(r"(?<![^\s()])@([A-Za-z][A-Za-z0-9_-]*)")
-LEAST_DEPTH, MOST_DEPTH = 3, 8
-"""The planner's own depth, and its greatest."""
 
 
 class PDDLProblem(NamedTuple):
@@ -23,7 +22,7 @@ class PDDLProblem(NamedTuple):
     domain_pddl: the domain's text.
     constant_map: the values of the domain's constants, by name, with or without `@` in front.
     stream_pddl: the stream file's text, several of them, or None.
-    stream_map: for each stream its answers, made by `from_gen_fn` and its like; a cost stream's may be a plain function.
+    stream_map: for each stream its answers, made by `from_gen_fn` and its like; a cost stream's may be a function.
     init: the initial facts, tuples `(predicate, value, ..)`.
     goal: the goal, a nested tuple.
     """
@@ -34,28 +33,6 @@ class PDDLProblem(NamedTuple):
     stream_map: Mapping[str, Any]
     init: Iterable[Sequence[Any]]
     goal: Any
-
-
-@dataclass(frozen=True)
-class StreamForm:
-    """What a stream's item says. `value` is the term that a cost stream gives a number, None of another stream."""
-
-    name: str
-    inputs: tuple[str, ...]
-    outputs: tuple[str, ...]
-    domain: tuple[Group, ...]
-    certified: tuple[Group, ...]
-    value: Group | None
-
-    @classmethod
-    def of_item(cls, item: Group) -> StreamForm:
-        """Reads `(:stream NAME ..)` or `(:cost-stream NAME ..)`."""
-        keys = keys_of(item)
-        value = keys.get(":value") if item.head == ":cost-stream" else None
-        name = spelled(item.items[1]).lower() if len(item.items) > 1 else ""
-        return cls(name, tuple(variables_of(keys.get(":inputs"))), tuple(variables_of(keys.get(":outputs"))),
-                   tuple(atoms_of(keys.get(":domain"))), tuple(atoms_of(keys.get(":certified"))),
-                   value if isinstance(value, Group) else None)
 
 
 class Objects:
@@ -75,7 +52,7 @@ class Objects:
     @property
     def declared(self) -> list[str]:
         """The names but for the domain's constants."""
-        return list(self.values)[self._constants:]
+        return list(self.values)[self._constants :]
 
     def name_of(self, value: Any) -> str:
         """The value's name, a new one where it has none."""
@@ -110,26 +87,14 @@ def _word_of(value: Any) -> str:
 
 @dataclass(frozen=True)
 class Task:
-    """The three texts of a problem, its initial values by name, and what its streams say."""
+    """The three texts of a problem, its initial values by name, what its streams say, and how long their chains are."""
 
     domain: str
     problem: str
     streams: str
     objects: Mapping[str, Any]
     forms: Mapping[str, StreamForm]
-
-    @property
-    def depth(self) -> int:
-        """How many streams the longest chain has, each feeding the next; 3 at least and 8 at most."""
-        return min(MOST_DEPTH, max([LEAST_DEPTH, *(_chain(form, self.forms, ()) for form in self.forms.values())]))
-
-
-def _chain(form: StreamForm, forms: Mapping[str, StreamForm], above: tuple[str, ...]) -> int:
-    """The streams of the longest chain that ends with this one."""
-    wanted = {atom.head for atom in form.domain}
-    before = [other for other in forms.values() if other.name not in (*above, form.name)
-              and wanted & {atom.head for atom in other.certified}]
-    return 1 + max((_chain(other, forms, (*above, form.name)) for other in before), default=0)
+    depth: int
 
 
 def task_of(problem: PDDLProblem, types: Mapping[str, Iterable[Any]] | None = None, unit_costs: bool = False) -> Task:
@@ -140,13 +105,15 @@ def task_of(problem: PDDLProblem, types: Mapping[str, Iterable[Any]] | None = No
     streams_text, forms = _streams_of(problem.stream_pddl)
     objects = Objects(problem.constant_map or {})
     if types is None and any(group.head == ":types" and group.items[1:] for group in domain.groups()):
-        raise ValueError("the domain has :types: say which initial values have which, as solve(.., types={'cup': ['mug']})")
+        raise ValueError(
+            "the domain has :types: say which initial values have which, as solve(.., types={'cup': ['mug']})"
+        )
     sorts = {objects.name_of(value): sort for sort, values in (types or {}).items() for value in values}
     facts = [_fact_text(fact, objects) for fact in problem.init]
     goal = condition_text(problem.goal, objects)
     has_metric = not unit_costs and any(group.head == "increase" for group in all_groups(domain))
     text = _problem_text(_domain_name(domain), objects, sorts, facts, goal, has_metric)
-    return Task(domain_text, text, streams_text, objects.values, forms)
+    return Task(domain_text, text, streams_text, objects.values, forms, depth_of(forms.values(), domain))
 
 
 def _without_at(text: str) -> str:
@@ -185,16 +152,23 @@ def _function_item(item: Group) -> str:
         raise ValueError(f"{spelled(item)}: a function is (:function (NAME VARIABLES) DOMAIN)")
     inputs = " ".join(map(spelled, term.items[1:]))
     domain = spelled(item.items[2]) if len(item.items) == 3 else "()"
-    value = " ".join([spelled(term.items[0]), *variables_of(term)])
+    value = " ".join([spelled(term.items[0]), *(name for name, _ in typed(term, 1))])
     return f"(:cost-stream {spelled(term.items[0])} :inputs ({inputs}) :domain {domain} :value ({value}))"
 
 
-def _problem_text(domain: str, objects: Objects, sorts: Mapping[str, str], facts: list[str], goal: str,
-                  has_metric: bool) -> str:
-    declared = [f"{name} - {sorts[name]}" if name in sorts else name
-                for name in sorted(objects.declared, key=lambda name: name not in sorts)]
-    lines = [f"(define (problem asked) (:domain {domain})", f"  (:objects {' '.join(declared)})",
-             "\n    ".join(["  (:init", *facts]) + ")", f"  (:goal {goal})"]
+def _problem_text(
+    domain: str, objects: Objects, sorts: Mapping[str, str], facts: list[str], goal: str, has_metric: bool
+) -> str:
+    declared = [
+        f"{name} - {sorts[name]}" if name in sorts else name
+        for name in sorted(objects.declared, key=lambda name: name not in sorts)
+    ]
+    lines = [
+        f"(define (problem asked) (:domain {domain})",
+        f"  (:objects {' '.join(declared)})",
+        "\n    ".join(["  (:init", *facts]) + ")",
+        f"  (:goal {goal})",
+    ]
     return "\n".join([*lines, "  (:metric minimize (total-cost))"] if has_metric else lines) + ")\n"
 
 
@@ -222,8 +196,10 @@ def _fact_text(fact: Any, objects: Objects) -> str:
     if head == EQ:
         term, number = fact[1:] if len(fact) == 3 else (None, None)
         if type(number) is not int or not 0 <= number <= MOST_COST:
-            raise ValueError(f"init has {fact!r:.80}: write Equal((function, value, ..), N) with a whole number N from 0 to "
-                             f"{MOST_COST:,}; of a float a smaller unit, as round(1000 * cost)")
+            raise ValueError(
+                f"init has {fact!r:.80}: write Equal((function, value, ..), N) with a whole number N from 0 to "
+                f"{MOST_COST:,}; of a float a smaller unit, as round(1000 * cost)"
+            )
         return f"(= {_atom_text(term, objects, 'init')} {number})"
     if head in (AND, OR, NOT, EXISTS, FORALL, IMPLY):
         raise ValueError(f"init has {fact!r:.80}: only facts stand there; what isn't said is false")

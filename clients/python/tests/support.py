@@ -60,11 +60,19 @@ def environment(**more: str) -> dict[str, str]:
     return {**os.environ, "PYTHONPATH": path, "PYTHONDONTWRITEBYTECODE": "1", **named, **more}
 
 
-def run_python(script: str, given: str = "", *, folder: str | None = None,
-               **more: str) -> subprocess.CompletedProcess[str]:
+def run_python(
+    script: str, given: str = "", *, folder: str | None = None, **more: str
+) -> subprocess.CompletedProcess[str]:
     """Runs a script with this text as its standard input."""
-    return subprocess.run([sys.executable, "-c", script], input=given, capture_output=True, text=True, cwd=folder,
-                          timeout=60, env=environment(**more))
+    return subprocess.run(
+        [sys.executable, "-c", script],
+        input=given,
+        capture_output=True,
+        text=True,
+        cwd=folder,
+        timeout=60,
+        env=environment(**more),
+    )
 
 
 def processes_with(text: str) -> list[str]:
@@ -98,6 +106,9 @@ class InFolder(unittest.TestCase):
     def replayed(self, folder: Path) -> str:
         """What the planner says of the report in a folder that `keep` names."""
         assert PROGRAM is not None
-        words = [PROGRAM, "replay", *(str(folder / name) for name in
-                                      ("domain.pddl", "problem.pddl", "streams.pddl", "report"))]
+        words = [
+            PROGRAM,
+            "replay",
+            *(str(folder / name) for name in ("domain.pddl", "problem.pddl", "streams.pddl", "report")),
+        ]
         return subprocess.run(words, capture_output=True, text=True, timeout=120).stdout

@@ -27,8 +27,9 @@ def drawn() -> Iterator[tuple[float]]:
 class AnswersTest(unittest.TestCase):
     def test_a_generator_function_gives_one_tuple_after_the_other(self) -> None:
         asked = responder({"grip": from_gen_fn(lambda item: (("left", item), ("right", item)))})
-        self.assertEqual([asked.answer(f"next {k} grip cup\n") for k in range(3)],
-                         ["yield left cup", "yield right cup", "end"])
+        self.assertEqual(
+            [asked.answer(f"next {k} grip cup\n") for k in range(3)], ["yield left cup", "yield right cup", "end"]
+        )
 
     def test_none_among_the_tuples_is_passed_over(self) -> None:
         asked = responder({"grip": from_gen_fn(lambda: iter([None, ("a",), None, ("b",), None]))})
@@ -36,18 +37,24 @@ class AnswersTest(unittest.TestCase):
 
     def test_a_function_gives_one_tuple_or_none(self) -> None:
         asked = responder({"double": from_fn(lambda word: (word * 2,) if word == "a" else None)})
-        self.assertEqual([asked.answer(line) for line in ("next 0 double a", "next 1 double a", "next 0 double b")],
-                         ["yield aa", "end", "end"])
+        self.assertEqual(
+            [asked.answer(line) for line in ("next 0 double a", "next 1 double a", "next 0 double b")],
+            ["yield aa", "end", "end"],
+        )
 
     def test_a_list_function_gives_its_tuples_one_a_line(self) -> None:
         asked = responder({"all": from_list_fn(lambda: [("a",), ("b",)]), "no": from_list_fn(lambda: None)})
-        self.assertEqual([asked.answer(line) for line in ("next 0 all", "next 1 all", "next 2 all", "next 0 no")],
-                         ["yield a", "yield b", "end", "end"])
+        self.assertEqual(
+            [asked.answer(line) for line in ("next 0 all", "next 1 all", "next 2 all", "next 0 no")],
+            ["yield a", "yield b", "end", "end"],
+        )
 
     def test_a_test_holds_or_ends(self) -> None:
         asked = responder({"clear": from_test(lambda word: word == "a")})
-        self.assertEqual([asked.answer(line) for line in ("next 0 clear a", "next 1 clear a", "next 0 clear b")],
-                         ["yield", "end", "end"])
+        self.assertEqual(
+            [asked.answer(line) for line in ("next 0 clear a", "next 1 clear a", "next 0 clear b")],
+            ["yield", "end", "end"],
+        )
 
     def test_a_sampler_is_called_as_often_as_it_may_be(self) -> None:
         asked = responder({"once": from_sampler(lambda: ("a",), max_attempts=2), "more": from_sampler(lambda: ("a",))})
@@ -57,19 +64,28 @@ class AnswersTest(unittest.TestCase):
     def test_a_cost_is_a_whole_number_or_none(self) -> None:
         costs = {"a": 7, "b": 0, "c": 1_000_000, "d": None}
         asked = responder({"turn": from_cost_fn(costs.get)})
-        self.assertEqual([asked.answer(f"next 0 turn {word}") for word in "abcd"],
-                         ["value 7", "value 0", "value 1000000", "end"])
+        self.assertEqual(
+            [asked.answer(f"next 0 turn {word}") for word in "abcd"], ["value 7", "value 0", "value 1000000", "end"]
+        )
 
     def test_a_cost_that_the_planner_does_not_take_is_told(self) -> None:
-        for cost, error in ((1.5, TypeError), (True, TypeError), ("7", TypeError), (-1, ValueError), (1_000_001, ValueError)):
+        for cost, error in (
+            (1.5, TypeError),
+            (True, TypeError),
+            ("7", TypeError),
+            (-1, ValueError),
+            (1_000_001, ValueError),
+        ):
             with self.assertRaises(error):
                 responder({"turn": from_cost_fn(lambda: cost)}).answer("next 0 turn")
 
     def test_inputs_arrive_as_the_objects_that_outputs_were(self) -> None:
         seen: list[Any] = []
         value = {"way": [1.5, None], "name": "Tür"}
-        asked = responder({"plan": from_fn(lambda: (value,)), "look": from_test(lambda *it: seen.append(it) or True)},
-                          objects={"q0": (0.0, 1.0)})
+        asked = responder(
+            {"plan": from_fn(lambda: (value,)), "look": from_test(lambda *it: seen.append(it) or True)},
+            objects={"q0": (0.0, 1.0)},
+        )
         name = asked.answer("next 0 plan").split()[1]
         asked.answer(f"next 0 look #{name} q0 cup")
         self.assertEqual(seen, [(value, (0.0, 1.0), "cup")])
@@ -104,7 +120,9 @@ class AnswersTest(unittest.TestCase):
 
 
 class ChanceTest(unittest.TestCase):
-    REQUESTS = [f"next {turn} {stream} {item}" for stream in ("place", "other") for item in ("cup", "pan") for turn in range(4)]
+    REQUESTS = [
+        f"next {turn} {stream} {item}" for stream in ("place", "other") for item in ("cup", "pan") for turn in range(4)
+    ]
 
     def answers(self, streams: dict[str, Any], requests: list[str], **options: Any) -> dict[str, str]:
         asked = responder(streams, **options)
@@ -120,7 +138,9 @@ class ChanceTest(unittest.TestCase):
             self.assertEqual(self.answers(streams, mixed[::2]), {line: whole[line] for line in mixed[::2]})
 
     def test_instances_and_turns_draw_differently(self) -> None:
-        whole = self.answers({"place": from_gen_fn(lambda item: drawn()), "other": from_gen_fn(lambda item: drawn())}, self.REQUESTS)
+        whole = self.answers(
+            {"place": from_gen_fn(lambda item: drawn()), "other": from_gen_fn(lambda item: drawn())}, self.REQUESTS
+        )
         self.assertEqual(len(set(whole.values())), len(self.REQUESTS))
 
     def test_another_seed_draws_differently(self) -> None:
@@ -163,9 +183,13 @@ class SecondProtocolTest(unittest.TestCase):
         self.assertLess(len(lines), 4)
 
     def test_other_streams_tell_one_tuple_a_line(self) -> None:
-        asked = responder({"one": from_gen_fn(lambda: iter([("a",), ("b",)])), "test": from_test(lambda: True)}, protocol=2)
-        self.assertEqual([asked.answer(line) for line in ("next 0 one", "next 1 one", "next 0 test")],
-                         ["yield a", "yield b", "yield"])
+        asked = responder(
+            {"one": from_gen_fn(lambda: iter([("a",), ("b",)])), "test": from_test(lambda: True)}, protocol=2
+        )
+        self.assertEqual(
+            [asked.answer(line) for line in ("next 0 one", "next 1 one", "next 0 test")],
+            ["yield a", "yield b", "yield"],
+        )
 
     def test_tuples_without_values_stand_alone(self) -> None:
         self.assertEqual(responder({"t": from_list_fn(lambda: [(), ()])}, protocol=2).answer("next 0 t"), "yield")

@@ -15,9 +15,43 @@ except ImportError:
 VALUE = re.compile(r"[!-~]{1,64}\Z")
 RESERVED = set("();#@|")
 
-ODD_VALUES = [None, True, False, 0, 1, -1, 10**70, 0.5, -0.0, 1e-300, float("inf"), float("nan"), 1j, "", "a b", "tür",
-              "x" * 65, "a#b", "~x", "=1", "\ud800", b"bytes", bytearray(b"more"), (), (1,), (1.5, 2), [1, 2], [[]],
-              {"a": [1, 2]}, {1, 2}, frozenset("ab"), tuple(range(100)), object(), lambda: None, NotImplementedError("x")]
+ODD_VALUES = [
+    None,
+    True,
+    False,
+    0,
+    1,
+    -1,
+    10**70,
+    0.5,
+    -0.0,
+    1e-300,
+    float("inf"),
+    float("nan"),
+    1j,
+    "",
+    "a b",
+    "tür",
+    "x" * 65,
+    "a#b",
+    "~x",
+    "=1",
+    "\ud800",
+    b"bytes",
+    bytearray(b"more"),
+    (),
+    (1,),
+    (1.5, 2),
+    [1, 2],
+    [[]],
+    {"a": [1, 2]},
+    {1, 2},
+    frozenset("ab"),
+    tuple(range(100)),
+    object(),
+    lambda: None,
+    NotImplementedError("x"),
+]
 
 
 class NamesTest(unittest.TestCase):
@@ -64,8 +98,13 @@ class NamesTest(unittest.TestCase):
             self.assertIsNone(literal_name(value), value)
 
     def test_equal_contents_made_twice_have_one_name(self) -> None:
-        pairs = [("tür", "tü" + "r"), ({"a": 1, "b": [2]}, {"b": [2], "a": 1}), ({"x", "y", "z"}, {"z", "y", "x"}),
-                 (tuple(range(99)), tuple(list(range(99)))), (float("nan"), -float("nan") * 0)]
+        pairs = [
+            ("tür", "tü" + "r"),
+            ({"a": 1, "b": [2]}, {"b": [2], "a": 1}),
+            ({"x", "y", "z"}, {"z", "y", "x"}),
+            (tuple(range(99)), tuple(list(range(99)))),
+            (float("nan"), -float("nan") * 0),
+        ]
         for one, other in pairs:
             self.assertEqual(MemoryStore().name_of(one), MemoryStore().name_of(other))
 
@@ -86,11 +125,19 @@ class ArrayNamesTest(unittest.TestCase):
     def test_equal_arrays_have_one_name(self) -> None:
         one, other = MemoryStore(), MemoryStore()
         self.assertEqual(one.name_of(numpy.array([1.0, 2.0])), other.name_of(numpy.array([1.0, 2.0])))
-        self.assertEqual(one.name_of(numpy.arange(6).reshape(2, 3).T), other.name_of(numpy.array([[0, 3], [1, 4], [2, 5]])))
+        self.assertEqual(
+            one.name_of(numpy.arange(6).reshape(2, 3).T), other.name_of(numpy.array([[0, 3], [1, 4], [2, 5]]))
+        )
 
     def test_shape_and_kind_of_numbers_tell_arrays_apart(self) -> None:
         store = MemoryStore()
-        arrays = [numpy.zeros(4), numpy.zeros((2, 2)), numpy.zeros(4, dtype="f4"), numpy.zeros(4, dtype="i8"), numpy.float64(0)]
+        arrays = [
+            numpy.zeros(4),
+            numpy.zeros((2, 2)),
+            numpy.zeros(4, dtype="f4"),
+            numpy.zeros(4, dtype="i8"),
+            numpy.float64(0),
+        ]
         self.assertEqual(len({store.name_of(array) for array in arrays}), len(arrays))
 
     def test_an_array_of_objects_has_no_content(self) -> None:

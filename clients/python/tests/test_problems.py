@@ -1,4 +1,4 @@
-"""Problems in the form of PDDLStream's examples, in each algorithm; what the plans do is checked by carrying them out."""
+"""Problems in the form of PDDLStream's examples, in each algorithm; each plan is carried out to see what it does."""
 from __future__ import annotations
 
 from typing import Any, Iterator, Sequence
@@ -47,9 +47,16 @@ class Line:
     goal = (1.0, 0.0)
 
     def problem(self) -> PDDLProblem:
-        init = [("CanMove",), ("HandEmpty",), ("Conf", self.rest), ("AtConf", self.rest), Equal(("total-cost",), 0),
-                *(("Block", block) for block in self.start), *(("Pose", pose) for pose in self.start.values()),
-                *(("AtPose", block, pose) for block, pose in self.start.items())]
+        init = [
+            ("CanMove",),
+            ("HandEmpty",),
+            ("Conf", self.rest),
+            ("AtConf", self.rest),
+            Equal(("total-cost",), 0),
+            *(("Block", block) for block in self.start),
+            *(("Pose", pose) for pose in self.start.values()),
+            *(("AtPose", block, pose) for block, pose in self.start.items()),
+        ]
         stream_map = {
             "sample-pose": from_gen_fn(lambda: (((float(x), 0.0),) for x in (0, 2))),
             "inverse-kinematics": from_fn(lambda pose: ((pose[0], pose[1] + 1.0),)),
@@ -90,7 +97,8 @@ BLOCKS_STREAMS = """
 (define (stream blocks)
   (:stream sample-region :inputs (?b ?r) :domain (and (Block ?b) (Region ?r))
     :outputs (?p) :certified (and (Pose ?b ?p) (Contained ?b ?p ?r)))
-  (:stream test-cfree :inputs (?b1 ?p1 ?b2 ?p2) :domain (and (Pose ?b1 ?p1) (Pose ?b2 ?p2)) :certified (CFree ?b1 ?p1 ?b2 ?p2)))
+  (:stream test-cfree :inputs (?b1 ?p1 ?b2 ?p2) :domain (and (Pose ?b1 ?p1) (Pose ?b2 ?p2))
+    :certified (CFree ?b1 ?p1 ?b2 ?p2)))
 """
 
 
@@ -110,8 +118,10 @@ class Blocks:
             yield (self.pose([at, 0.0]),)
 
     def problem(self) -> PDDLProblem:
-        stream_map = {"sample-region": from_gen_fn(self.samples),
-                      "test-cfree": from_test(lambda b1, p1, b2, p2: b1 == b2 or abs(p1[0] - p2[0]) >= self.width)}
+        stream_map = {
+            "sample-region": from_gen_fn(self.samples),
+            "test-cfree": from_test(lambda b1, p1, b2, p2: b1 == b2 or abs(p1[0] - p2[0]) >= self.width),
+        }
         init = [("Region", self.region)]
         for block, pose in self.start.items():
             init += [("Block", block), ("Pose", block, pose), ("AtPose", block, pose)]
@@ -160,8 +170,12 @@ class ProblemsTest(InFolder):
     def test_no_plan_where_no_sample_is_free(self) -> None:
         blocks = Blocks(False)
         problem = blocks.problem()
-        problem = problem._replace(stream_map={**problem.stream_map, "sample-region": from_list_fn(lambda b, r: [(11.0,)])})
-        problem = problem._replace(stream_map={**problem.stream_map, "test-cfree": from_test(lambda b1, p1, b2, p2: p1 != p2)})
+        problem = problem._replace(
+            stream_map={**problem.stream_map, "sample-region": from_list_fn(lambda b, r: [(11.0,)])}
+        )
+        problem = problem._replace(
+            stream_map={**problem.stream_map, "test-cfree": from_test(lambda b1, p1, b2, p2: p1 != p2)}
+        )
         for algorithm in ALGORITHMS:
             with self.subTest(algorithm):
                 self.assertEqual(solved(problem, algorithm).outcome, "no plan")

@@ -3,16 +3,45 @@ from __future__ import annotations
 
 import io
 import math
+import subprocess
+import sys
 import time
 import unittest
 from contextlib import redirect_stdout
 from typing import Any, Iterator
 from unittest import mock
 
-from pddlstream_client import (Action, Equal, Exists, Not, PDDLProblem, ProgramNotFoundError, SamplerError, SolveError, TextError,
-                               chance, from_fn, from_gen_fn, from_list_fn, from_test, solve)
+from pddlstream_client import (
+    Action,
+    Equal,
+    Exists,
+    Not,
+    PDDLProblem,
+    ProgramNotFoundError,
+    SamplerError,
+    SolveError,
+    TextError,
+    chance,
+    from_fn,
+    from_gen_fn,
+    from_list_fn,
+    from_test,
+    solve,
+)
 
-from .support import ALGORITHMS, FETCH_DOMAIN, FETCH_STREAM, InFolder, fetch_problem, needs_program, processes_with, solved
+from .support import (
+    ALGORITHMS,
+    FETCH_DOMAIN,
+    FETCH_STREAM,
+    PACKAGE,
+    PROGRAM,
+    InFolder,
+    environment,
+    fetch_problem,
+    needs_program,
+    processes_with,
+    solved,
+)
 
 
 class Grip:
@@ -37,8 +66,9 @@ class OutcomesTest(InFolder):
             self.assertEqual(self.replayed(self.folder / algorithm), "valid\n")
 
     def test_adaptive_is_the_algorithm_where_none_is_said(self) -> None:
-        from .support import PROGRAM
-        self.assertIn("pddlstream 1 adaptive\n", solve(fetch_problem(from_fn(lambda cup: ("left",))), program=PROGRAM).report)
+        self.assertIn(
+            "pddlstream 1 adaptive\n", solve(fetch_problem(from_fn(lambda cup: ("left",))), program=PROGRAM).report
+        )
 
     def test_no_plan_is_none_at_infinite_cost(self) -> None:
         for algorithm in ALGORITHMS:
@@ -47,7 +77,9 @@ class OutcomesTest(InFolder):
             self.assertEqual(solution.certificate.all_facts, (("item", "cup"), ("free",)))
 
     def test_a_limit_is_no_plan_either(self) -> None:
-        endless = fetch_problem(from_gen_fn(lambda cup: ((at,) for at in range(10**9))))._replace(goal=("done", "pan"))
+        endless = fetch_problem(from_gen_fn(lambda cup: ((at,) for at in range(10**9))))._replace(
+            goal=("done", "pan")
+        )
         solution = solved(endless, calls=5)
         self.assertEqual((solution.plan, solution.cost, solution.outcome), (None, math.inf, "limit calls"))
         self.assertEqual(solution.certificate.all_facts[2:], tuple(("grip", "cup", at) for at in range(5)))
@@ -57,29 +89,54 @@ class OutcomesTest(InFolder):
         self.assertEqual((solution.plan, solution.cost), ([], 0))
 
     def test_a_task_without_streams_starts_no_relay(self) -> None:
-        problem = PDDLProblem("(define (domain light) (:predicates (on)) (:action press :precondition (not (on)) :effect (on)))",
-                              {}, None, {}, [], ("on",))
+        problem = PDDLProblem(
+            "(define (domain light) (:predicates (on)) (:action press :precondition (not (on)) :effect (on)))",
+            {},
+            None,
+            {},
+            [],
+            ("on",),
+        )
         self.assertEqual(solved(problem).plan, [Action("press", ())])
 
     def test_costs_are_those_of_functions_and_of_init(self) -> None:
         domain = FETCH_DOMAIN.replace("(:action take", "(:functions (effort ?g) (rent ?x))\n (:action take").replace(
-            "(not (free))", "(not (free)) (increase (total-cost) (Effort ?g)) (increase (total-cost) (rent ?x))")
+            "(not (free))", "(not (free)) (increase (total-cost) (Effort ?g)) (increase (total-cost) (rent ?x))"
+        )
         streams = FETCH_STREAM.rstrip()[:-1] + " (:function (Effort ?g) (grip cup ?g)))"
         problem = fetch_problem(from_fn(lambda cup: (0.25,)))._replace(
-            domain_pddl=domain.replace("(:predicates", "(:constants cup) (:predicates"), constant_map={"cup": "cup"}, stream_pddl=streams,
+            domain_pddl=domain.replace("(:predicates", "(:constants cup) (:predicates"),
+            constant_map={"cup": "cup"},
+            stream_pddl=streams,
             init=[("item", "cup"), ("free",), Equal(("rent", "cup"), 30)],
-            stream_map={"grip": from_fn(lambda cup: (0.25,)), "Effort": lambda grip: round(1000 * grip)})
+            stream_map={"grip": from_fn(lambda cup: (0.25,)), "Effort": lambda grip: round(1000 * grip)},
+        )
         solution = solved(problem)
         self.assertEqual(solution.cost, 280)
         self.assertIn(("=", ("Effort", 0.25), 250), solution.certificate.all_facts)
         self.assertEqual(solved(problem, unit_costs=True).cost, 2)
 
     def test_a_goal_with_variables(self) -> None:
-        solution = solved(fetch_problem(from_fn(lambda cup: ("left",)))._replace(goal=Exists(["?g"], ("hold", "cup", "?g"))))
+        solution = solved(
+            fetch_problem(from_fn(lambda cup: ("left",)))._replace(goal=Exists(["?g"], ("hold", "cup", "?g")))
+        )
         self.assertEqual(solution.plan, [Action("take", ("cup", "left"))])
 
     def test_any_value_may_be_what_is_planned_with(self) -> None:
-        for cup in (0.5, (1, (2.0,)), None, "two words", "Tür", b"\0", "x" * 500, float("nan"), [1, 2], {}, object(), lambda: 1):
+        for cup in (
+            0.5,
+            (1, (2.0,)),
+            None,
+            "two words",
+            "Tür",
+            b"\0",
+            "x" * 500,
+            float("nan"),
+            [1, 2],
+            {},
+            object(),
+            lambda: 1,
+        ):
             plan, _, _ = solved(fetch_problem(from_fn(lambda given: (given,) if given is cup else None), cup))
             assert plan is not None
             self.assertIs(plan[0].args[0], cup)
@@ -114,7 +171,9 @@ class OutcomesTest(InFolder):
             inner = solved(fetch_problem(from_list_fn(lambda cup: [("inner",)])))
             return (inner.cost,)
 
-        self.assertEqual(solved(fetch_problem(from_fn(fetch))).plan, [Action("take", ("cup", 2)), Action("drop", ("cup", 2))])
+        self.assertEqual(
+            solved(fetch_problem(from_fn(fetch))).plan, [Action("take", ("cup", 2)), Action("drop", ("cup", 2))]
+        )
 
 
 @needs_program
@@ -148,14 +207,22 @@ class FaultsTest(InFolder):
         problem = fetch_problem(from_fn(lambda cup: None))._replace(init=[("item", "cup"), ("fre",)])
         with self.assertRaises(TextError) as told:
             solved(problem)
-        self.assertRegex(str(told.exception), r"\Afault input problem unknown \d+: problem, line 5, column 6: this name isn't declared")
+        self.assertRegex(
+            str(told.exception),
+            r"\Afault input problem unknown \d+: problem, line 5, column 6: this name isn't declared",
+        )
         self.assertTrue(str(told.exception).endswith("\n        (fre))\n         ^"))
         self.assertEqual(told.exception.status, 4)
 
     def test_streams_that_feed_themselves_are_told(self) -> None:
-        with self.assertRaisesRegex(TextError, "fault input streams stream-cycle .* streams feed themselves: give each round"):
-            solved(fetch_problem(from_test(lambda *it: True))._replace(
-                stream_pddl="(define (stream s) (:stream grip :inputs (?x) :domain (item ?x) :certified (item ?x)))"))
+        with self.assertRaisesRegex(
+            TextError, "fault input streams stream-cycle .* streams feed themselves: give each round"
+        ):
+            solved(
+                fetch_problem(from_test(lambda *it: True))._replace(
+                    stream_pddl="(define (stream s) (:stream grip :inputs (?x) :domain (item ?x) :certified (item ?x)))"
+                )
+            )
 
     def test_an_option_out_of_its_range_is_told(self) -> None:
         with self.assertRaisesRegex(SolveError, "fault usage: an option is out of its range"):
@@ -178,7 +245,9 @@ class ProgramsTest(InFolder):
     PROBLEM = fetch_problem(from_fn(lambda cup: ("left",)))
 
     def test_a_program_that_is_not_there(self) -> None:
-        with self.assertRaisesRegex(ProgramNotFoundError, r"no program that can be run is at /nowhere/pddlstream: .*\$PDDLSTREAM"):
+        with self.assertRaisesRegex(
+            ProgramNotFoundError, r"no program that can be run is at /nowhere/pddlstream: .*\$PDDLSTREAM"
+        ):
             solve(self.PROBLEM, program="/nowhere/pddlstream")
 
     def test_a_file_that_cannot_be_run(self) -> None:
@@ -206,7 +275,9 @@ class ProgramsTest(InFolder):
     def test_a_program_that_hangs_is_ended_with_all_that_it_started(self) -> None:
         mark = f"sleep 98.{time.time_ns()}"
         began = time.monotonic()
-        solution = solve(self.PROBLEM, program=self.program_of(f"echo pddlstream 1 adaptive; {mark} & {mark}"), max_time=0.5)
+        solution = solve(
+            self.PROBLEM, program=self.program_of(f"echo pddlstream 1 adaptive; {mark} & {mark}"), max_time=0.5
+        )
         self.assertEqual((solution.plan, solution.cost, solution.outcome), (None, math.inf, "time"))
         self.assertEqual(solution.report, "pddlstream 1 adaptive\n")
         self.assertLess(time.monotonic() - began, 30)
@@ -231,6 +302,27 @@ class TimeTest(InFolder):
         self.assertEqual(len(running), 2, "the planner and its relay")
         self.assertEqual(processes_with(str(self.folder)), [])
         self.assertEqual(list(self.folder.iterdir()), [])
+
+    def test_a_caller_that_is_killed_leaves_no_planner_behind(self) -> None:
+        script = (
+            "import time\nfrom pddlstream_client import *\nfrom tests.support import fetch_problem\n"
+            "def hang(cup):\n    print('asked', flush=True)\n    time.sleep(60)\n"
+            "solve(fetch_problem(from_fn(hang)), 'focused')\n"
+        )
+        with subprocess.Popen(
+            [sys.executable, "-c", script],
+            stdout=subprocess.PIPE,
+            cwd=PACKAGE,
+            env=environment(TMPDIR=str(self.folder)),
+        ) as started:
+            assert started.stdout is not None
+            self.assertEqual(started.stdout.readline(), b"asked\n")
+            self.assertEqual(len(processes_with(str(self.folder))), 2, "the planner and its relay")
+            started.kill()
+        until = time.monotonic() + 30
+        while processes_with(str(self.folder)) and time.monotonic() < until:
+            time.sleep(0.1)
+        self.assertEqual(processes_with(str(self.folder)), [])
 
     def test_an_error_in_the_caller_ends_the_program(self) -> None:
         class Full(io.StringIO):

@@ -31,14 +31,27 @@ class Body:
 
 class FileStoreTest(InFolder):
     def test_another_store_of_the_folder_finds_each_value(self) -> None:
-        values = [None, "a b", "tür", b"\0\xff", {"a": (1, 2)}, tuple(range(60)), float("inf"), Pose(1.0, 2.0), Fraction(1, 3)]
+        values = [
+            None,
+            "a b",
+            "tür",
+            b"\0\xff",
+            {"a": (1, 2)},
+            tuple(range(60)),
+            float("inf"),
+            Pose(1.0, 2.0),
+            Fraction(1, 3),
+        ]
         store = FileStore(self.folder)
         names = [store.name_of(value) for value in values]
         self.assertEqual([FileStore(self.folder).value_of(name) for name in names], values)
 
     def test_another_process_gives_the_same_name_and_finds_the_value(self) -> None:
-        script = ("import sys; from pddlstream_client.store import FileStore; store = FileStore(sys.stdin.readline().strip());"
-                  "print(store.name_of({'b', 'a', 'c'}), store.value_of(sys.stdin.readline().strip()))")
+        script = (
+            "import sys\nfrom pddlstream_client.store import FileStore\n"
+            "store = FileStore(sys.stdin.readline().strip())\n"
+            "print(store.name_of({'b', 'a', 'c'}), store.value_of(sys.stdin.readline().strip()))"
+        )
         store = FileStore(self.folder)
         kept = store.name_of({"text": "two words"})
         for hash_seed in ("1", "2"):
@@ -93,7 +106,9 @@ class MemoryStoreTest(unittest.TestCase):
 
     def test_many_threads_name_a_value_once(self) -> None:
         store, bodies, names = MemoryStore(), [Body() for _ in range(50)], []
-        threads = [threading.Thread(target=lambda: names.append([store.name_of(body) for body in bodies])) for _ in range(8)]
+        threads = [
+            threading.Thread(target=lambda: names.append([store.name_of(body) for body in bodies])) for _ in range(8)
+        ]
         for thread in threads:
             thread.start()
         for thread in threads:

@@ -1,4 +1,4 @@
-"""The kitchen: an arm of two links over a counter, a sink and a stove, seen from above, and what its streams compute.
+"""The kitchen: an arm of two links over a sink and a stove, seen from above, and what its streams compute.
 
 Lengths are metres and angles radians. The arm turns about the origin. A pose is a point, a grasp the angle from which
 the hand holds, a configuration the angles of shoulder and elbow, and a trajectory a tuple of configurations.
@@ -13,31 +13,30 @@ Point = tuple[float, float]
 Conf = tuple[float, float]
 Traj = tuple[Conf, ...]
 
-LINKS = (0.60, 0.45)                      # upper arm and forearm
-REGIONS = {                               # least x, least y, greatest x, greatest y
-    "counter": (-0.35, 0.45, 0.35, 0.75),
+LINKS = (0.60, 0.45)  # upper arm and forearm
+REGIONS = {  # least x, least y, greatest x, greatest y
     "sink": (0.45, -0.15, 0.75, 0.15),
     "stove": (-0.75, -0.15, -0.45, 0.15),
 }
 RADIUS = {"celery": 0.05, "radish": 0.05}
-GRIP = 0.07                               # from the hand's middle to the food's
-GAP = 0.01                                # what stays free between two things
-STEP = 0.05                               # the most that a joint turns from one point of a trajectory to the next
-REST: Conf = (1.5, -2.0)
-START: dict[str, Point] = {"celery": (-0.20, 0.60), "radish": (0.15, 0.60)}
+GRIP = 0.07  # from the hand's middle to the food's
+GAP = 0.01  # what stays free between two things
+STEP = 0.05  # the most that a joint turns from one point of a trajectory to the next
+REST: Conf = (1.5, 2.0)
+START: dict[str, Point] = {"celery": (-0.20, 0.60), "radish": (0.45, 0.50)}
 
 
 def sample_pose(food: str, region: str) -> Iterator[tuple[Point]]:
     """Points of the region at which the whole food lies in it."""
     x0, y0, x1, y1 = REGIONS[region]
     r = RADIUS[food]
-    for _ in range(4):
+    for _ in range(3):
         yield (round(random.uniform(x0 + r, x1 - r), 3), round(random.uniform(y0 + r, y1 - r), 3)),
 
 
 def sample_grasp(food: str) -> list[tuple[float]]:
     """The angles from which the food is held."""
-    return [(0.0,), (math.pi / 2,), (math.pi,), (-math.pi / 2,)]
+    return [(0.0,), (3.1416,)]
 
 
 def inverse_kinematics(food: str, pose: Point, grasp: float) -> Iterator[tuple[Conf]]:
@@ -56,8 +55,10 @@ def hand(conf: Conf) -> Point:
     """Where the hand is."""
     shoulder, elbow = conf
     upper, fore = LINKS
-    return (upper * math.cos(shoulder) + fore * math.cos(shoulder + elbow),
-            upper * math.sin(shoulder) + fore * math.sin(shoulder + elbow))
+    return (
+        upper * math.cos(shoulder) + fore * math.cos(shoulder + elbow),
+        upper * math.sin(shoulder) + fore * math.sin(shoulder + elbow),
+    )
 
 
 def line(start: Conf, goal: Conf) -> Traj:

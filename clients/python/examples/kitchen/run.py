@@ -1,4 +1,4 @@
-"""Cooks the celery: the kitchen as PDDLStream's users call it.
+"""Cooks the celery, planned in this process.
 
 usage: python3 run.py [ALGORITHM]
 """
@@ -7,36 +7,47 @@ from __future__ import annotations
 import sys
 from pathlib import Path
 
-from pddlstream_client import And, PDDLProblem, from_fn, from_gen_fn, from_list_fn, from_test, solve
+from pddlstream_client import And, PDDLProblem, solve
 
 import kitchen
+from streams import CELERY_START, RADISH_START, STREAMS
 
 HERE = Path(__file__).parent
+TYPES = {
+    "food": ["celery", "radish"],
+    "region": ["sink", "stove"],
+    "pose": [CELERY_START, RADISH_START],
+    "conf": [kitchen.REST],
+}
 
 
 def problem() -> PDDLProblem:
-    """The celery is to be washed and cooked, and the arm to be at rest again; the radish is to stay out of the way."""
-    celery, radish = kitchen.START["celery"], kitchen.START["radish"]
-    init = [("CanMove",), ("HandEmpty",), ("Conf", kitchen.REST), ("AtConf", kitchen.REST),
-            ("Sink", "sink"), ("Stove", "stove"), ("Food", "celery"), ("Pose", "celery", celery),
-            ("AtPose", "celery", celery), ("Obstacle", "radish", radish),
-            ("Stackable", "celery", "sink"), ("Stackable", "celery", "stove")]
+    """The celery is to be washed and cooked, and the arm to be at rest again; the radish stands in the way."""
+    init = [
+        ("HandEmpty",),
+        ("CanMove",),
+        ("Conf", kitchen.REST),
+        ("AtConf", kitchen.REST),
+        ("Sink", "sink"),
+        ("Stove", "stove"),
+        ("Stackable", "celery", "sink"),
+        ("Stackable", "celery", "stove"),
+        ("Graspable", "celery"),
+        ("Pose", "celery", CELERY_START),
+        ("AtPose", "celery", CELERY_START),
+        ("Obstacle", "radish", RADISH_START),
+    ]
     goal = And(("Cooked", "celery"), ("AtConf", kitchen.REST))
-    stream_map = {
-        "sample-pose": from_gen_fn(kitchen.sample_pose),
-        "sample-grasp": from_list_fn(kitchen.sample_grasp),
-        "inverse-kinematics": from_gen_fn(kitchen.inverse_kinematics),
-        "plan-motion": from_fn(kitchen.plan_motion),
-        "test-cfree-pose": from_test(kitchen.cfree_pose),
-        "test-cfree-traj": from_test(kitchen.cfree_traj),
-        "Turn": kitchen.turn,
-    }
-    return PDDLProblem((HERE / "domain.pddl").read_text(), {}, (HERE / "stream.pddl").read_text(), stream_map, init, goal)
+    return PDDLProblem((HERE / "domain.pddl").read_text(), {}, (HERE / "stream.pddl").read_text(), STREAMS, init, goal)
+
+
+def main() -> None:
+    """Plans, and prints the steps, the outcome and the cost."""
+    solution = solve(problem(), algorithm=(sys.argv[1:] or ["adaptive"])[0], types=TYPES)
+    for name, args in solution.plan or []:
+        print(name, *(arg if len(str(arg)) < 30 else f"({len(arg)} points)" for arg in args))
+    print(solution.outcome, solution.cost)
 
 
 if __name__ == "__main__":
-    solution = solve(problem(), algorithm=(sys.argv[1:] or ["adaptive"])[0], depth=4)
-    plan, cost, certificate = solution
-    for action in plan or []:
-        print(action.name, *(value if len(str(value)) < 40 else "..." for value in action.args))
-    print(solution.outcome, cost)
+    main()
