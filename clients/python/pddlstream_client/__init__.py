@@ -10,9 +10,10 @@ from __future__ import annotations
 from typing import TYPE_CHECKING, Any
 
 from .chance import chance
-from .conditions import And, Equal, Exists, ForAll, Imply, Not, Or
+from .conditions import TOTAL_COST, And, Equal, Exists, ForAll, Imply, Not, Or
 from .errors import ProgramNotFoundError, SamplerError, SolveError, TextError, UnsupportedError
-from .solving import Action, Certificate, Solution, solve
+from .solution import Action, Certificate, Solution, print_solution
+from .solving import solve
 from .streams import from_cost_fn, from_fn, from_gen_fn, from_list_fn, from_sampler, from_test
 from .task import PDDLProblem
 
@@ -34,6 +35,7 @@ __all__ = [
     "SamplerError",
     "Solution",
     "SolveError",
+    "TOTAL_COST",
     "TextError",
     "UnsupportedError",
     "chance",
@@ -43,6 +45,7 @@ __all__ = [
     "from_list_fn",
     "from_sampler",
     "from_test",
+    "print_solution",
     "solve",
 ]
 

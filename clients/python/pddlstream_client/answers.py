@@ -1,6 +1,7 @@
 """Answers to requests, line by line, as docs/GENERATORS.md of the planner defines them."""
 from __future__ import annotations
 
+import operator
 import threading
 from typing import Any, Iterator, Mapping, NamedTuple
 
@@ -168,10 +169,10 @@ def checked_streams(streams: Mapping[str, Stream | CostStream]) -> dict[str, Str
 def whole_cost(name: str, cost: Any) -> int:
     """The cost as a number that the planner takes; TypeError or ValueError where it is none."""
     try:
-        number = None if type(cost) is bool else cost.__index__()
-    except AttributeError:
+        number = operator.index(cost)
+    except TypeError:
         number = None
-    if number is None:
+    if number is None or type(cost) is bool:
         raise TypeError(
             f"{name} gave {cost!r:.60}: a cost is a whole number. Of a float write it in a smaller unit, "
             "as round(1000 * cost)"

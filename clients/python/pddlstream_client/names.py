@@ -9,6 +9,7 @@ from __future__ import annotations
 
 import ast
 import hashlib
+import math
 import re
 import sys
 from typing import Any, Hashable
@@ -27,13 +28,13 @@ def is_plain(text: str) -> bool:
     return bool(_PLAIN.match(text)) and not _RESERVED.search(text)
 
 
-def _is_literal(value: object) -> bool:
+def _is_literal(value: Any) -> bool:
     kind = type(value)
     if kind in (tuple, list):
-        return len(value) < LONGEST and all(_is_literal(item) for item in value)  # type: ignore[arg-type]
+        return len(value) < LONGEST and all(_is_literal(item) for item in value)
     if kind is float:
-        return value == value and abs(value) != float("inf")  # type: ignore[arg-type]
-    return value is None or kind is bool or kind is int and abs(value) < 10**LONGEST  # type: ignore[arg-type]
+        return math.isfinite(value)
+    return value is None or kind is bool or kind is int and abs(value) < 10**LONGEST
 
 
 def literal_name(value: object) -> str | None:
@@ -68,12 +69,15 @@ def _array_content(value: Any) -> bytes | None:
 def _parts(value: Any) -> list[bytes] | None:
     """The contents of a container's members, in an order of their own where the container has none."""
     members = [item for pair in value.items() for item in pair] if type(value) is dict else list(value)
-    contents = [_content(item) for item in members]
-    if any(part is None for part in contents):
-        return None
+    contents: list[bytes] = []
+    for item in members:
+        part = _content(item)
+        if part is None:
+            return None
+        contents.append(part)
     if type(value) is dict:
-        return sorted(_joined("pair", contents[at : at + 2]) for at in range(0, len(contents), 2))  # type: ignore
-    return sorted(contents) if type(value) in (set, frozenset) else contents  # type: ignore
+        return sorted(_joined("pair", contents[at : at + 2]) for at in range(0, len(contents), 2))
+    return sorted(contents) if type(value) in (set, frozenset) else contents
 
 
 def _content(value: Any) -> bytes | None:

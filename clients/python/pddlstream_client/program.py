@@ -14,6 +14,8 @@ from typing import IO, Callable, Sequence
 from .errors import ProgramNotFoundError
 
 NAME = "pddlstream"
+GONE_WITHIN = 5.0
+"""Seconds that killed processes get to be gone."""
 
 
 def find_program(given: str | os.PathLike[str] | None = None) -> str:
@@ -78,18 +80,32 @@ def _read(pipe: IO[bytes], deadline: float, tell: Callable[[str], None] | None) 
 
 
 def _wait(started: subprocess.Popen[bytes], deadline: float) -> int | None:
-    """The exit status; None where the deadline comes first."""
-    left = deadline - time.monotonic()
-    try:
-        return started.wait(None if left == math.inf else max(left, 0.1))
-    except subprocess.TimeoutExpired:
-        return None
+    """The exit status; None where the deadline comes first. The process is still there for `_end_group`."""
+    while True:
+        ended = os.waitid(os.P_PID, started.pid, os.WEXITED | os.WNOWAIT | os.WNOHANG)
+        if ended is not None:
+            return ended.si_status if ended.si_code == os.CLD_EXITED else -ended.si_status
+        if time.monotonic() >= deadline:
+            return None
+        time.sleep(0.002)
 
 
 def _end_group(started: subprocess.Popen[bytes]) -> None:
-    """Ends all that the command started, and itself."""
-    try:
-        os.killpg(started.pid, signal.SIGKILL)
-    except (ProcessLookupError, PermissionError):
-        pass
+    """Ends all that the command started, and itself, and waits until they are gone.
+
+    The command is waited for last, so that its number, which is the group's, stays its own until then.
+    """
+    _signal_group(started.pid, signal.SIGKILL)
     started.wait()
+    until = time.monotonic() + GONE_WITHIN
+    while _signal_group(started.pid, 0) and time.monotonic() < until:
+        time.sleep(0.002)
+
+
+def _signal_group(group: int, number: int) -> bool:
+    """Whether there is such a group; it gets the signal."""
+    try:
+        os.killpg(group, number)
+    except (ProcessLookupError, PermissionError):
+        return False
+    return True

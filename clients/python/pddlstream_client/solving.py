@@ -8,7 +8,7 @@ import sys
 import tempfile
 from contextlib import contextmanager
 from pathlib import Path
-from typing import Any, Iterable, Iterator, Mapping, NamedTuple
+from typing import Any, Iterable, Iterator, Mapping
 
 from . import relay
 from .answers import Responder
@@ -20,57 +20,13 @@ from .pddl import Group, spelled
 from .program import Ended, find_program, run_program
 from .refusals import refuse_arguments
 from .report import Asked, Report, read_report
+from .solution import Action, Certificate, Solution
 from .store import MemoryStore
 from .streams import CostStream, Stream
 from .task import PDDLProblem, Task, task_of
 
 ALGORITHMS = ("adaptive", "binding", "focused", "incremental")
 _MOST_PATH = 100
-
-
-class Action(NamedTuple):
-    """A step of a plan: an action's name in lower case, and its values."""
-
-    name: str
-    args: tuple[Any, ...]
-
-
-class Certificate(NamedTuple):
-    """What a plan may rest on.
-
-    all_facts: the facts of `init`, and behind them what the printed answers certify, in the order of the answers. A
-        cost is `("=", (function, value, ..), number)`.
-    objects: the values of the report's objects, by their names there.
-    """
-
-    all_facts: tuple[tuple[Any, ...], ...]
-    objects: Mapping[str, Any]
-
-
-class _Answer(NamedTuple):
-    plan: list[Action] | None
-    cost: float
-    certificate: Certificate
-
-
-class Solution(_Answer):
-    """A plan, its cost and its certificate, as `plan, cost, certificate = solution`.
-
-    Where there is no plan, `plan` is None and `cost` infinite. Beside these three, `outcome` is `plan`, `no plan`,
-    `limit calls`, `limit states`, `limit instances`, or `time` where `max_time` was up, and `report` is all that was
-    printed.
-    """
-
-    outcome: str
-    report: str
-
-    def __new__(
-        cls, plan: list[Action] | None, cost: float, certificate: Certificate, outcome: str, report: str
-    ) -> Solution:
-        solution = super().__new__(cls, plan, cost, certificate)
-        solution.outcome = outcome
-        solution.report = report
-        return solution
 
 
 def solve(
@@ -117,29 +73,32 @@ def solve(
     problem = PDDLProblem(*problem)
     problem = problem._replace(init=list(problem.init))
     task = task_of(problem, types, unit_costs)
-    store = MemoryStore()
-    responder = Responder(
-        _streams_of(problem.stream_map, task.forms),
-        store,
-        objects=task.objects,
-        seed=seed,
-        widths={form.name: len(form.outputs) for form in task.forms.values() if form.value is None},
-        is_alone=workers == 1,
-    )
+    responder = _responder(problem.stream_map, task, seed, workers)
     options = {
         "algorithm": algorithm,
         "calls": calls,
         "states": states,
         "depth": task.depth if depth is None else depth,
     }
-    if task.forms:
-        options["workers"] = workers
+    options |= {"workers": workers} if task.forms else {}
     with _folder() as folder:
         ended, host = _run(found, folder, task, options, responder, max_time, verbose)
         _keep(keep, folder, ended.text)
     report = read_report(ended.text)
     _raise_fault(ended, host, task)
     return _solution(problem, task, responder, ended, report)
+
+
+def _responder(stream_map: Mapping[str, Any], task: Task, seed: object, workers: int) -> Responder:
+    """What answers the requests of a task."""
+    return Responder(
+        _streams_of(stream_map, task.forms),
+        MemoryStore(),
+        objects=task.objects,
+        widths={form.name: len(form.outputs) for form in task.forms.values() if form.value is None},
+        seed=seed,
+        is_alone=workers == 1,
+    )
 
 
 def _streams_of(given: Mapping[str, Any], forms: Mapping[str, StreamForm]) -> dict[str, Stream | CostStream]:

@@ -38,10 +38,11 @@ class FileStore:
         if name is not None:
             return name
         data = content(value)
-        pickled = None if data is not None else self._pickle(value)
-        name = hashed_name(value, data if data is not None else pickled)  # type: ignore[arg-type]
+        if data is None:
+            data = self._pickle(value)
+        name = hashed_name(value, data)
         if not (self.folder / name).exists():
-            self._write(name, pickled if pickled is not None else self._pickle(value))
+            self._write(name, self._pickle(value))
         return name
 
     def value_of(self, name: str) -> Any:

@@ -26,6 +26,7 @@ from pddlstream_client import (
     from_gen_fn,
     from_list_fn,
     from_test,
+    print_solution,
     solve,
 )
 
@@ -148,6 +149,16 @@ class OutcomesTest(InFolder):
             solution = solved(fetch_problem(from_fn(lambda cup: ("left",))), verbose=True)
         self.assertEqual(told.getvalue(), solution.report)
 
+    def test_a_solution_is_printed_with_long_values_cut_short(self) -> None:
+        told = io.StringIO()
+        with redirect_stdout(told):
+            print_solution(solved(fetch_problem(from_fn(lambda cup: ("x" * 500,)))))
+            print_solution(solved(fetch_problem(from_fn(lambda cup: None))))
+        lines = told.getvalue().splitlines()
+        self.assertEqual((lines[0], lines[3]), ("plan, cost 2", "no plan, cost inf"))
+        self.assertRegex(lines[1], r"\A  1\. take 'cup' 'x+\.\.\.x+'\Z")
+        self.assertLessEqual(len(lines[1]), 60)
+
     def test_seeds_draw_differently(self) -> None:
         problem = fetch_problem(from_fn(lambda cup: (chance().random(),)))
         reports = [solved(problem, seed=seed).report for seed in (1, 2, 1)]
@@ -160,10 +171,10 @@ class OutcomesTest(InFolder):
             yield (chance().random(),)
 
         problem = fetch_problem(from_gen_fn(grips))
-        items = [("item", f"cup{number}") for number in range(12)]
-        problem = problem._replace(init=[*items, ("free",)], goal=("done", "cup11"))
-        one, many = solved(problem, workers=1), solved(problem, workers=16)
-        self.assertIn("pool 16 grip\n", many.report)
+        items = [("item", f"cup{number}") for number in range(6)]
+        problem = problem._replace(init=[*items, ("free",)], goal=("done", "cup5"))
+        one, many = solved(problem, workers=1), solved(problem, workers=6)
+        self.assertIn("pool 6 grip\n", many.report)
         self.assertEqual((one.plan, one.certificate.all_facts), (many.plan, many.certificate.all_facts))
 
     def test_it_may_be_called_from_several_solves_at_once(self) -> None:
@@ -227,6 +238,8 @@ class FaultsTest(InFolder):
     def test_an_option_out_of_its_range_is_told(self) -> None:
         with self.assertRaisesRegex(SolveError, "fault usage: an option is out of its range"):
             solved(fetch_problem(from_fn(lambda cup: None)), calls=0)
+        with self.assertRaisesRegex(SolveError, "fault usage: an option is out of its range"):
+            solved(fetch_problem(from_fn(lambda cup: None)), depth=0)
 
     def test_texts_and_report_of_a_fault_are_kept_too(self) -> None:
         with self.assertRaises(SamplerError):

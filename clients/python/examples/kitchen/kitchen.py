@@ -64,7 +64,9 @@ def hand(conf: Conf) -> Point:
 def line(start: Conf, goal: Conf) -> Traj:
     """The joints turn evenly, all the way in small steps."""
     count = max(1, math.ceil(max(abs(b - a) for a, b in zip(start, goal)) / STEP))
-    return tuple(tuple(a + (b - a) * at / count for a, b in zip(start, goal)) for at in range(count + 1))
+    (shoulder, elbow), (turn_by, bend_by) = start, (goal[0] - start[0], goal[1] - start[1])
+    parts = [at / count for at in range(count + 1)]
+    return tuple((round(shoulder + part * turn_by, 4), round(elbow + part * bend_by, 4)) for part in parts)
 
 
 def plan_motion(start: Conf, goal: Conf) -> tuple[Traj] | None:

@@ -6,14 +6,15 @@ from __future__ import annotations
 
 import sys
 from pathlib import Path
+from typing import Any
 
-from pddlstream_client import And, PDDLProblem, solve
+from pddlstream_client import And, PDDLProblem, print_solution, solve
 
 import kitchen
 from streams import CELERY_START, RADISH_START, STREAMS
 
 HERE = Path(__file__).parent
-TYPES = {
+TYPES: dict[str, list[Any]] = {
     "food": ["celery", "radish"],
     "region": ["sink", "stove"],
     "pose": [CELERY_START, RADISH_START],
@@ -41,13 +42,5 @@ def problem() -> PDDLProblem:
     return PDDLProblem((HERE / "domain.pddl").read_text(), {}, (HERE / "stream.pddl").read_text(), STREAMS, init, goal)
 
 
-def main() -> None:
-    """Plans, and prints the steps, the outcome and the cost."""
-    solution = solve(problem(), algorithm=(sys.argv[1:] or ["adaptive"])[0], types=TYPES)
-    for name, args in solution.plan or []:
-        print(name, *(arg if len(str(arg)) < 30 else f"({len(arg)} points)" for arg in args))
-    print(solution.outcome, solution.cost)
-
-
 if __name__ == "__main__":
-    main()
+    print_solution(solve(problem(), algorithm=(sys.argv[1:] or ["adaptive"])[0], types=TYPES))
