@@ -7,8 +7,6 @@ import traceback
 from dataclasses import dataclass
 from typing import Callable
 
-from .relay import FAILED
-
 
 @dataclass(frozen=True)
 class Failure:
@@ -27,7 +25,10 @@ class Host:
     """Answers each line that comes by a relay. The first failure is kept, and ends the relay that it came by."""
 
     def __init__(self, path: str, answer: Callable[[str], str]) -> None:
+        from .relay import FAILED  # here, so that `python3 -m pddlstream_client.relay` doesn't import it twice
+
         self.failure: Failure | None = None
+        self._failed = FAILED
         self._answer = answer
         self._lock = threading.Lock()
         self._connections: list[socket.socket] = []
@@ -67,7 +68,7 @@ class Host:
             with connection, connection.makefile("r", encoding="ascii", errors="replace", newline="\n") as lines:
                 for line in lines:
                     reply = self._reply(line)
-                    connection.sendall(FAILED if reply is None else f"{reply}\n".encode("ascii"))
+                    connection.sendall(self._failed if reply is None else f"{reply}\n".encode("ascii"))
                     if reply is None:
                         return
         except (OSError, ValueError):

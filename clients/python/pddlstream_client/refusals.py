@@ -74,22 +74,23 @@ def refuse_arguments(given: Mapping[str, Any]) -> None:
             raise UnsupportedError(f"solve({name}={value!r:.40}): {advice}")
 
 
-def refuse_domain(tree: Group, text: str) -> None:
-    """UnsupportedError at the first list of the domain that the planner doesn't take."""
-    for group in all_groups(tree):
-        if group.head in DOMAIN_LISTS:
-            raise _refused("domain", text, group.items[0].place, group.head, DOMAIN_LISTS[group.head])
+def domain_refusals(tree: Group, text: str) -> list[str]:
+    """Each list of the domain that the planner doesn't take."""
+    found = [(group.head, group.items[0].place) for group in all_groups(tree) if group.head in DOMAIN_LISTS]
+    return [_refused("domain", text, place, head, DOMAIN_LISTS[head]) for head, place in found]
 
 
-def refuse_streams(tree: Group, text: str) -> None:
-    """UnsupportedError at the first item or key of the stream file that the planner doesn't take."""
+def stream_refusals(tree: Group, text: str) -> list[str]:
+    """Each item and each key of the stream file that the planner doesn't take."""
+    found = []
     for item in tree.groups():
         if item.head in STREAM_ITEMS:
-            raise _refused("streams", text, item.items[0].place, item.head, STREAM_ITEMS[item.head])
-        for word in item.items[1:]:
-            if isinstance(word, Word) and word.low in STREAM_KEYS:
-                raise _refused("streams", text, word.place, word.low, STREAM_KEYS[word.low])
+            found.append(_refused("streams", text, item.items[0].place, item.head, STREAM_ITEMS[item.head]))
+            continue
+        keys = [word for word in item.items[1:] if isinstance(word, Word) and word.low in STREAM_KEYS]
+        found += [_refused("streams", text, word.place, word.low, STREAM_KEYS[word.low]) for word in keys]
+    return found
 
 
-def _refused(name: str, text: str, place: int, what: str, advice: str) -> UnsupportedError:
-    return UnsupportedError(f"{where(text, name, place)}: `{what}` isn't there; {advice}\n{shown(text, place)}")
+def _refused(name: str, text: str, place: int, what: str, advice: str) -> str:
+    return f"{where(text, name, place)}: `{what}` isn't there; {advice}\n{shown(text, place)}"

@@ -10,7 +10,6 @@ from contextlib import contextmanager
 from pathlib import Path
 from typing import Any, Iterable, Iterator, Mapping
 
-from . import relay
 from .answers import Responder
 from .errors import SamplerError, SolveError
 from .faults import fault_of
@@ -150,7 +149,7 @@ def _run(
         command += [] if value is None else [f"--{name}", str(value)]
     socket = str(folder / "socket")
     if task.forms:
-        command += ["--", sys.executable or "python3", "-I", "-S", relay.__file__, socket]
+        command += ["--", sys.executable or "python3", "-I", "-S", str(Path(__file__).with_name("relay.py")), socket]
     host = Host(socket, responder.answer)
     try:
         tell = (lambda text: print(text, end="", flush=True)) if verbose else None
@@ -172,7 +171,10 @@ def _raise_fault(ended: Ended, host: Host, task: Task) -> None:
     failure = host.failure
     if failure is not None:
         last = ended.text.splitlines()[-1:] or ["no line"]
-        raise SamplerError(f"{last[0]}\n{failure.text()}", ended.text, ended.status, failure.request) from failure.error
+        raised = f"{type(failure.error).__name__}: {failure.error}"
+        raise SamplerError(
+            f"{last[0]}: {raised}\n{failure.text()}", ended.text, ended.status, failure.request
+        ) from failure.error
     if ended.status not in (None, 0, 1, 2):
         raise fault_of(ended, {"domain": task.domain, "problem": task.problem, "streams": task.streams})
     if ended.status is not None and not ended.text.endswith("\ndone\n"):

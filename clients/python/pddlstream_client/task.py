@@ -7,10 +7,11 @@ from typing import Any, Iterable, Mapping, NamedTuple, Sequence
 
 from .answers import MOST_COST
 from .conditions import AND, EQ, EXISTS, FORALL, IMPLY, NOT, OR, ForAll, Imply
+from .errors import UnsupportedError
 from .forms import StreamForm, depth_of
 from .names import key_of, literal_name, type_word
 from .pddl import Group, all_groups, read_tree, spelled, typed
-from .refusals import refuse_domain, refuse_streams
+from .refusals import domain_refusals, stream_refusals
 
 _NAME = re.compile(r"[A-Za-z][A-Za-z0-9_-]*\Z")
 _AT_WORD = re.compile(r"(?<![^\s()])@([A-Za-z][A-Za-z0-9_-]*)")
@@ -101,8 +102,12 @@ def task_of(problem: PDDLProblem, types: Mapping[str, Iterable[Any]] | None = No
     """The task of a problem. UnsupportedError, ValueError or TypeError where it can't be one."""
     domain_text = _without_at(problem.domain_pddl)
     domain = read_tree(domain_text, "domain")
-    refuse_domain(domain, domain_text)
-    streams_text, forms = _streams_of(problem.stream_pddl)
+    stream_texts = _texts_of(problem.stream_pddl)
+    trees = [read_tree(text, "streams") for text in stream_texts]
+    refused = [domain_refusals(domain, domain_text), *map(stream_refusals, trees, stream_texts)]
+    if any(refused):
+        raise UnsupportedError("\n".join(line for lines in refused for line in lines))
+    streams_text, forms = _streams_of(stream_texts, trees)
     objects = Objects(problem.constant_map or {})
     if types is None and any(group.head == ":types" and group.items[1:] for group in domain.groups()):
         raise ValueError(
@@ -128,19 +133,20 @@ def _domain_name(domain: Group) -> str:
     raise ValueError("the domain text has no (domain NAME)")
 
 
-def _streams_of(given: str | Sequence[str] | None) -> tuple[str, dict[str, StreamForm]]:
-    """The stream file's text and what its streams say. The one text stays as it is where nothing has another form."""
+def _texts_of(given: str | Sequence[str] | None) -> list[str]:
+    """The texts of stream files, without `@`."""
     texts = [given] if isinstance(given, str) else list(given or ())
     if not all(isinstance(text, str) for text in texts):
         raise TypeError("stream_pddl is a text, several texts, or None")
-    items: list[Group] = []
-    for text in map(_without_at, texts):
-        tree = read_tree(text, "streams")
-        refuse_streams(tree, text)
-        items += [item for item in tree.groups() if item.head.startswith(":")]
+    return [_without_at(text) for text in texts]
+
+
+def _streams_of(texts: list[str], trees: list[Group]) -> tuple[str, dict[str, StreamForm]]:
+    """The stream file's text and what its streams say. The one text stays as it is where nothing has another form."""
+    items = [item for tree in trees for item in tree.groups() if item.head.startswith(":")]
     as_it_is = len(texts) == 1 and not any(item.head == ":function" for item in items)
     lines = [_function_item(item) if item.head == ":function" else spelled(item) for item in items]
-    whole = _without_at(texts[0]) if as_it_is else "\n  ".join(["(define (stream asked)", *lines]) + ")\n"
+    whole = texts[0] if as_it_is else "\n  ".join(["(define (stream asked)", *lines]) + ")\n"
     forms = [StreamForm.of_item(item) for item in read_tree(whole, "streams").groups() if item.head.startswith(":")]
     return whole, {form.name: form for form in forms}
 

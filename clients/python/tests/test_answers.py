@@ -149,6 +149,15 @@ class ChanceTest(unittest.TestCase):
         self.assertEqual(answers[0], answers[2])
         self.assertNotEqual(answers[0], answers[1])
 
+    def test_what_else_draws_goes_on_as_if_there_had_been_no_request(self) -> None:
+        random.seed(5)
+        wanted = [random.random() for _ in range(4)]
+        random.seed(5)
+        asked = responder({"place": from_gen_fn(lambda item: drawn())})
+        for turn, number in enumerate(wanted):
+            self.assertEqual(random.random(), number)
+            asked.answer(f"next {turn} place cup")
+
     def test_outside_of_a_draw_there_is_no_chance(self) -> None:
         with self.assertRaises(LookupError):
             chance()
@@ -158,7 +167,12 @@ class ChanceTest(unittest.TestCase):
         streams = {"place": from_sampler(lambda item: (float(numpy.random.random()),))}
         requests = [f"next {turn} place cup" for turn in range(4)]
         whole = self.answers(streams, requests)
+        numpy.random.seed(5)
+        wanted = list(numpy.random.random(2))
+        numpy.random.seed(5)
+        self.assertEqual(numpy.random.random(), wanted[0])
         self.assertEqual(self.answers(streams, requests[::-1]), whole)
+        self.assertEqual(numpy.random.random(), wanted[1])
         self.assertEqual(len(set(whole.values())), 4)
 
 

@@ -196,7 +196,11 @@ class FaultsTest(InFolder):
             error = told.exception
             self.assertIsInstance(error.__cause__, ZeroDivisionError)
             self.assertEqual((error.request, error.last_line, error.status), ("next 0 grip cup", "fault generator", 7))
-            self.assertTrue(str(error).startswith("fault generator\nat the request: next 0 grip cup\nTraceback"))
+            self.assertTrue(
+                str(error).startswith(
+                    "fault generator: ZeroDivisionError: division by zero\nat the request: next 0 grip cup\nTraceback"
+                )
+            )
 
     def test_another_number_of_values_is_told(self) -> None:
         with self.assertRaisesRegex(SamplerError, "grip gave 2 values, and its number of outputs is 1"):

@@ -194,6 +194,21 @@ class RefusedTest(unittest.TestCase):
         }.items():
             self.refused(advice, streams=f"(define (stream s)\n  {text})")
 
+    def test_all_of_them_are_told_at_once(self) -> None:
+        with self.assertRaises(UnsupportedError) as told:
+            task_of(
+                problem(
+                    domain="(define (domain d)\n(:action a :precondition (imply (p) (forall (?x) (q ?x)))))",
+                    streams="(define (stream s)\n(:stream a :fluents (p) :negate true)\n(:rule))",
+                )
+            )
+        places = [line.split(";")[0] for line in str(told.exception).splitlines() if "isn't there" in line]
+        wanted = [("domain", 2, 27, "imply"), ("domain", 2, 38, "forall"), ("streams", 2, 12, ":fluents")]
+        wanted += [("streams", 2, 25, ":negate"), ("streams", 3, 2, ":rule")]
+        self.assertEqual(
+            places, [f"{name}, line {row}, column {at}: `{what}` isn't there" for name, row, at, what in wanted]
+        )
+
     def test_the_place_is_told_and_shown(self) -> None:
         with self.assertRaises(UnsupportedError) as told:
             task_of(problem(domain="(define (domain d)\n  (:action a\n    :effect (when (p) (q))))"))
