@@ -49,7 +49,11 @@ class PageTest(InFolder):
         """What each command prints, all of them in one shell."""
         script = self.folder / "script"
         script.write_text("".join(f"{command}\nprintf '%s\\n' '{MARK}'\n" for command in commands))
-        names = {"PATH": os.pathsep.join([str(Path(sys.executable).parent), os.environ["PATH"]])}
+        names = {
+            "PIP_DISABLE_PIP_VERSION_CHECK": "1",
+            "LC_ALL": "C.UTF-8",
+            "PATH": os.pathsep.join([str(Path(sys.executable).parent), os.environ["PATH"]]),
+        }
         if HAS_VENV:
             names["PYTHONPATH"] = ""
         done = subprocess.run(
