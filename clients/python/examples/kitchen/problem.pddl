@@ -1,0 +1,8 @@
+(define (problem cook-celery) (:domain kitchen)
+  (:objects celery radish - food sink stove - region celery-start radish-start - pose rest - conf)
+  (:init (HandEmpty) (CanMove) (Conf rest) (AtConf rest)
+    (Sink sink) (Stove stove) (Stackable celery sink) (Stackable celery stove)
+    (Graspable celery) (Pose celery celery-start) (AtPose celery celery-start)
+    (Obstacle radish radish-start))
+  (:goal (and (Cooked celery) (AtConf rest)))
+  (:metric minimize (total-cost)))
