@@ -33,15 +33,18 @@ fn part_of(alloc: Global, line: &[u8]) -> Result<Part, AllocError> {
 }
 
 /// Adds a text for each number from one to before another: `FIRST END TEXT`, where `%` in the text
-/// stands for the number and `~` for a line feed.
+/// stands for the number, `^` for the next one and `~` for a line feed.
 fn add_numbered(alloc: Global, text: &mut Vec<u8>, line: &[u8]) -> Result<(), AllocError> {
     let (first, rest) = first_word(line);
     let (end, pattern) = first_word(rest);
     for count in number(first)..number(end) {
         let digits = format!(in alloc; "{count}")?;
+        let next = count.saturating_add(1);
+        let next_digits = format!(in alloc; "{next}")?;
         for byte in pattern {
             match byte {
                 b'%' => text.extend_from_slice(digits.as_bytes())?,
+                b'^' => text.extend_from_slice(next_digits.as_bytes())?,
                 b'~' => text.push(b'\n')?,
                 _ => text.push(*byte)?,
             }
