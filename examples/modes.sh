@@ -20,7 +20,7 @@ row() {
 
 echo '| Task | `incremental` | `focused` | `binding` | `adaptive` |'
 echo '|---|---|---|---|---|'
-row shelf "$here/crates/worked_runs/data/shelf" -- sh shelf.sh
+row shelf "$here/crates/row_runs/data/shelf" -- sh shelf.sh
 row 'tray, `--depth 4`' "$here/examples/tray" --depth 4 -- python3 tray.py
 row grid "$here/examples/grid" -- @grid grid.txt
 row arms "$here/examples/arms" -- python3 arms.py

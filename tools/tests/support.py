@@ -16,7 +16,7 @@ sys.path.insert(0, TOOLS)
 
 TRAY = os.path.join(ROOT, "examples", "tray")
 GRID = os.path.join(ROOT, "examples", "grid")
-SHELF = os.path.join(ROOT, "crates", "worked_runs", "data", "shelf")
+SHELF = os.path.join(ROOT, "crates", "row_runs", "data", "shelf")
 FETCH = os.path.join(ROOT, "crates", "pddlstream", "data")
 MODES = ("incremental", "focused", "binding", "adaptive")
 PROGRAM = os.path.abspath(shutil.which(os.environ.get("PDDLSTREAM", "")) or "/no/program")
