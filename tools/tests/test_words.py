@@ -1,22 +1,21 @@
 """Why words mean no command."""
 import os
-import re
 import unittest
 
 from support import ROOT
 from common.words import usage_cause
 
-ROW = re.compile(r'\(\s*"((?:[^"\\]|\\.)*)",\s*"((?:[^"\\]|\\.)*)",?\s*\)')
-
 
 def rows() -> list[tuple[list[str], bool]]:
-    """The lines of words that the tests of the crate have, and whether they are refused."""
-    found = []
-    for name in ("solve", "replay", "generate"):
-        path = os.path.join(ROOT, "crates", "command_line_tests", "src", f"{name}_tests.rt")
-        with open(path, encoding="utf-8") as file:
-            found += [(["" if word == "_" else word for word in line.split(" ")], wanted == "usage")
-                      for line, wanted in ROW.findall(file.read())]
+    """The lines of words that the rows of commands have, and whether they are refused."""
+    found, is_command = [], False
+    with open(os.path.join(ROOT, "crates", "part_rows", "stdout"), encoding="utf-8") as file:
+        for line in file.read().split("\n"):
+            if line.startswith("# "):
+                is_command = line == "# command"
+            elif is_command and line.startswith("> "):
+                words, _, wanted = line[2:].partition(" => ")
+                found.append((["" if word == "_" else word for word in words.split(" ")], wanted == "usage"))
     return found
 
 
