@@ -8,6 +8,7 @@ ghost use Rattle.io_world.specs.declared.host.HostFault.TheVariants.{Failed};
 use crate::Generator;
 use io_world::{FaultCount, HostFault, read_some, write_some};
 use std::alloc::{AllocError, Global};
+use std::io::{self, ErrorKind};
 use std::process::{Child, Command, OpenProcess, Processes, Stdio};
 
 /// A program that was started, with the pipes to it and from it.
@@ -60,15 +61,26 @@ fn command(alloc: Global, argv: &[String]) -> Result<Command, AllocError>
     Ok(command)
 }
 
-/// Starts the command. Where it has no pipes, it is ended again.
-fn launch<R: Processes>(command: &mut Command, rt: &R) -> Option<Running<R::Started>> {
-    let mut child = command.spawn(rt).ok()?;
+/// What it means for the host that a program could not be started so: want of memory, or a fault.
+fn fault_of(error: &io::Error) -> HostFault {
+    match error.kind() {
+        ErrorKind::OutOfMemory => HostFault::Memory,
+        _ => HostFault::Failed,
+    }
+}
+
+/// Starts the command. Where it has no pipes, it is ended again, which is a fault.
+fn launch<R: Processes>(command: &mut Command, rt: &R) -> Result<Running<R::Started>, HostFault> {
+    let mut child = match command.spawn(rt) {
+        Ok(child) => child,
+        Err(error) => return Err(fault_of(&error)),
+    };
     let (Some(input), Some(output)) = (child.stdin.take(), child.stdout.take()) else {
         let _ = child.kill();
         let _ = child.wait();
-        return None;
+        return Err(HostFault::Failed);
     };
-    Some(Running {
+    Ok(Running {
         child,
         input,
         output,
@@ -95,11 +107,14 @@ impl<R: Processes + Drop> Generator for ChildGen<R> {
         let Ok(mut command) = command(self.alloc, argv) else {
             return Err(HostFault::Memory);
         };
-        let Some(running) = launch(&mut command, &self.rt) else {
-            return Err(failed(&mut self.faults));
-        };
-        self.running = Some(running);
-        Ok(())
+        match launch(&mut command, &self.rt) {
+            Ok(running) => {
+                self.running = Some(running);
+                Ok(())
+            }
+            Err(HostFault::Memory) => Err(HostFault::Memory),
+            Err(HostFault::Failed) => Err(failed(&mut self.faults)),
+        }
     }
 
     fn send(&mut self, bytes: &[u8]) -> Result<usize, HostFault>

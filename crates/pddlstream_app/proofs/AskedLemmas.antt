@@ -11,7 +11,7 @@ use Rattle.pddlstream_app.specs.Asked.{AsksAll, AsksAllOf, AsksBefore, AsksFiles
 use Rattle.command_line.specs.Words.{Command, SolveWords, command_of, generate, replay, solve}
 use Rattle.pddlstream_app.proofs.InputsLemmas.{is_of_input, made_nothing}
 use Rattle.pddlstream_app.specs.Files.{file_of}
-use Rattle.pddlstream_app.specs.Inputs.{EndsReading, HasNoInput, ReadsNothing, SolvesNothing, file_at, files_named}
+use Rattle.pddlstream_app.specs.Inputs.{EndsReading, HasNoInput, ReadsNothing, SolvesNothing, file_at, files_named, seen_made}
 use Rattle.pddlstream_app.specs.declared.stop.FileRole.TheVariants as role
 use Rattle.pddlstream_app.specs.declared.stop.Text.TheVariants.{Domain, Problem, Streams}
 use Rattle.pddlstream_app.specs.Outside.{FilesSeen, Outside, Written}
@@ -19,7 +19,7 @@ use Rattle.pddlstream_app.specs.Replays.{kind_of_verdict}
 use Rattle.pddlstream_app.specs.Runs.{ClosesRun, HasOutcome, HasVerdict, IsBeforeLast, IsCompleted, IsLined, IsVerdictSaid, IsStopped, outcome_status}
 use Rattle.level_run.specs.declared.mode_run.Ran.{Ran}
 use Rattle.pddlstream_app.specs.Solving.{HasNoReport, IsSolved}
-use Rattle.pddlstream_app.specs.Works.{made_files, made_words}
+use Rattle.pddlstream_app.specs.Works.{made_words}
 use Rattle.io_world.specs.Faults.{Extends}
 use Rattle.io_world.specs.Talks.{Event, Talk}
 use Rattle.replay_check.specs.declared.verdict.Verdict.{Verdict}
@@ -151,7 +151,7 @@ module _ (words : List (List ℕ)) (files : FilesSeen) (number : ℕ) (meant : c
   asks_making = record { command = generate number; meant = meant; asks = record { all = []; are = refl; asked = nothing } }
 
   -- it has no report
-  pub asked_unmade : (made : FilesSeen) → made.told ≡ Some (made_files number) → (w : SolveWords) → w ≡ made_words
+  pub asked_unmade : (made : FilesSeen) → made ≡ seen_made number → (w : SolveWords) → w ≡ made_words
       → (spoken : ℕ → Option Talk) (was now : Option (List Event)) (written : Written) (why : Stop)
       → HasNoReport w (record { files = made; spoken = spoken; was = was; now = now }) written why
       → AsksBefore words files why

@@ -15,10 +15,10 @@ use Rattle.task_reader.specs.declared.refusal.InputRefusal.{InputRefusal}
 use Rattle.task_reader.specs.declared.refusal.InputRefusal.TheVariants as refusal
 use Rattle.command_line.specs.Words.{Command, ReplayWords, SolveWords, TaskFiles, command_of, generate, replay, solve}
 use Rattle.pddlstream_app.specs.Files.{AreBytes, FileWanted, HasBytes, file_of}
-use Rattle.pddlstream_app.specs.Inputs.{AreAccepted, EndsAtFile, EndsHere, EndsReading, HasNoInput, IsInputRefused, IsTaskOf, MayEnd, ReadsNothing, SolvesNothing, ask, files_named, reads, stop_for, task_files}
+use Rattle.pddlstream_app.specs.Inputs.{AreAccepted, EndsAtFile, EndsHere, EndsReading, HasNoInput, IsInputRefused, IsTaskOf, MayEnd, ReadsNothing, SolvesNothing, ask, files_named, reads, seen_made, stop_for, task_files}
 use Rattle.pddlstream_app.specs.Outside.{FilesSeen}
 use Rattle.pddlstream_app.specs.Stop.{IsOfInput}
-use Rattle.pddlstream_app.specs.Works.{made_files, made_words}
+use Rattle.pddlstream_app.specs.Works.{made_words}
 use Rattle.round_run.specs.declared.fault.RunFault.TheVariants as fault
 use Rattle.pddlstream_app.specs.declared.stop.Stop.{Stop}
 use Rattle.pddlstream_app.specs.declared.stop.Stop.TheVariants.{Usage, Input, Map, Grid, Failed, TooLong, Run}
@@ -146,7 +146,7 @@ command_input : (command : Command) (files : FilesSeen) (why : Stop) → ReadsNo
     → IsOfInput why
 command_input (solve w) files why n = solving_input w files why n
 command_input (replay w) files why n = reading_input (replay w) files why n
-command_input (generate number) files why n = solving_input made_words n.made why n.cause
+command_input (generate number) files why n = solving_input made_words (seen_made number) why n.cause
 
 pub is_of_input : (words : List (List ℕ)) (files : FilesSeen) (why : Stop) → HasNoInput words files why
     → IsOfInput why
@@ -155,12 +155,15 @@ is_of_input words files why n = command_input n.command files why n.cause
 -- what the words name that stand for a number is no input, so the task of the number isn't
 pub made_nothing : (words : List (List ℕ)) (files made : FilesSeen) (number : ℕ)
     → command_of words ≡ Some (generate number) → Extends files.before files.after []
-    → made.told ≡ Some (made_files number) → (w : SolveWords) → w ≡ made_words
+    → made ≡ seen_made number → (w : SolveWords) → w ≡ made_words
     → (why : Stop) → SolvesNothing w made why → HasNoInput words files why
 made_nothing words files made number meant nothing are w is why cause = record {
   command = generate number;
   meant = meant;
-  cause = record { made = made; are = are; cause = subst (λ u. SolvesNothing u made why) is cause; asked_for = nothing };
+  cause = record {
+    cause = subst (λ seen. SolvesNothing made_words seen why) are (subst (λ u. SolvesNothing u made why) is cause);
+    asked_for = nothing;
+  };
 }
 
 -- a run that ends so has no fault of the host, nor of the sink

@@ -8,3 +8,4 @@ pub mod HeadlineLemmas
 pub mod PoolsLemmas
 pub mod RefusalsLemmas
 pub mod CausesLemmas
+pub mod LeavesLemmas

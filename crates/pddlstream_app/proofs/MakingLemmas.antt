@@ -1,7 +1,9 @@
 -- How runs end in which the task of a number is made and solved.
-use Rattle.std.proofs.Common.{◌≡◌, ℕ, arith, List, [], Option, Some, refl, sym, subst, ap, ◌∙◌, inl, inr, Result, Ok, Err, IfOk, IfErr}
+use Rattle.std.proofs.Common.{◌≡◌, ℕ, arith, List, [], Option, None, Some, refl, sym, subst, ap, ◌∙◌, inl, inr, Result, Ok, Err, IfOk, IfErr}
 use Rattle.std.specs.Io.KnownBytes.{Appends}
+use Rattle.grid_text.specs.Tasks.{grid_task}
 use Rattle.io_world.specs.Faults.{Extends}
+use Rattle.io_world.specs.FileMap.{StoredFile, map_or_empty}
 use Rattle.report_text.proofs.PrintsLemmas.{appends_none}
 use Rattle.round_run.specs.declared.fault.RunFault.TheVariants as fault
 use Rattle.level_run.specs.declared.mode_run.Ran.{Ran}
@@ -11,10 +13,11 @@ use Rattle.command_line.specs.Ranges.{AreInRange}
 use Rattle.command_line.specs.Words.{SolveWords, command_of, generate}
 use Rattle.pddlstream_app.proofs.InputsLemmas.{made_nothing}
 use Rattle.pddlstream_app.proofs.RunsLemmas.{completed_with, outcome_with, stopped_reading, stopped_with, unwritten}
-use Rattle.pddlstream_app.specs.Outside.{FilesSeen, Outside, Written}
+use Rattle.pddlstream_app.specs.Inputs.{seen_made}
+use Rattle.pddlstream_app.specs.Outside.{FilesSeen, Outside, Written, unread}
 use Rattle.pddlstream_app.specs.Runs.{HasOutcome, IsCompleted, IsLined, IsStopped, outcome_status, shown_text}
 use Rattle.pddlstream_app.specs.Solving.{HasNoReport, IsPosed, IsSolved}
-use Rattle.pddlstream_app.specs.Works.{made_files, made_line, made_words, making}
+use Rattle.pddlstream_app.specs.Works.{made_files, made_line, made_words, making, stored_task}
 use Rattle.pddlstream_app.specs.declared.status.Status.{Status}
 use Rattle.pddlstream_app.specs.declared.stop.Stop.{Stop}
 use Rattle.pddlstream_app.specs.declared.stop.Stop.TheVariants as stop
@@ -29,8 +32,13 @@ made_in_range w is = subst AreInRange (sym is) (record {
   alone = λ path e. absurd (cc);
 })
 
+-- files with these texts tell what the files of the number's task do
+pub made_seen : (number : ℕ) (files : List StoredFile) → files ≡ stored_task (grid_task number)
+    → unread (Some (map_or_empty files)) 0 None ≡ seen_made number
+made_seen number files is = ap (λ stored. unread (Some (map_or_empty stored)) 0 None) is
+
 module _ (words : List (List ℕ)) (outside : Outside) (number : ℕ) (meant : command_of words ≡ Some (generate number))
-    (nothing : Extends outside.files.before outside.files.after []) (made : FilesSeen) (are : made.told ≡ Some (made_files number))
+    (nothing : Extends outside.files.before outside.files.after []) (made : FilesSeen) (are : made ≡ seen_made number)
     (w : SolveWords) (same : w ≡ made_words) where
   -- over the files that are made
   abbrev within : Outside
@@ -39,7 +47,7 @@ module _ (words : List (List ℕ)) (outside : Outside) (number : ℕ) (meant : c
   posed_made : (task : Task) (head : Head) → IsPosed made.told w task head
       → IsPosed (Some (made_files number)) made_words task head
   posed_made task head p =
-      subst (λ u. IsPosed (Some (made_files number)) u task head) same (subst (λ o. IsPosed o w task head) are p)
+      subst (λ u. IsPosed (Some (made_files number)) u task head) same (subst (λ seen. IsPosed seen.told w task head) are p)
 
   module _ (inner outer : Written) (ran : Ran) (s : IsSolved w within inner ran) where
     abbrev line : List ℕ

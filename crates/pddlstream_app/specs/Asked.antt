@@ -6,10 +6,11 @@ use Rattle.round_run.specs.declared.fault.RunFault.TheVariants as fault
 use Rattle.command_line.specs.Words.{Command, command_of}
 use Rattle.pddlstream_app.specs.Files.{FileWanted}
 use Rattle.pddlstream_app.specs.Inputs.{AreFilesOf, FileAnswer, HasNoInput, MayBeFilesOf, ask, reads}
-use Rattle.pddlstream_app.specs.Outside.{FilesSeen, Written}
+use Rattle.pddlstream_app.specs.Outside.{FilesSeen, HaveFailed, Written}
 use Rattle.pddlstream_app.specs.Stop.{status_at, last_text}
 use Rattle.pddlstream_app.specs.declared.status.Status.{Status}
 use Rattle.pddlstream_app.specs.declared.status.Status.TheVariants.{Usage, Input, ReadFault, WriteFault, Memory}
+use Rattle.pddlstream_app.specs.declared.stop.FileRole.{FileRole}
 use Rattle.pddlstream_app.specs.declared.stop.Stop.{Stop}
 use Rattle.pddlstream_app.specs.declared.stop.Stop.TheVariants as stop
 
@@ -58,6 +59,16 @@ pub record AsksToNamed (words : List (List ℕ)) (files : FilesSeen) (written : 
   pub kind : status_at why ≡ status
   pub cause : HasNoInput words files why
   pub took : Appends written.before written.after (last_text why)
+
+-- The last line names a file that has more bytes than it may have.
+pub record NamesLongFile (words : List (List ℕ)) (files : FilesSeen) (written : Written) : Type 0 where
+  pub which : FileRole
+  pub cause : HasNoInput words files (stop.TooLong which)
+  pub took : Appends written.before written.after (last_text (stop.TooLong which))
+
+-- why a file was not read: the files' count of faults rose, or the file that the last line names is too long
+abbrev pub HasReadCause : List (List ℕ) → FilesSeen → Written → Type 0
+HasReadCause words files written = HaveFailed files ⊎ NamesLongFile words files written
 
 -- which files a run asks for that ends so
 abbrev pub AsksFiles : List (List ℕ) → FilesSeen → Written → Status → Type 0

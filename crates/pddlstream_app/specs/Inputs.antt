@@ -12,7 +12,7 @@ use Rattle.task_reader.specs.Texts.{SpellsDomain, SpellsProblem, RefusesDomain}
 use Rattle.task_reader.specs.declared.refusal.FaultKind.{FaultKind}
 use Rattle.task_reader.specs.declared.refusal.InputRefusal.{InputRefusal}
 use Rattle.task_reader.specs.declared.refusal.InputRefusal.TheVariants as refusal
-use Rattle.pddlstream_app.specs.Outside.{FilesSeen, HaveFailed}
+use Rattle.pddlstream_app.specs.Outside.{FilesSeen, HaveFailed, unread}
 use Rattle.command_line.specs.Words.{Command, SolveWords, TaskFiles, command_of, generate, replay, solve}
 use Rattle.grid_text.specs.Files.{BlamesGridText}
 use Rattle.grid_text.specs.declared.fault.GridFault.{GridFault}
@@ -192,11 +192,13 @@ pub record HasNoPool (asked : SolveWords) (files : FilesSeen) (why : Stop) : Typ
 abbrev pub SolvesNothing : SolveWords → FilesSeen → Stop → Type 0
 SolvesNothing w files why = EndsReading (solve w) files why ⊎ HasNoPool w files why
 
+-- what the files of the task of a number tell: their texts, and no fault
+abbrev pub seen_made : ℕ → FilesSeen
+seen_made number = unread (Some (made_files number)) 0 None
+
 -- The task of a number is made, and its texts are no input, for this cause. No file was asked for.
 pub record MakesNothing (number : ℕ) (files : FilesSeen) (why : Stop) : Type 0 where
-  pub made : FilesSeen
-  pub are : made.told ≡ Some (made_files number)
-  pub cause : SolvesNothing made_words made why
+  pub cause : SolvesNothing made_words (seen_made number) why
   pub asked_for : Extends files.before files.after []
 
 -- what a command reads is no input, for this cause

@@ -1,5 +1,5 @@
 -- What a run of the program is, what it writes, and how it ends.
-use Rattle.std.specs.Prelude.{◌≡◌, ◌⊎◌, ℕ, ◌<◌, ◌≤◌, List, [], ◌++◌, length, take, true, MatchBool, Option, None, Some, Result, Ok, Err, ⊤, count_by}
+use Rattle.std.specs.Prelude.{◌≡◌, ◌⊎◌, ℕ, ◌<◌, ◌≤◌, List, [], ◌++◌, length, take, true, MatchBool, Option, None, Some, Result, Ok, Err, IfErr, ⊤, count_by}
 use Rattle.std.proofs.Common.{inl, inr}
 use Rattle.std.specs.Io.KnownBytes.{Appends}
 use Rattle.io_world.specs.FileMap.{FileMap}
@@ -35,7 +35,7 @@ use Rattle.pddlstream_app.specs.declared.stop.FileRole.TheVariants as role
 use Rattle.round_run.specs.declared.fault.RunFault.{RunFault}
 use Rattle.round_run.specs.declared.fault.RunFault.TheVariants as fault
 use Rattle.pddlstream_app.specs.declared.status.Status.{Status}
-use Rattle.pddlstream_app.specs.declared.status.Status.TheVariants.{Plan, NoPlan, Limit, WriteFault, Memory}
+use Rattle.pddlstream_app.specs.declared.status.Status.TheVariants.{Plan, NoPlan, Limit, Usage, Input, ReadFault, WriteFault, Memory}
 use Rattle.pddlstream_app.specs.declared.stop.Stop.{Stop}
 use Rattle.pddlstream_app.specs.declared.stop.Stop.TheVariants as stop
 
@@ -225,7 +225,32 @@ abbrev pub LeavesReplays : List (List ℕ) → Outside → Type 0
 LeavesReplays words outside =
     (asked : ReplayWords) → command_of words ≡ Some (replay asked) → IsUntouched outside
 
+-- the words, a file or a text ended the run, before a child was to be asked
+abbrev pub IsBeforeHost : Status → Type 0
+IsBeforeHost Usage = ⊤
+IsBeforeHost Input = ⊤
+IsBeforeHost ReadFault = ⊤
+IsBeforeHost status = ⊥
+
+-- The host is as it was: of a replay and of words that mean no command, however the call ends; and where the words, a
+-- file or a text ended the run.
+pub record LeavesHost {H : Type 0} (words : List (List ℕ)) (status : Status) (old new : H) : Type 0 where
+  pub replay : (asked : ReplayWords) → command_of words ≡ Some (replay asked) → new ≡ old
+  pub usage : command_of words ≡ None → new ≡ old
+  pub input : IsBeforeHost status → new ≡ old
+
 -- ---- the parts of a run
+
+-- the run stopped at the words, a file or a text
+abbrev pub IsAtText : Stop → Type 0
+IsAtText (stop.Run f) = ⊥
+IsAtText why = ⊤
+
+-- the same of the host where a run stops, or not
+pub record SparesHost {H : Type 0} (words : List (List ℕ)) (result : Result Status Stop) (old new : H) : Type 0 where
+  pub replay : (asked : ReplayWords) → command_of words ≡ Some (replay asked) → new ≡ old
+  pub usage : command_of words ≡ None → new ≡ old
+  pub input : IfErr result (λ why. IsAtText why → new ≡ old)
 
 -- The run has an outcome, and its report was written; or the report was judged, and the verdict was written.
 pub record IsCompleted (words : List (List ℕ)) (outside : Outside) (written : Written) (status : Status) : Type 0 where

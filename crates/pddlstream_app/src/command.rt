@@ -1,13 +1,13 @@
 //! The program's call.
 ghost use Rattle.std.specs.Prelude.{◌≡◌, ◌≤◌, ◌⊎◌, ℕ, false, map, string_bytes, IfOk, IfErr};
 ghost use Rattle.io_world.specs.Faults.{last_count, HasCause, Rose};
-ghost use Rattle.pddlstream_app.specs.Asked.{AsksAll, AsksBefore, AsksFiles};
+ghost use Rattle.pddlstream_app.specs.Asked.{AsksAll, AsksBefore, AsksFiles, HasReadCause};
 ghost use Rattle.pddlstream_app.specs.Complete.{Completes};
 ghost use Rattle.pddlstream_app.specs.Headline.{PrintsNoPlan, PrintsPlan};
 ghost use Rattle.pddlstream_app.specs.Outside.{outside_of, seen_of, written_of};
-ghost use Rattle.pddlstream_app.specs.Runs.{Caused, ClosesRun, Ends, IsCompleted, IsStopped, LeavesReplays, TellsStatus};
+ghost use Rattle.pddlstream_app.specs.Runs.{Caused, ClosesRun, Ends, IsCompleted, IsStopped, LeavesHost, LeavesReplays, SparesHost, TellsStatus};
 ghost use Rattle.round_run.specs.declared.fault.RunFault.TheVariants as fault;
-ghost use Rattle.pddlstream_app.specs.declared.status.Status.TheVariants.{GeneratorFault, NoPlan, Plan, WriteFault};
+ghost use Rattle.pddlstream_app.specs.declared.status.Status.TheVariants.{GeneratorFault, NoPlan, Plan, ReadFault, WriteFault};
 ghost use Rattle.pddlstream_app.specs.declared.stop.Stop.TheVariants.{Run};
 
 use crate::judge::judge;
@@ -64,6 +64,7 @@ fn attempt<F: Files, H: Host, O: Sink>(
     ensures replays { LeavesReplays (map string_bytes words.now)
         (outside_of (seen_of F.told F.faults F.asked files.old files.new) H.spoken H.log host.old
         host.new) }
+    ensures leaves { SparesHost (map string_bytes words.now) result host.old host.new }
     ensures host { HasCause (Run fault.Generator) H.last (H.faults host.old) (H.faults host.new)
         result }
     ensures sink { HasCause (Run fault.Write) last_count (O.faults out.old) (O.faults out.new)
@@ -142,6 +143,13 @@ pub fn run<F: Files, H: Host, O: Sink>(
     ensures replays { LeavesReplays (map string_bytes words.now)
         (outside_of (seen_of F.told F.faults F.asked files.old files.new) H.spoken H.log host.old
         host.new) }
+    // The host itself is as it was, whatever it tells: of a replay, where the words mean no
+    // command, and where the words, a file or a text ended the run.
+    ensures leaves { LeavesHost (map string_bytes words.now) result host.old host.new }
+    // A file that couldn't be read is told only where the files' count of faults rose, or where
+    // the file that the last line names is too long.
+    ensures read { result ≡ ReadFault → HasReadCause (map string_bytes words.now)
+        (seen_of F.told F.faults F.asked files.old files.new) (written_of O.taken out.old out.new) }
     // A fault of the generator or of the sink is answered only where its count rose.
     ensures host { Caused (result ≡ GeneratorFault) H.last (H.faults host.old) (H.faults host.new) }
     ensures sink { Caused (result ≡ WriteFault) last_count (O.faults out.old) (O.faults out.new) }

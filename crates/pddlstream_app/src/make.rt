@@ -8,7 +8,7 @@ ghost use Rattle.io_world.specs.Faults.{last_count, HasCause};
 ghost use Rattle.io_world.specs.FileMap.{Asked, FileMap, stored};
 ghost use Rattle.pddlstream_app.specs.Asked.{AsksAll, AsksBefore};
 ghost use Rattle.pddlstream_app.specs.Outside.{outside_of, unread, written_of};
-ghost use Rattle.pddlstream_app.specs.Runs.{IsCompleted, IsLined, IsStopped, outcome_status};
+ghost use Rattle.pddlstream_app.specs.Runs.{IsAtText, IsCompleted, IsLined, IsStopped, outcome_status};
 ghost use Rattle.pddlstream_app.specs.Works as works;
 ghost use Rattle.round_run.specs.declared.fault.RunFault.TheVariants as fault;
 ghost use Rattle.pddlstream_app.specs.declared.stop.Stop.TheVariants.{Run};
@@ -126,6 +126,7 @@ pub(crate) fn make<H: Host, O: Sink>(
         → IfErr result (IsStopped line (outside_of (unread told count asked) H.spoken H.log
         host.old host.new) (written_of O.taken out.old out.new)) }
     ensures idle { (k : ℕ) → H.running host.new k ≡ false }
+    ensures leaves { IfErr result (λ why. IsAtText why → host.new ≡ host.old) }
     ensures host { HasCause (Run fault.Generator) H.last (H.faults host.old) (H.faults host.new)
         result }
     ensures sink { HasCause (Run fault.Write) last_count (O.faults out.old) (O.faults out.new)

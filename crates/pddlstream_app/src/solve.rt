@@ -4,7 +4,7 @@ ghost use Rattle.io_world.specs.Faults.{last_count, HasCause};
 ghost use Rattle.pddlstream_app.specs.Asked.{AsksAll, AsksBefore};
 ghost use Rattle.pddlstream_app.specs.Outside.{outside_of, seen_of, written_of};
 ghost use Rattle.pddlstream_app.specs.Paths.{held_files};
-ghost use Rattle.pddlstream_app.specs.Runs.{IsCompleted, IsStopped, outcome_status};
+ghost use Rattle.pddlstream_app.specs.Runs.{IsAtText, IsCompleted, IsStopped, outcome_status};
 ghost use Rattle.pddlstream_app.specs.Solving.{HasNoReport, IsSolved};
 ghost use Rattle.command_line.specs.Held.{held_solve};
 ghost use Rattle.command_line.specs.Ranges.{AreInRange};
@@ -63,6 +63,7 @@ pub(crate) fn report<F: Files, H: Host, O: Sink>(
         F.faults F.asked files.old files.new) H.spoken H.log host.old host.new)
         (written_of O.taken out.old out.new)) }
     ensures idle { (k : ℕ) → H.running host.new k ≡ false }
+    ensures leaves { IfErr result (λ why. IsAtText why → host.new ≡ host.old) }
     ensures host { HasCause (Run fault.Generator) H.last (H.faults host.old) (H.faults host.new)
         result }
     ensures sink { HasCause (Run fault.Write) last_count (O.faults out.old) (O.faults out.new)
@@ -98,6 +99,7 @@ pub(crate) fn solve<F: Files, H: Host, O: Sink>(
         → IfErr result (IsStopped line (outside_of (seen_of F.told F.faults F.asked files.old
         files.new) H.spoken H.log host.old host.new) (written_of O.taken out.old out.new)) }
     ensures idle { (k : ℕ) → H.running host.new k ≡ false }
+    ensures leaves { IfErr result (λ why. IsAtText why → host.new ≡ host.old) }
     ensures host { HasCause (Run fault.Generator) H.last (H.faults host.old) (H.faults host.new)
         result }
     ensures sink { HasCause (Run fault.Write) last_count (O.faults out.old) (O.faults out.new)

@@ -1,9 +1,12 @@
-use Rattle.std.proofs.Common.{Err, ap, sym, ◌∙◌}
+use Rattle.std.proofs.Common.{Err, ap, map, string_bytes, subst, sym, ◌∙◌}
 use Rattle.pddlstream_app.proofs.AskedLemmas.{asked_closed, asked_completed, some_before}
 use Rattle.pddlstream_app.proofs.HeadlineLemmas.{no_plan_printed, plan_printed}
 use Rattle.pddlstream_app.proofs.CausesLemmas.{other_stop, write_stop}
 use Rattle.pddlstream_app.proofs.RunsLemmas.{before_last, ends_closed, ends_completed, ends_written}
+use Rattle.pddlstream_app.proofs.LeavesLemmas.{leaves_closed, leaves_completed, read_cause}
 use Rattle.pddlstream_app.proofs.CompleteLemmas.{completes_closed, completes_cut, completes_done, sink_whole}
+use Rattle.pddlstream_app.specs.Asked.{AsksFiles}
+use Rattle.pddlstream_app.specs.Runs.{SparesHost}
 use Rattle.pddlstream_app.specs.declared.status.Status.TheVariants.{WriteFault}
 use Rattle.pddlstream_app.proofs.command.run.Goals as goal
 
@@ -69,3 +72,33 @@ returns-else-is_write-clause-complete g c =
     (λ e. c.attempt.ensures.host.cause (c.in-Err.is ∙ ap Err e))
     (λ e. sink_whole _ (g.O.Sink.faults c.args.out.now) (g.O.Sink.faults c.attempt.new.out) (g.O.Sink.faults c.close.new.out)
     c.in-Err.stop c.attempt.ensures.sink.later (other_stop c.in-Err.stop whole) (c.close.ensures.cause e)) c.close.ensures.closed
+
+pub returns-in-Ok-clause-leaves : goal.returns-in-Ok-clause-leaves
+returns-in-Ok-clause-leaves g c =
+    leaves_completed (map string_bytes c.args.words.now) c.args.host.now c.attempt.new.host _ _ c.in-Ok.status
+    (subst (λ r. SparesHost (map string_bytes c.args.words.now) r c.args.host.now c.attempt.new.host) c.in-Ok.is
+    c.attempt.ensures.leaves) c.in-Ok.ensures.completed
+
+pub returns-else-is_write-clause-leaves : goal.returns-else-is_write-clause-leaves
+returns-else-is_write-clause-leaves g c =
+    leaves_closed (map string_bytes c.args.words.now) c.args.host.now c.attempt.new.host c.in-Err.stop _ c.close.result
+    (subst (λ r. SparesHost (map string_bytes c.args.words.now) r c.args.host.now c.attempt.new.host) c.in-Err.is
+    c.attempt.ensures.leaves) c.close.ensures.closed
+
+pub returns-then-is_write-clause-leaves : goal.returns-then-is_write-clause-leaves
+returns-then-is_write-clause-leaves g c = record {
+  replay = c.attempt.ensures.leaves.replay;
+  usage = c.attempt.ensures.leaves.usage;
+  input = λ b. absurd b;
+}
+
+pub returns-in-Ok-clause-read : goal.returns-in-Ok-clause-read
+returns-in-Ok-clause-read g c = λ is.
+    read_cause _ _ _ (subst (AsksFiles _ _ _) is (returns-in-Ok-clause-asked g c))
+
+pub returns-else-is_write-clause-read : goal.returns-else-is_write-clause-read
+returns-else-is_write-clause-read g c = λ is.
+    read_cause _ _ _ (subst (AsksFiles _ _ _) is (returns-else-is_write-clause-asked g c))
+
+pub returns-then-is_write-clause-read : goal.returns-then-is_write-clause-read
+returns-then-is_write-clause-read g c = λ e. absurd (cc)
