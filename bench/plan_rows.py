@@ -13,6 +13,8 @@ import sys
 LAST = '7afa0542'
 
 # Of each crate its files, and of each of their tests the file of rows and the rows that carry it.
+# the first row of a file that came later, behind those that were carried
+LATER = {'searches': 'what stands in the way of a block is moved'}
 CARRIED = {
     'session_tests': {
         'levels.rt': {
@@ -275,6 +277,8 @@ def main():
         print(f'{crate:18}{tests:6}{total:12}{len(rows):6}{lines:7}')
     for kind, rows in carried.items():
         for row in rows_in(f'crates/plan_rows/data/{kind}.rows'):
+            if row == LATER.get(kind):
+                break
             if row not in rows:
                 wrong.append(f'{kind}.rows: no test named the row: {row}')
     former = blocks(shown('crates/optimistic_tests/stdout'))
