@@ -155,7 +155,7 @@ SHARED = {
     'SEARCHES': [
         'no plan is said where all four states are allowed', 'the limit is said where three states are allowed',
         'a plan within three states is found though four are reached', 'a plan of two steps',
-        "a plan of two steps isn't found in two states", 'the empty plan reaches a goal that holds',
+        'in two states a plan of two steps is found by the estimate alone that counts what is left more', 'the empty plan reaches a goal that holds',
         'a plan costs the value of the function', 'without the value there is no plan'],
 }
 

@@ -54,17 +54,19 @@ class Cache:
         """What the generator answers."""
         if self.child is None:
             self.child = subprocess.Popen(self.program, stdin=subprocess.PIPE, stdout=subprocess.PIPE, text=True)
+        requests, answers = self.child.stdin, self.child.stdout
+        assert requests and answers
         try:
-            self.child.stdin.write(f"{request}\n")
-            self.child.stdin.flush()
+            requests.write(f"{request}\n")
+            requests.flush()
         except OSError:
             return None
-        line = self.child.stdout.readline()
+        line = answers.readline()
         return line.rstrip("\r\n") if line.endswith("\n") else None
 
     def close(self) -> None:
         """Ends the generator."""
-        if self.child is not None:
+        if self.child is not None and self.child.stdin is not None:
             self.child.stdin.close()
             self.child.wait()
 

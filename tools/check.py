@@ -20,10 +20,9 @@ from common.reports import Report, ReportFault, read_report
 
 
 def asked_of(report: Report, streams: set[str] | None) -> list[Asked]:
-    """The requests that have an answer, of these streams or of all."""
-    asks = [ask for ask in report.asks.values() if ask.answer is not None]
-    return [Asked(ask.number, ask.stream, ask.request, ask.answer.said) for ask in asks
-            if streams is None or ask.stream in streams]
+    """The requests of these streams or of all; of one that is open any answer will do."""
+    return [Asked(ask.number, ask.stream, ask.request, ask.answer.said if ask.answer is not None else None)
+            for ask in report.asks.values() if streams is None or ask.stream in streams]
 
 
 def jobs_of(got: argparse.Namespace, program: list[str], report: Report) -> list[tuple[list[str], list[Asked]]]:
@@ -32,7 +31,7 @@ def jobs_of(got: argparse.Namespace, program: list[str], report: Report) -> list
     if not got.map:
         return [(program, asked_of(report, only))]
     with open(got.map, encoding="utf-8") as file:
-        pools = pools_of(file.read())
+        pools = pools_of(file.read())       # (a ValueError where it is no map)
     named = [(pool, set(pool.streams) if only is None else only & set(pool.streams)) for pool in pools]
     return [(pool.run, asked_of(report, streams)) for pool, streams in named if pool.run[0] != "@grid"]
 
@@ -51,7 +50,7 @@ def main(words: list[str]) -> int:
     parser = argparse.ArgumentParser(
         prog="check.py", description=__doc__, formatter_class=argparse.RawDescriptionHelpFormatter,
         usage="check.py REPORT [OPTIONS] -- PROGRAM WORDS\n       check.py REPORT [OPTIONS] --map FILE")
-    parser.add_argument("report", help="a report; one without an end will do")
+    parser.add_argument("report", help="a report; one without an end will do, also one whose last request is open")
     parser.add_argument("--map", metavar="FILE", help="the map whose programs are asked")
     parser.add_argument("--only", metavar="STREAMS", help="ask only these streams, with commas between them")
     parser.add_argument("--seconds", type=float, default=10, help="how long to wait for an answer (10)")
@@ -62,16 +61,21 @@ def main(words: list[str]) -> int:
     if bool(program) == bool(got.map):
         parser.error("name a program behind --, or a map")
     findings = Findings()
-    for run, asked in jobs_of(got, program, read_report(got.report)):
+    jobs = jobs_of(got, program, read_report(got.report))
+    if not any(asked for _, asked in jobs):
+        of = f" of {got.only}" if got.only else " that a program of the map answers" if got.map else ""
+        print(f"the report has no request{of}: nothing was asked")
+        return 1
+    for run, asked in jobs:
         ask_all(run, asked, got.workers, Patience(got.seconds, got.silence), got.seed, findings)
     print("\n".join(findings.faults), end="\n" if findings.faults else "")
     print_times(findings)
-    print("same" if not findings.faults else f"{len(findings.faults)} faults")
+    print("same" if not findings.faults else f"{len(findings.faults)} fault{'s' * (len(findings.faults) > 1)}")
     return 1 if findings.faults else 0
 
 
 if __name__ == "__main__":
     try:
         sys.exit(main(sys.argv[1:]))
-    except (OSError, ReportFault) as error:
+    except (OSError, ReportFault, ValueError) as error:
         sys.exit(f"check.py: {error}")

@@ -17,7 +17,7 @@ import argparse
 import os
 import sys
 
-from common.reports import ReportFault, read_report
+from common.reports import Report, ReportFault, read_report
 from common.texts import TextFault, read_source
 from rewriting.back import old_plan
 from rewriting.task import Rewriter
@@ -48,6 +48,16 @@ def rewrite(domain: str, problem: str, streams: str | None, folder: str) -> int:
     return 0
 
 
+def print_back(report: Report, names: str) -> int:
+    """Prints the plan of a report with the old names; with 1 where it has none."""
+    if report.plan is None:
+        print("the report has no plan", file=sys.stderr)
+        return 1
+    with open(names, encoding="utf-8") as file:
+        print("".join(f"{step}\n" for step in old_plan(report.plan, file.read().split("\n"))), end="")
+    return 0
+
+
 def main(words: list[str]) -> int:
     """Rewrites a task, or a plan back."""
     parser = argparse.ArgumentParser(prog="to_profile.py", description=__doc__,
@@ -59,9 +69,7 @@ def main(words: list[str]) -> int:
     parser.add_argument("--back", metavar="NAMES", help="the table of an earlier rewriting")
     got = parser.parse_args(words)
     if got.back:
-        with open(got.back, encoding="utf-8") as file:
-            print("\n".join(old_plan(read_report(got.domain), file.read().split("\n"))))
-        return 0
+        return print_back(read_report(got.domain), got.back)
     if not got.problem:
         parser.error("a problem is due")
     return rewrite(got.domain, got.problem, got.streams, got.out)

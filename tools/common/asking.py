@@ -24,12 +24,12 @@ class Patience:
 
 @dataclass
 class Asked:
-    """A request of a report, with the answer that it got."""
+    """A request of a report, with the answer that it got; none where it is open."""
 
     number: int
     stream: str
     request: str
-    said: str
+    said: str | None
 
 
 @dataclass
@@ -45,15 +45,17 @@ class Child:
 
     def __init__(self, program: list[str]):
         self.process = subprocess.Popen(program, stdin=subprocess.PIPE, stdout=subprocess.PIPE)
+        assert self.process.stdin and self.process.stdout
+        self.requests, self.answers = self.process.stdin, self.process.stdout
         self.held = b""
         self.selector = selectors.DefaultSelector()
-        self.selector.register(self.process.stdout, selectors.EVENT_READ)
+        self.selector.register(self.answers, selectors.EVENT_READ)
 
     def hear(self, seconds: float) -> bool:
         """Takes what comes within so many seconds; no where nothing does, or the output has ended."""
         if not self.selector.select(seconds):
             return False
-        more = os.read(self.process.stdout.fileno(), 65536)
+        more = os.read(self.answers.fileno(), 65536)
         self.held += more
         return bool(more)
 
@@ -70,8 +72,8 @@ class Child:
     def ask(self, request: str) -> bool:
         """Writes a request; no where the program takes none."""
         try:
-            self.process.stdin.write(request.encode() + b"\n")
-            self.process.stdin.flush()
+            self.requests.write(request.encode() + b"\n")
+            self.requests.flush()
         except OSError:
             return False
         return True
@@ -84,7 +86,7 @@ class Child:
     def close(self, seconds: float) -> bool:
         """Ends its input; whether it ended in that time."""
         try:
-            self.process.stdin.close()
+            self.requests.close()
         except OSError:
             pass
         end = time.monotonic() + seconds
@@ -98,7 +100,7 @@ class Child:
             self.process.wait()
             return False
         finally:
-            self.process.stdout.close()
+            self.answers.close()
 
 
 def normal(line: bytes) -> str:
@@ -141,7 +143,7 @@ def _ask_one(child: Child, one: Asked, seconds: float, findings: Findings) -> bo
     findings.times[one.stream].append(time.monotonic() - start)
     if len(line) > LINE:
         findings.faults.append(f"request {one.number}: {one.request}\n  a line of more than {LINE:,} bytes")
-    elif " ".join(normal(line).split()) != one.said:
+    elif one.said is not None and " ".join(normal(line).split()) != one.said:
         findings.faults.append(f"request {one.number}: {one.request}\n  now:    {normal(line)}\n  before: {one.said}")
     if child.held or child.hear(AFTER):
         findings.faults.append(f"request {one.number}: {one.request}\n  more than one line; behind the first: "

@@ -1,13 +1,14 @@
 """How a run ended, in words."""
 from __future__ import annotations
 
+import re
 import shlex
 import shutil
 from dataclasses import dataclass, field
 
-from .maps import map_fault, pools_of
-from .meanings import ANSWER_FAULTS, BREACHES, GRID_FAULTS, OUTCOMES, TEXT_FAULTS
-from .reports import Ask, Report, ReportFault, parse
+from .maps import MapPool, map_fault, pools_of
+from .meanings import ANSWER_FAULTS, BREACHES, GRID_FAULTS, MAP_FAULTS, OUTCOMES, STATUSES, TEXT_FAULTS
+from .reports import Ask, Mark, Report, ReportFault, parse, shown
 from .tasks import read_streams
 from .texts import Source, TextFault
 
@@ -23,6 +24,15 @@ USAGE = [
     "  a program or --workers beside --map",
     "  a word of the program begins with - and no -- stands before the program",
 ]
+
+
+# The lines that stand in the place of a report.
+ALONE = re.compile("|".join((
+    r"valid", r"invalid \d+ ([1-9]|10)", r"fault (memory|generator)",
+    r"generate \d+ (plan|no-plan|limit-calls|limit-states|limit-instances) levels \d+ asks \d+",
+    r"fault read (domain|problem|streams|map|grid|report) (failed|too-long)",
+    rf"fault input (domain|problem|streams) ({'|'.join(TEXT_FAULTS)}) \d+",
+    rf"fault input map ({'|'.join(MAP_FAULTS)})", rf"fault input grid ({'|'.join(GRID_FAULTS)}) \d+")))
 
 
 @dataclass
@@ -45,12 +55,16 @@ def explained(run: Run) -> list[str]:
     if not words:
         return ["Nothing was printed: the report couldn't be written (status 8), memory was wanting (status 9), or the "
                 "program was stopped or never ran."]
-    if words[0] in ("valid", "invalid") or lines[0] == "limit states":
+    if (words[0] in ("valid", "invalid", "generate") or lines[0].startswith("fault")) and not ALONE.fullmatch(last):
+        return [f"This is no line that the planner prints: {shown(last)}"]
+    if words[0] in ("valid", "invalid") or last == lines[0] == "limit states":
         return _verdict(run, words)
     if words[0] == "generate":
         return _generated(words)
-    if words[0] == "fault" and words[1:2] in (["input"], ["read"], ["memory"]):
+    if ALONE.fullmatch(last) and words[1:2] in (["input"], ["read"], ["memory"]):
         return _fault(run, words[1:])
+    if last == lines[0] == "fault generator":
+        return _fault_of_generator(run, Report(fault=["generator"]))
     try:
         report = parse(run.text.splitlines(keepends=True))
     except ReportFault as error:
@@ -70,13 +84,14 @@ def _verdict(run: Run, words: list[str]) -> list[str]:
         with open(run.judged, encoding="utf-8", errors="replace") as file:
             text = file.read().split("\n")
         around = range(max(line - 2, 0), min(line + 1, len(text)))
-        said += [f"{'>' if at == line - 1 else ' '} {at + 1:6} {text[at]}" for at in around]
+        said += [f"{'>' if at == line - 1 else ' '} {at + 1:6} {shown(text[at])}" for at in around]
     return said
 
 
 def _generated(words: list[str]) -> list[str]:
     number, outcome, levels, asks = words[1], words[2].replace("-", " "), words[4], words[6]
-    return [f"The grid's task with {number} blocks ended with `{outcome}` after {levels} levels and {asks} requests."]
+    return [f"The grid's task with {number} blocks ended with `{outcome}` after {levels} levels and {asks} requests "
+            f"(status {STATUSES[outcome]})."]
 
 
 def _fault(run: Run, words: list[str]) -> list[str]:
@@ -158,8 +173,8 @@ def _of_report(run: Run, report: Report) -> list[str]:
                 f"{_plural(asks, 'request')} "
                 f"(status 0)."]
     calls, states, _ = report.limits
-    status = 1 if report.outcome.kind == "no plan" else 2
-    return [f"{OUTCOMES[report.outcome.kind].format(calls=calls, states=states)} (status {status})", *_hint(report)]
+    kind = report.outcome.kind
+    return [f"{OUTCOMES[kind].format(calls=calls, states=states)} (status {STATUSES[kind]})", *_hint(report)]
 
 
 def _plural(count: int, word: str) -> str:
@@ -167,15 +182,25 @@ def _plural(count: int, word: str) -> str:
 
 
 def _hint(report: Report) -> list[str]:
+    first = next(iter(report.entries), None)
+    said = []
+    if isinstance(first, Mark) and first.word == "none":
+        said.append(f"`none` stands before the first request: no plan was found over what the streams may be supposed to "
+                    f"answer. Either --depth, {report.limits[2]} here, is below the longest chain of streams (lint.py says "
+                    f"it), or the goal wants something that no answer can give.")
     asked = {ask.stream for ask in report.asks.values()}
     never = [name for pool in report.pools for name in pool.streams if name not in asked]
-    return [f"Never asked: {', '.join(never)}. Nothing gives what their :domain wants."] if never else []
+    if never:
+        said.append(f"Never asked: {', '.join(never)}. Nothing gives what their :domain wants.")
+    return said
 
 
 def _fault_of_generator(run: Run, report: Report) -> list[str]:
     words = report.fault or []
     if words[0] == "answer":
-        ask = report.asks[int(words[1])]
+        ask = report.asks.get(int(words[1]))
+        if ask is None:
+            return [f"This is no report: it ends with `fault {' '.join(words)}`, and has no request {words[1]}"]
         return [f"The answer to request {ask.number} is none (status 5): {ANSWER_FAULTS[words[2]]}.",
                 f"  {ask.request}", *_by_hand(run, ask)]
     if words[0] != "generator":
@@ -199,17 +224,22 @@ def _found(word: str) -> str:
 def _programs(run: Run) -> list[str]:
     if run.program:
         return run.program[:1]
+    return [pool.run[0] for pool in _pools(run)]
+
+
+def _pools(run: Run) -> list[MapPool]:
+    """The pools of the map, where one was named and has a form that may be."""
     if "map" not in run.paths:
         return []
-    with open(run.paths["map"], encoding="utf-8") as file:
-        return [pool.run[0] for pool in pools_of(file.read())]
+    with open(run.paths["map"], encoding="utf-8", errors="replace") as file:
+        try:
+            return pools_of(file.read())
+        except ValueError:
+            return []
 
 
 def _by_hand(run: Run, ask: Ask) -> list[str]:
-    words = run.program
-    if not words and "map" in run.paths:
-        with open(run.paths["map"], encoding="utf-8") as file:
-            words = next((pool.run for pool in pools_of(file.read()) if ask.stream in pool.streams), [])
+    words = run.program or next((pool.run for pool in _pools(run) if ask.stream in pool.streams), [])
     program = shlex.join(words) if words else "PROGRAM"
     return [f"  ask it by hand: printf '%s\\n' {shlex.quote(ask.request)} | {program}"]
 
@@ -224,6 +254,7 @@ def _standing(run: Run, report: Report) -> list[str]:
                 f"{'waits' if len(opened) == 1 else 'wait'} for an answer, so a generator is at work, hangs, or "
                 f"doesn't flush."]
         first = opened[0]
-        return said + [f"  the first: request {first.number}: {first.request}", *_by_hand(run, first)]
+        return said + [f"  the first: request {first.number}: {first.request}", *_by_hand(run, first),
+                       "  check.py, with the report and the same words, says whether it answers, and flushes what it answers"]
     return ["The run hasn't ended, or was stopped: no request is open, so the planner is at work (a search, or the "
             "next request)."]

@@ -1,7 +1,7 @@
 """What the planner accepts and is yet likely a mistake."""
 from __future__ import annotations
 
-from .tasks import Atom, Domain, Problem, ROOT, Stream, Streams
+from .tasks import Atom, Domain, Problem, ROOT, Streams
 from .texts import Source
 from .uses import Use, Uses, longest_chain, uses_of
 
@@ -106,7 +106,7 @@ class Linter:
         """A chain of streams that is longer than the default depth."""
         longest = longest_chain(self.domain, self.streams)
         if len(longest) > DEFAULT_DEPTH:
-            last: Stream = self.streams.named(longest[-1])
+            last = next(stream for stream in self.streams.items if stream.name == longest[-1])
             self.tell(self.streams.source, last.place, "depth",
                       f"{' > '.join(longest)} is a chain of {len(longest)} streams: in focused, binding and adaptive "
                       f"mode give "

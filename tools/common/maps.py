@@ -25,9 +25,13 @@ class MapFault:
 
 
 def pools_of(text: str) -> list[MapPool]:
-    """The pools of a map that has no fault."""
-    made = json.loads(text)["pools"]
-    return [MapPool(one["run"], one.get("workers", 1), [name.lower() for name in one["streams"]]) for one in made]
+    """The pools of a map. A ValueError says of one that has no such form what is wrong."""
+    made = json.loads(text)
+    shape = _top_fault(made)
+    if shape:
+        raise ValueError(shape)
+    return [MapPool(one["run"], one.get("workers", 1), [name.lower() for name in one["streams"]])
+            for one in made["pools"]]
 
 
 def map_fault(data: bytes, streams: list[str]) -> MapFault | None:

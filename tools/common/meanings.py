@@ -18,6 +18,7 @@ TEXT_FAULTS = {
     "too-many": "more than 8 variables of a predicate, function or stream side, 16 in scope, or 64 derived predicates",
     "stream-cycle": "this stream feeds itself, by however many others: give each round its predicate, type and stream",
 }
+MAP_FAULTS = ("json", "shape", "workers", "unknown", "doubled", "unserved")
 GRID_FAULTS = {
     "form": "a byte that may not stand, a wrong word or name, or a wrong number of fields; `grid W H` comes first and "
             "once",
@@ -58,3 +59,4 @@ OUTCOMES = {
                     "200,000), or fewer objects and actions.",
     "limit instances": "More than 1,000,000 stream instances are due at once: give the streams stronger :domain facts.",
 }
+STATUSES = {"plan": 0, "no plan": 1, "limit calls": 2, "limit states": 2, "limit instances": 2}

@@ -5,7 +5,7 @@ import itertools
 import re
 from dataclasses import dataclass, field
 
-from .reports import Ask, Got, Report, Value
+from .reports import Ask, Got, Report, ReportFault, Value
 from .tasks import Action, Atom, Derived, Domain, Problem, ROOT, Stream, Streams, typed
 from .texts import Group, Tree, spelled
 from .trees import conjunction, group, printed
@@ -53,12 +53,16 @@ def certified(problem: Problem, streams: Streams, report: Report) -> Certified:
 
 
 def _learn(found: Certified, stream: Stream, ask: Ask) -> None:
+    if len(ask.inputs) != len(stream.inputs):
+        raise ReportFault(f"line {ask.line}: {stream.name} has {len(stream.inputs)} inputs in the stream file")
     names = dict(zip((name for name, _ in stream.inputs), ask.inputs))
     if isinstance(ask.answer, Value) and stream.value is not None:
         found.add_value(_filled(stream.value, names), ask.answer.value)
     if not isinstance(ask.answer, Got):
         return
     for values in ask.answer.tuples:
+        if len(values) != len(stream.outputs):
+            raise ReportFault(f"line {ask.answer.line}: {stream.name} has {len(stream.outputs)} outputs in the stream file")
         outputs = {name: f"#{value}" for (name, _), value in zip(stream.outputs, values)}
         for name, sort in stream.outputs:
             found.sorts.setdefault(outputs[name], set()).add(sort)
@@ -98,7 +102,7 @@ class Writer:
         """A list of variables, and what else has to hold of them."""
         if self.is_typed:
             return group(*(text for name, sort in variables for text in (name, "-", sort))), []
-        guards = [group(self.sort_name(sort), name) for name, sort in variables if sort != ROOT]
+        guards: list[Tree] = [group(self.sort_name(sort), name) for name, sort in variables if sort != ROOT]
         return group(*(name for name, _ in variables)), guards
 
     def sort_name(self, sort: str) -> str:
@@ -158,9 +162,11 @@ class Writer:
             predicates += [group(self.sort_name(sort), "?x") for sort in domain.all_types()]
         items.append(group(":predicates", *predicates))
         if self.problem.has_metric:
-            functions = {"total-cost": [], **domain.functions}
-            items.append(group(":functions", *(text for name, variables in functions.items()
-                                               for text in (self.signature(name, variables), "-", "number"))))
+            functions: dict[str, list[tuple[str, str]]] = {"total-cost": [], **domain.functions}
+            signatures: list[Tree | str] = []
+            for name, variables in functions.items():
+                signatures += [self.signature(name, variables), "-", "number"]
+            items.append(group(":functions", *signatures))
         items += [*map(self.derived, domain.derived), *map(self.action, domain.actions)]
         return printed(group("define", group("domain", domain.name), *items)) + "\n"
 
@@ -176,7 +182,7 @@ class Writer:
         facts: list[Tree] = [group(*(self.names.get(name, name) for name in fact)) for fact in self.known.facts]
         facts += self._sort_facts()
         if self.problem.has_metric:
-            values = {**self.known.values, ("total-cost",): 0}
+            values: dict[tuple[str, ...], int] = {**self.known.values, ("total-cost",): 0}
             facts += [group("=", group(*(self.names.get(name, name) for name in term)), str(value))
                       for term, value in values.items()]
         items = [group(":domain", self.domain.name), group(":objects", *self._objects(objects)), group(":init", *facts),
@@ -189,7 +195,7 @@ class Writer:
     def _sort_facts(self) -> list[Tree]:
         if self.is_typed:
             return []
-        found = []
+        found: list[Tree] = []
         for name, sorts in {**self.declared, **self.known.sorts}.items():
             above = dict.fromkeys(up for sort in sorted(sorts) for up in sorted(self.domain.above(sort)) if up != ROOT)
             found += [group(self.sort_name(sort), self.names.get(name, name)) for sort in above]
@@ -197,10 +203,11 @@ class Writer:
 
     def plan_text(self, report: Report) -> str | None:
         """The steps of the plan, and its cost as a comment."""
-        if report.outcome is None or report.outcome.kind != "plan":
+        plan = report.plan
+        if plan is None:
             return None
-        steps = [f"({' '.join(self.names.get(name, name) for name in step)})\n" for step in report.outcome.steps]
-        return "".join([*steps, f"; cost = {report.outcome.cost}\n"])
+        steps = [f"({' '.join(self.names.get(name, name) for name in step)})\n" for step in plan.steps]
+        return "".join([*steps, f"; cost = {plan.cost}\n"])
 
 
 def plain_task(domain: Domain, problem: Problem, streams: Streams, report: Report) -> PlainTask:

@@ -1,9 +1,15 @@
 """Reports as data: what `solve` prints, whole or as far as it has come."""
 from __future__ import annotations
 
+import re
 import sys
 from dataclasses import dataclass, field
 from typing import Callable, Iterable, Union
+
+
+MODES = ("incremental", "focused", "binding", "adaptive")
+WITHOUT_PLAN = ("no plan", "limit calls", "limit states", "limit instances")
+FAULTS = re.compile(r"answer \d+ (word|count|value|too-long)|generator|memory")      # (those behind a report's first lines)
 
 
 @dataclass
@@ -101,7 +107,10 @@ Entry = Union[Ask, Got, Value, End, Dream, Mark]
 
 @dataclass
 class Outcome:
-    """How a run ended that has no fault: `plan`, `no plan` or a limit."""
+    """How a run ended that has no fault: `plan`, `no plan` or a limit.
+
+    An origin is a request and one of its tuples, from 1.
+    """
 
     kind: str
     steps: list[list[str]] = field(default_factory=list)
@@ -124,6 +133,11 @@ class Report:
     is_done: bool = False
     lines: int = 0
 
+    @property
+    def plan(self) -> Outcome | None:
+        """The outcome, where it is a plan and none of its lines is missing."""
+        return self.outcome if self.is_done and self.outcome is not None and self.outcome.kind == "plan" else None
+
     def open_asks(self) -> list[Ask]:
         """The requests without an answer."""
         return [ask for ask in self.asks.values() if ask.answer is None]
@@ -137,6 +151,11 @@ class ReportFault(Exception):
     """A line that no report has at its place."""
 
 
+def shown(text: str) -> str:
+    """A line that is no report's, cut short and without bytes that a terminal would obey."""
+    return text[:300].encode("unicode_escape").decode("ascii")
+
+
 class _Reader:
     """Takes a report line by line."""
 
@@ -147,19 +166,23 @@ class _Reader:
     def take(self, text: str) -> None:
         self.report.lines += 1
         word, *fields = text.split(" ")
+        if self.report.lines == 1 and word != "pddlstream":
+            raise ReportFault(f"line 1 is no head of a report: {shown(text)} (explain.py says what it means)")
         if self.report.fault is not None or self.report.is_done:
-            raise ReportFault(f"line {self.report.lines} stands behind the end: {text}")
+            raise ReportFault(f"line {self.report.lines} stands behind the end: {shown(text)}")
         taker = TAKERS.get(word)
         if taker is None:
-            raise ReportFault(f"line {self.report.lines} is no line of a report: {text}")
+            raise ReportFault(f"line {self.report.lines} is no line of a report: {shown(text)}")
         try:
             taker(self, fields)
-        except (ValueError, IndexError, AttributeError, KeyError):
-            raise ReportFault(f"line {self.report.lines} has no form that may stand there: {text}") from None
+        except (ValueError, IndexError, AttributeError, KeyError, TypeError):
+            raise ReportFault(f"line {self.report.lines} has no form that may stand there: {shown(text)}") from None
 
     def head(self, fields: list[str]) -> None:
         version, self.report.mode = fields
         self.report.version = int(version)
+        if version not in ("1", "2") or self.report.mode not in MODES:
+            raise ValueError
 
     def limits(self, fields: list[str]) -> None:
         calls, states, depth = map(int, fields)
@@ -216,20 +239,29 @@ class _Reader:
     def plan(self, fields: list[str]) -> None:
         self.report.outcome = Outcome("plan")
 
+    def outcome(self) -> Outcome:
+        if self.report.outcome is None:
+            raise ValueError
+        return self.report.outcome
+
     def do(self, fields: list[str]) -> None:
-        self.report.outcome.steps.append(fields)
+        self.outcome().steps.append(fields)
 
     def cost(self, fields: list[str]) -> None:
-        (self.report.outcome.cost,) = map(int, fields)
+        (self.outcome().cost,) = map(int, fields)
 
     def origin(self, fields: list[str]) -> None:
-        place = int(fields[2]) if len(fields) > 2 else 0
-        self.report.outcome.origins[fields[0]] = (int(fields[1]), place)
+        place = int(fields[2]) if len(fields) > 2 else 1
+        self.outcome().origins[fields[0]] = (int(fields[1]), place)
 
     def end_without_plan(self, word: str, fields: list[str]) -> None:
         self.report.outcome = Outcome(" ".join([word, *fields]))
+        if self.report.outcome.kind not in WITHOUT_PLAN:
+            raise ValueError
 
     def fault(self, fields: list[str]) -> None:
+        if not FAULTS.fullmatch(" ".join(fields)):
+            raise ValueError
         self.report.fault = fields
 
     def done(self, fields: list[str]) -> None:
@@ -258,12 +290,14 @@ def parse(lines: Iterable[str]) -> Report:
     for line in lines:
         if line.endswith("\n"):
             reader.take(line[:-1])
+    if not reader.report.lines:
+        raise ReportFault("there is no line of a report: the run hasn't begun, or couldn't write")
     return reader.report
 
 
 def read_report(path: str | None) -> Report:
     """The report of a file, or of standard input where there is none or `-`."""
-    if path in (None, "-"):
+    if path is None or path == "-":
         return parse(sys.stdin)
     with open(path, encoding="utf-8", errors="replace", newline="\n") as file:
         return parse(file)

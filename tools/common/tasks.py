@@ -155,11 +155,12 @@ def atom_of(source: Source, tree: Tree) -> Atom:
 
 def atoms_of(source: Source, tree: Tree | None) -> list[Atom]:
     """The atoms of a stream's `:domain` or `:certified`."""
-    if tree is None or not len(group_of(source, tree)):
+    whole = group_of(source, tree) if tree is not None else Group((), 0)
+    if not len(whole):
         return []
-    if tree.head == "and":
-        return [atom for part in tree[1:] for atom in atoms_of(source, part)]
-    return [atom_of(source, tree)]
+    if whole.head == "and":
+        return [atom for part in whole[1:] for atom in atoms_of(source, part)]
+    return [atom_of(source, whole)]
 
 
 def keys_of(source: Source, trees: tuple[Tree, ...]) -> dict[str, Tree]:

@@ -65,7 +65,7 @@ def _rows(parts: list[Tree], indent: int) -> list[str]:
     at = 0
     while at < len(parts):
         one = parts[at]
-        if _is_key(one) and at + 1 < len(parts) and not _is_key(parts[at + 1]):
+        if isinstance(one, Word) and _is_key(one) and at + 1 < len(parts) and not _is_key(parts[at + 1]):
             rows.append(f"{one.text} {printed(parts[at + 1], indent + len(one.text) + 1)}")
             at += 2
         elif isinstance(one, Word) and rows and rows[-1][-1] != ")" and len(rows[-1]) + len(one.text) < WIDE - indent:

@@ -7,7 +7,7 @@ MODES = ("incremental", "focused", "binding", "adaptive")
 NUMBERS = {"--calls": 100_000, "--states": 200_000, "--depth": 8, "--workers": 16}
 TEXTS = {"solve": ["DOMAIN", "PROBLEM", "STREAMS"], "replay": ["DOMAIN", "PROBLEM", "STREAMS", "REPORT"],
          "generate": ["N"]}
-OPTIONS = {"solve": ["--map", "--algorithm", *NUMBERS], "replay": ["--states"], "generate": []}
+OPTIONS: dict[str, list[str]] = {"solve": ["--map", "--algorithm", *NUMBERS], "replay": ["--states"], "generate": []}
 
 
 @dataclass

@@ -1,7 +1,7 @@
 """Plans of a rewritten task with the names of the old one."""
 from __future__ import annotations
 
-from common.reports import Report
+from common.reports import Outcome
 
 
 def old_names(table: list[str]) -> tuple[dict[str, str], dict[str, str]]:
@@ -17,10 +17,8 @@ def old_names(table: list[str]) -> tuple[dict[str, str], dict[str, str]]:
     return actions, names
 
 
-def old_plan(report: Report, table: list[str]) -> list[str]:
-    """The steps of a report's plan in the old names; nothing where it has none."""
+def old_plan(plan: Outcome, table: list[str]) -> list[str]:
+    """The steps of a plan in the old names."""
     actions, names = old_names(table)
-    if report.outcome is None:
-        return []
-    steps = ([actions.get(step[0], step[0]), *step[1:]] for step in report.outcome.steps)
+    steps = ([actions.get(step[0], step[0]), *step[1:]] for step in plan.steps)
     return [f"({' '.join(names.get(name, name) for name in step)})" for step in steps]

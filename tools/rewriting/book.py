@@ -52,7 +52,7 @@ def with_plain_names(book: Book, tree: Group) -> Group:
             book.row("name", plain, item.raw)
         return Word(plain, item.raw, item.place)
 
-    return renamed(tree)
+    return Group(tuple(map(renamed, tree)), tree.place, tree.end)
 
 
 def _plain(book: Book, text: str) -> str:

@@ -62,7 +62,7 @@ class Rewriter:
         self.book = Book()
         self.either = Either(self.book)
         self.conditions = Conditions(self.book, self.either)
-        self.sources = {"domain": domain, "problem": problem, "stream": streams}
+        self.sources = {"domain": domain, "problem": problem, **({"stream": streams} if streams is not None else {})}
         self.task, self.items = Task(), StreamItems()
 
     def top(self, kind: str) -> tuple[str, list[Group]]:
@@ -81,8 +81,8 @@ class Rewriter:
         """The new texts."""
         domain, domain_items = self.top("domain")
         problem, problem_items = self.top("problem")
-        stream_name, stream_items = self.top("stream") if self.sources["stream"] else ("", [])
-        if self.sources["stream"]:
+        stream_name, stream_items = self.top("stream") if "stream" in self.sources else ("", [])
+        if "stream" in self.sources:
             reader = StreamFile(self.book, self.sources["stream"], self.either)
             for item in stream_items:
                 reader.take(item)

@@ -49,6 +49,18 @@ class Check(Folder):
         self.assertEqual(status, 1)
         self.assertIn("the line isn't flushed", out)
 
+    def test_a_missing_flush_at_the_first_request(self):
+        report = self.put("report", HEAD + "ask 1 0 grip cup\n")
+        kept_back = GOOD.replace(", flush=True", "").replace("import sys", "import sys, io\nsys.stdout = io.TextIOWrapper(open(1, 'wb'))")
+        status, out, _ = tool(check.main, report, "--seconds", "5", "--", sys.executable, "-c", kept_back)
+        self.assertEqual(status, 1)
+        self.assertIn("b'yield left\\n' once its input ended: the line isn't flushed", out)
+
+    def test_an_open_request_has_no_answer_to_compare(self):
+        report = self.put("report", HEAD + "ask 1 0 grip cup\n")
+        status, out, _ = tool(check.main, report, "--", sys.executable, "-c", GOOD)
+        self.assertEqual((status, out.split("\n")[-2]), (0, "same"))
+
     def test_a_program_that_does_not_end(self):
         status, out = self.asked(GOOD + "\nimport time; time.sleep(60)", seconds="5")
         self.assertEqual(status, 1)

@@ -63,6 +63,19 @@ class Explained(Folder):
         self.assertIn("Never asked: apart", self.said(HEAD.replace("grip\nlevel",
                                                                    "grip apart\nlevel") + "end 1\nno plan\ndone\n"))
 
+    def test_bytes_that_a_terminal_would_obey_are_shown_as_text(self):
+        said = self.said("\x1b[2Jhello\n")
+        self.assertIn(r"no head of a report: \x1b[2Jhello", said)
+        self.assertNotIn("\x1b", said)
+
+    def test_a_none_before_the_first_request_is_told(self):
+        head = "pddlstream 1 focused\nlimits 10000 100000 3\npool 1 grip\n"
+        said = self.said(head + "none\nlevel\nask 1 0 grip cup\nend 1\nno plan\ndone\n")
+        self.assertIn("`none` stands before the first request", said)
+        self.assertIn("--depth, 3 here", said)
+        later = head + "dream 1 0\nuse 1 grip cup\nask 1 0 grip cup\nend 1\nnone\nreset\nno plan\ndone\n"
+        self.assertNotIn("`none` stands", self.said(later))
+
     def test_verdicts(self):
         self.assertIn("valid", self.said("valid\n"))
         self.assertIn("more states", self.said("limit states\n"))

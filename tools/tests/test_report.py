@@ -49,18 +49,18 @@ class Reading(unittest.TestCase):
         self.assertEqual(got.asks[3].request, "next 1 spot cup")
         self.assertEqual([ask.answer.said for ask in got.asks.values()], ["yield 2", "end", "yield 4", "yield"])
         self.assertEqual((got.outcome.steps, got.outcome.cost, got.outcome.origins),
-                         ([["put", "cup", "#4", "corner"]], 1, {"#4": (3, 0)}))
+                         ([["put", "cup", "#4", "corner"]], 1, {"#4": (3, 1)}))
         self.assertTrue(got.is_done)
 
     def test_a_report_of_version_2_is_read(self):
         text = DREAMED.replace("pddlstream 1", "pddlstream 2").replace("got 1 2", "got 1 2 | 3").replace("from #4 3",
-                                                                                                         "from #4 3 1")
+                                                                                                         "from #4 3 2")
         got = read(text)
-        self.assertEqual((got.asks[1].answer.tuples, got.outcome.origins), ([["2"], ["3"]], {"#4": (3, 1)}))
+        self.assertEqual((got.asks[1].answer.tuples, got.outcome.origins), ([["2"], ["3"]], {"#4": (3, 2)}))
         self.assertEqual(got.asks[1].answer.said, "yield 2 | 3")
 
     def test_each_front_of_a_report_is_read(self):
-        for end in range(len(DREAMED)):
+        for end in range(DREAMED.index("\n") + 1, len(DREAMED)):
             read(DREAMED[:end])
 
     def test_what_is_no_report_is_told(self):
@@ -95,7 +95,7 @@ class Views(Folder):
         self.assertIn("spot         2       2       0       0       0", lines)
         self.assertIn("apart        2       1       1       0       0", lines)
         self.assertIn("4 requests, 1 dream, 1 none, 2 pick", lines)
-        self.assertIn("plan of 1 steps, cost 1", lines)
+        self.assertIn("plan of 1 step, cost 1", lines)
 
     def test_standard_input(self):
         status, out, _ = tool(report.main, given=DREAMED)
@@ -106,7 +106,7 @@ class Views(Folder):
         self.assertEqual(made["entries"][0]["uses"][1], {"entry": 3, "stream": "apart",
                                                          "inputs": ["cup", "@1.1", "corner"]})
         self.assertEqual(made["entries"][2], {"ask": 1, "turn": 0, "stream": "spot", "inputs": ["cup"], "line": 9})
-        self.assertEqual(made["outcome"]["from"], {"#4": {"ask": 3, "tuple": 0}})
+        self.assertEqual(made["outcome"]["from"], {"#4": {"ask": 3, "tuple": 1}})
         self.assertTrue(made["done"])
 
     def test_a_graph_has_what_led_to_the_plan(self):
@@ -135,7 +135,7 @@ class Views(Folder):
 
     def test_reports_without_an_end(self):
         for kind in ((), ("--json",), ("--dot",), ("--html",)):
-            for end in ("", DREAMED[:30], DREAMED[:200], DREAMED[:300] + "fault generator\n"):
+            for end in (DREAMED[:30], DREAMED[:200], DREAMED[:300] + "fault generator\n"):
                 with self.subTest((kind, end)):
                     self.shown(end if end.endswith("\n") else end[:end.rfind("\n") + 1], *kind)
 
@@ -166,7 +166,7 @@ def back_from_json(text: str) -> list[str]:
         if "ask" in entry:
             found.append(" ".join(["ask", str(entry["ask"]), str(entry["turn"]), entry["stream"], *entry["inputs"]]))
         elif "got" in entry:
-            found.append(" ".join(["got", str(entry["got"]), *entry["tuples"][0]]))
+            found.append(" ".join(["got", str(entry["got"]), *" | ".join(map(" ".join, entry["tuples"])).split()]))
         elif "end" in entry:
             found.append(f"end {entry['end']}")
         elif "value" in entry:

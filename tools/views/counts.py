@@ -54,10 +54,17 @@ def ending(report: Report) -> str:
         return " ".join(["fault", *report.fault])
     if report.outcome is None:
         waiting = len(report.open_asks())
-        return f"no end yet, {waiting} requests open" if waiting else "no end yet, no request open"
+        return f"no end yet, {counted(waiting, 'request')} open" if waiting else "no end yet, no request open"
+    if not report.is_done:
+        return f"cut off behind `{report.outcome.kind}`"
     if report.outcome.kind != "plan":
         return report.outcome.kind
-    return f"plan of {len(report.outcome.steps)} steps, cost {report.outcome.cost}"
+    return f"plan of {counted(len(report.outcome.steps), 'step')}, cost {report.outcome.cost}"
+
+
+def counted(count: int, word: str) -> str:
+    """A number with what it counts."""
+    return f"{count} {word}{'' if count == 1 else 's'}"
 
 
 def summary(report: Report) -> str:
@@ -72,6 +79,6 @@ def summary(report: Report) -> str:
         lines.append(f"{name:{width}}" + "".join(f"{number:8}" for number in numbers))
     total = len(report.asks)
     turns = ", ".join(f"{counts.turns[word]} {word}" for word in TURNS if counts.turns[word])
-    lines.append(f"{total} requests{', ' if turns else ''}{turns}")
+    lines.append(f"{counted(total, 'request')}{', ' if turns else ''}{turns}")
     lines.append(ending(report))
     return "\n".join(lines)

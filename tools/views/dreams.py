@@ -87,7 +87,7 @@ def fate(story: DreamStory, asks: dict[int, Ask]) -> str:
     if len(story.trials) > 1:
         said = f"tried {len(story.trials)} times, the last time {said}"
     if waiting:
-        return f"{said}; waits for {waiting[0].stream}"
+        return f"{said}; no answer of {waiting[0].stream}"
     if story.led_to_plan and not ended:
         return f"{said}, all answered: the plan came"
     if ended:

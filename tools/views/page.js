@@ -2,7 +2,8 @@
 const data = JSON.parse(document.getElementById("data").textContent);
 const total = data.at.length;
 const KINDS = ["open", "yield", "end", "value"];
-const GUTTER = 150, LANE = 34, TOP = 34;
+const LANE = 34, TOP = 34;
+const GUTTER = Math.min(150, 24 + 7.3 * Math.max(8, ...data.streams.map(name => name.length)));
 const at = id => document.getElementById(id);
 const view = { from: 0, to: Math.max(data.rounds, 4) };
 const isLed = new Uint8Array(total);
@@ -41,13 +42,17 @@ function firstOf(round) {
   return low;
 }
 
+/** A number with what it counts. */
+const counted = (count, word) => `${count.toLocaleString("en")} ${word}${count === 1 ? "" : "s"}`;
+
 function showHead() {
   at("name").textContent = data.name;
   at("ending").textContent = data.ending;
+  at("ending").classList.toggle("fault", /^(fault|cut off)/.test(data.ending));
   const [calls, states, depth] = data.limits;
   const turns = data.turnWords.map((kind, place) => [kind, data.turnCounts[place]]).filter(pair => pair[1]);
-  const said = [`${data.mode} mode`, `${total.toLocaleString("en")} requests in ${data.rounds.toLocaleString("en")} rounds`,
-    ...turns.map(([kind, count]) => `${count.toLocaleString("en")} ${count > 1 && kind !== "none" ? `${kind}s` : kind}`),
+  const said = [`${data.mode} mode`, `${counted(total, "request")} in ${counted(data.rounds, "round")}`,
+    ...turns.map(([kind, count]) => kind === "none" ? `${count.toLocaleString("en")} none` : counted(count, kind)),
     `limits: ${calls.toLocaleString("en")} calls, ${states.toLocaleString("en")} states, depth ${depth}`];
   at("head").textContent = said.join(" · ");
 }
@@ -64,6 +69,9 @@ function originButton(place) {
 function showPlan() {
   if (!data.plan) return;
   at("plan-section").hidden = false;
+  const row = at("plan"), fade = () => row.classList.toggle("more", row.scrollLeft + row.clientWidth < row.scrollWidth - 2);
+  row.addEventListener("scroll", fade);
+  window.addEventListener("resize", fade);
   data.plan.steps.forEach((step, place) => {
     const card = make("li", "step");
     const title = make("b");
@@ -76,6 +84,7 @@ function showPlan() {
     at("plan").append(card);
   });
   if (!data.plan.steps.length) at("plan").append(make("li", "", "no step: the goal holds in the initial state"));
+  fade();
 }
 
 function showCounts() {
@@ -117,7 +126,7 @@ function showDreams(count) {
 }
 
 function showLegend() {
-  for (const [kind, text] of [["yield", "yield"], ["end", "end"], ["value", "value"], ["open", "no answer"], ["led", "led to the plan"]]) {
+  for (const [kind, text] of [["yield", "yield"], ["end", "end"], ["value", "value"], ["open", "no answer"], ["led", "gave what the plan has"]]) {
     const made = make("span");
     made.append(make("i", kind), text);
     at("legend").append(made);
@@ -203,8 +212,8 @@ function drawLanes() {
     svg.append(draw("text", { x: 8, y: TOP + place * LANE + LANE / 2 + 4 }, short));
   });
   svg.append(draw("rect", { x: -99, y: TOP, width: 1, height: bottom - TOP, class: "cursor", id: "cursor" }));
-  svg.append(draw("text", { x: GUTTER, y: bottom + 16, class: "soft" }, `round ${Math.floor(view.from) + 1}`));
-  svg.append(draw("text", { x: width() - 8, y: bottom + 16, class: "soft", "text-anchor": "end" }, `round ${Math.ceil(view.to)}`));
+  svg.append(draw("text", { x: GUTTER, y: bottom + 16, class: "soft" }, `round ${(Math.floor(view.from) + 1).toLocaleString("en")}`));
+  svg.append(draw("text", { x: Math.min(width() - 8, across(data.rounds)), y: bottom + 16, class: "soft", "text-anchor": "end" }, `round ${Math.min(Math.ceil(view.to), data.rounds).toLocaleString("en")}`));
 }
 
 /** Zooms so that a round stays where it is. */

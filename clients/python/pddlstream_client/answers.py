@@ -2,8 +2,10 @@
 from __future__ import annotations
 
 import operator
+import reprlib
 import threading
-from typing import Any, Iterator, Mapping, NamedTuple
+from collections.abc import Iterator
+from typing import Any, Mapping, NamedTuple
 
 from .chance import draw_of
 from .store import Store
@@ -109,6 +111,14 @@ class Responder:
         """The value of an object, a declared one or one with `#` in front."""
         return self._store.value_of(word[1:]) if word.startswith("#") else self._objects.get(word, word)
 
+    def inputs_text(self, line: str) -> str:
+        """The values of a request's inputs, where one is another than its name; a long value is cut short."""
+        request = Request.of_line(line)
+        values = [self.value_of(word) for word in request.inputs]
+        if all(isinstance(value, str) and value == word for word, value in zip(request.inputs, values)):
+            return ""
+        return f"\nwith the inputs ({', '.join(map(reprlib.repr, values))})"
+
     def _instance_of(self, request: Request) -> _Instance:
         with self._lock:
             return self._instances.setdefault(request.instance, _Instance())
@@ -135,8 +145,9 @@ class Responder:
 
     def _names(self, stream: str, outputs: Outputs) -> list[str]:
         if not isinstance(outputs, (tuple, list)):
+            hint = "; a function that yields is made a stream by from_gen_fn" if isinstance(outputs, Iterator) else ""
             raise TypeError(
-                f"{stream} gave {outputs!r:.60}: an answer is a tuple of its outputs; one output is `(value,)`"
+                f"{stream} gave {outputs!r:.60}: an answer is a tuple of its outputs; one output is `(value,)`{hint}"
             )
         width = self._widths.get(stream, len(outputs))
         if len(outputs) != width:

@@ -74,6 +74,8 @@ def _reply(responder: Responder, line: str, seconds: float | None, late: str) ->
         if late == "end":
             return responder.give_up(line)
         traceback.print_exc()
+    except SystemExit as error:
+        _tell(f"the function ended the program (sys.exit: {error.code}), at the request: {line.strip()}")
     except Exception:
         _tell(f"at the request: {line.strip()}")
         traceback.print_exc()

@@ -3,7 +3,6 @@ from __future__ import annotations
 
 import socket
 import threading
-import traceback
 from dataclasses import dataclass
 from typing import Callable
 
@@ -14,11 +13,6 @@ class Failure:
 
     request: str
     error: BaseException
-
-    def text(self) -> str:
-        """The request and the traceback."""
-        told = "".join(traceback.format_exception(self.error))
-        return f"at the request: {self.request}\n{told}"
 
 
 class Host:

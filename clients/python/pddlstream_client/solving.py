@@ -84,7 +84,7 @@ def solve(
         ended, host = _run(found, folder, task, options, responder, max_time, verbose)
         _keep(keep, folder, ended.text)
     report = read_report(ended.text)
-    _raise_fault(ended, host, task)
+    _raise_fault(ended, host, task, responder)
     return _solution(problem, task, responder, ended, report)
 
 
@@ -166,14 +166,15 @@ def _keep(keep: str | os.PathLike[str] | None, folder: Path, report: str) -> Non
         Path(keep, "report").write_text(report, encoding="ascii", errors="replace")
 
 
-def _raise_fault(ended: Ended, host: Host, task: Task) -> None:
+def _raise_fault(ended: Ended, host: Host, task: Task, responder: Responder) -> None:
     """Raises what the run's end says, unless it has an outcome or its time was up."""
     failure = host.failure
     if failure is not None:
         last = ended.text.splitlines()[-1:] or ["no line"]
         raised = f"{type(failure.error).__name__}: {failure.error}"
+        asked = f"at the request: {failure.request}{responder.inputs_text(failure.request)}"
         raise SamplerError(
-            f"{last[0]}: {raised}\n{failure.text()}", ended.text, ended.status, failure.request
+            f"{last[0]}: {raised}\n{asked}", ended.text, ended.status, failure.request
         ) from failure.error
     if ended.status not in (None, 0, 1, 2):
         raise fault_of(ended, {"domain": task.domain, "problem": task.problem, "streams": task.streams})

@@ -29,7 +29,14 @@ class CostStream:
 
 def from_gen_fn(function: Callable[..., Iterable[Outputs | None]]) -> Stream:
     """A stream of a generator function: it yields one tuple of outputs after the other."""
-    return Stream(lambda *inputs: iter(function(*inputs)))
+
+    def answers(*inputs: Any) -> Iterator[Outputs | None]:
+        tuples = function(*inputs)
+        if tuples is None:
+            raise TypeError("the function gave None: it yields its tuples, or returns what has them one after the other")
+        return iter(tuples)
+
+    return Stream(answers)
 
 
 def from_list_fn(function: Callable[..., Iterable[Outputs | None] | None]) -> Stream:

@@ -101,6 +101,34 @@ class AnswersTest(unittest.TestCase):
             with self.assertRaisesRegex(TypeError, r"one output is `\(value,\)`"):
                 responder({"grip": from_fn(lambda: outputs)}).answer("next 0 grip")
 
+    def test_generators_at_the_wrong_place_are_told(self) -> None:
+        with self.assertRaisesRegex(TypeError, "a function that yields is made a stream by from_gen_fn"):
+            responder({"grip": from_fn(lambda: iter([("a",)]))}).answer("next 0 grip")
+        with self.assertRaisesRegex(TypeError, "the function gave None: it yields its tuples"):
+            responder({"grip": from_gen_fn(lambda: None)}).answer("next 0 grip")
+
+    def test_values_of_every_kind_make_a_line_that_the_protocol_allows(self) -> None:
+        values = ["Tür ☃", "two words", "", "x" * 100_000, "a\nb", "\0", 0.1, 10**100, float("nan"), b"\xff", [], {}, None]
+        asked = responder({"any": from_list_fn(lambda: [(value,) for value in values])})
+        for turn, value in enumerate(values):
+            line = asked.answer(f"next {turn} any")
+            self.assertRegex(line, r"\Ayield [!-~]{1,64}\Z")
+            self.assertFalse(set(line[6:]) & set("();#@|"))
+            self.assertIs(type(asked.value_of(f"#{line[6:]}")), type(value))
+
+    @unittest.skipIf(numpy is None, "numpy isn't installed: its scalars aren't tested")
+    def test_scalars_of_numpy_are_taken(self) -> None:
+        asked = responder(
+            {
+                "angle": from_fn(lambda: (numpy.float64(0.5),)),
+                "clear": from_test(lambda: numpy.bool_(True)),
+                "turn": from_cost_fn(lambda: numpy.int64(7)),
+            }
+        )
+        name = asked.answer("next 0 angle").split()[1]
+        self.assertEqual((type(asked.value_of(f"#{name}")), asked.value_of(f"#{name}")), (numpy.float64, 0.5))
+        self.assertEqual([asked.answer("next 0 clear"), asked.answer("next 0 turn")], ["yield", "value 7"])
+
     def test_another_number_of_outputs_is_told_where_it_is_known(self) -> None:
         with self.assertRaisesRegex(ValueError, "grip gave 2 values, and its number of outputs is 1"):
             responder({"grip": from_fn(lambda: (1, 2))}, widths={"grip": 1}).answer("next 0 grip")

@@ -56,6 +56,11 @@ class ServeTest(InFolder):
         self.assertIn("ZeroDivisionError", done.stderr)
         self.assertNotIn("pan", done.stderr)
 
+    def test_a_function_that_ends_the_program_is_told(self) -> None:
+        done = self.served("import sys\nserve({'grip': from_fn(lambda item: sys.exit('no robot'))})", "next 0 grip cup\n")
+        self.assertEqual((done.stdout, done.returncode), ("", 1))
+        self.assertIn("ended the program (sys.exit: no robot), at the request: next 0 grip cup\n", done.stderr)
+
     def test_a_request_that_takes_too_long_stops_the_generator(self) -> None:
         done = self.served(
             "import time\ndef grip(item):\n    try:\n        time.sleep(40)\n    except Exception:\n        pass\n"

@@ -196,11 +196,14 @@ class FaultsTest(InFolder):
             error = told.exception
             self.assertIsInstance(error.__cause__, ZeroDivisionError)
             self.assertEqual((error.request, error.last_line, error.status), ("next 0 grip cup", "fault generator", 7))
-            self.assertTrue(
-                str(error).startswith(
-                    "fault generator: ZeroDivisionError: division by zero\nat the request: next 0 grip cup\nTraceback"
-                )
+            self.assertEqual(
+                str(error), "fault generator: ZeroDivisionError: division by zero\nat the request: next 0 grip cup"
             )
+
+    def test_the_values_of_the_request_are_shown(self) -> None:
+        problem = fetch_problem(from_fn(lambda cup: 1 / 0))._replace(init=[("item", 0.5), ("free",)], goal=("done", 0.5))
+        with self.assertRaisesRegex(SamplerError, r"at the request: next 0 grip v0_5\nwith the inputs \(0\.5\)\Z"):
+            solved(problem)
 
     def test_another_number_of_values_is_told(self) -> None:
         with self.assertRaisesRegex(SamplerError, "grip gave 2 values, and its number of outputs is 1"):

@@ -1,5 +1,6 @@
 -- How a frontier grows.
-use Rattle.std.proofs.Common.{◌≡◌, ℕ, ◌+◌, ◌-◌, ◌<◌, ◌≤◌, ◌⊎◌, inl, inr, true, List, [], ◌∷◌, ◌++◌, length, length-append, refl, sym, ap, subst, ◌∙◌, arith, Some, slice_get, Contains}
+use Rattle.std.proofs.Common.{◌≡◌, ℕ, ◌+◌, ◌<◌, ◌≤◌, ◌⊎◌, inl, inr, Bool, true, false, List, [], ◌∷◌, ◌++◌, length, length-append, refl, sym, ap, subst, ◌∙◌, arith, Some, slice_get, Contains}
+use Rattle.std.proofs.lemmas.Bool.{false≢true}
 use Rattle.std.proofs.lemmas.List.Elements.{Contains-append_left}
 use Rattle.std.proofs.lemmas.List.Sorted.{Contains-permutation, IsPermutation-sym, length_permutation}
 use Rattle.std.specs.List.Sorted.{IsPermutation}
@@ -17,7 +18,7 @@ use Rattle.task_model.specs.declared.task.GroundAction.{GroundAction}
 use Rattle.task_model.specs.declared.task.Task.{Task}
 use Rattle.best_first.proofs.TreesLemmas.{AreTaken, all_taken, closed_all, grown_tree, met_last, start_tree, still_there, taken_next}
 use Rattle.best_first.specs.Explored.{IsAdded, IsMet, IsTree, LeadsToState}
-use Rattle.best_first.specs.Frontiers.{IsExpanded, IsFrontier, IsOpen, IsWidened, closed_count, in_heap}
+use Rattle.best_first.specs.Frontiers.{IsExpanded, IsFrontier, IsOpen, IsWidened, in_heap}
 use Rattle.best_first.specs.Outcome.{IsAll}
 use Rattle.best_first.specs.declared.best.Open.{Open}
 use Rattle.best_first.specs.declared.tree.Link.{Link}
@@ -203,56 +204,93 @@ module _ (task : Task) (known : Known) where
           (goal w.added.after w.added.place) in
           subst (λ ss. IsMet task known true limit ss links) (sym w.added.states_are) now
 
-    -- the state that was added is open, and no more states are closed than before
+    -- the state that was added is open
     pub widened_pushed : (states : List Atoms) (links : List Link) (from : Reverse Open) (heap : List (Reverse Open)) (place cost : ℕ)
         → IsWidened task known limit states links (from ∷ heap) place cost
         → (entry : Reverse Open) (now : List (Reverse Open)) → IsPermutation (entry ∷ heap) now
         → entry.0.place ≡ place → place < limit
         → ((s : Atoms) → slice_get states place ≡ Some s → ¬ (IsGoal task known s))
         → IsFrontier task known limit states links (from ∷ now)
-        × (closed_count states (from ∷ now) ≡ closed_count states (from ∷ heap) - 1)
-    widened_pushed states links from heap place cost w entry now p is within open_end = (
-      frontier_pushed states links from entry heap now p (widened_open states links (from ∷ heap) place cost w entry is within open_end),
-      omega (arith, length_permutation (entry ∷ heap) now p),
-    )
+    widened_pushed states links from heap place cost w entry now p is within open_end =
+        frontier_pushed states links from entry heap now p
+        (widened_open states links (from ∷ heap) place cost w entry is within open_end)
 
     -- ---- one state, expanded
 
-    -- The steps before this place lead to states that are there.
-    pub record IsVisiting (states : List Atoms) (links : List Link) (queue : List (Reverse Open)) (from : Open) (closed : ℕ)
-        (state : Atoms) (steps : List GroundAction) (count : ℕ) : Type 0 where
+    -- Where all steps before this place were taken, they lead to states that are there.
+    pub record IsVisiting (states : List Atoms) (links : List Link) (queue : List (Reverse Open)) (from : Open)
+        (state : Atoms) (steps : List GroundAction) (all : Bool) (count : ℕ) : Type 0 where
       pub frontier : IsFrontier task known limit states links (in_heap from ∷ queue)
-      pub counted : closed_count states (in_heap from ∷ queue) ≡ closed
       pub here : slice_get states from.place ≡ Some state
-      pub taken : AreTaken task known states state steps count
+      pub taken : all ≡ true → AreTaken task known states state steps count
 
     pub visiting_start : (states : List Atoms) (links : List Link) (queue : List (Reverse Open)) (from : Open) (state : Atoms)
         (steps : List GroundAction) → IsFrontier task known limit states links (in_heap from ∷ queue)
         → slice_get states from.place ≡ Some state
-        → IsVisiting states links queue from (closed_count states (in_heap from ∷ queue)) state steps 0
+        → IsVisiting states links queue from state steps true 0
     visiting_start states links queue from state steps f here =
-        record { frontier = f; counted = refl; here = here; taken = λ n step after cost h. absurd (omega arith) }
+        record { frontier = f; here = here; taken = λ is n step after cost h. absurd (omega arith) }
+
+    -- a step is left for later
+    pub visiting_past : (states : List Atoms) (links : List Link) (queue : List (Reverse Open)) (from : Open)
+        (state : Atoms) (steps : List GroundAction) (all : Bool) (count : ℕ)
+        → IsVisiting states links queue from state steps all count
+        → IsVisiting states links queue from state steps false (count + 1)
+    visiting_past states links queue from state steps all count v =
+        record { frontier = v.frontier; here = v.here; taken = λ is. absurd (false≢true is) }
 
     pub visiting_next : (states : List Atoms) (links : List Link) (queue : List (Reverse Open)) (from : Open)
-        (closed : ℕ) (state : Atoms) (steps : List GroundAction) (count : ℕ) (new : List Atoms) (new_links : List Link)
+        (state : Atoms) (steps : List GroundAction) (all : Bool) (count : ℕ) (new : List Atoms) (new_links : List Link)
         (now : List (Reverse Open)) (step : GroundAction)
-        → IsVisiting states links queue from closed state steps count → slice_get steps count ≡ Some step
+        → IsVisiting states links queue from state steps all count → slice_get steps count ≡ Some step
         → IsFrontier task known limit new new_links (in_heap from ∷ now)
-        × (closed_count new (in_heap from ∷ now) ≡ closed_count states (in_heap from ∷ queue))
         → LeadsToState task known states state step new
-        → IsVisiting new new_links now from closed state steps (count + 1)
-    visiting_next states links queue from closed state steps count new new_links now step v at f leads = record {
-      frontier = f.0;
-      counted = f.1 ∙ v.counted;
+        → IsVisiting new new_links now from state steps all (count + 1)
+    visiting_next states links queue from state steps all count new new_links now step v at f leads = record {
+      frontier = f;
       here = still_there task known states new state step from.place state leads v.here;
-      taken = taken_next task known states new state steps count step v.taken at leads;
+      taken = λ is. taken_next task known states new state steps count step (v.taken is) at leads;
     }
 
+    -- the state that was expanded is open still, with another rank
+    pub frontier_back : (states : List Atoms) (links : List Link) (queue now : List (Reverse Open)) (from again : Open)
+        → IsFrontier task known limit states links (in_heap from ∷ queue) → again.place ≡ from.place
+        → IsPermutation (in_heap again ∷ queue) now → IsFrontier task known limit states links now
+    frontier_back states links queue now from again f same p =
+        let open_again : IsFrontier task known limit states links (in_heap again ∷ queue) = record {
+          tree = f.tree;
+          few = f.few;
+          once = omega (arith, f.once);
+          none_meets = f.none_meets;
+          places = λ entry c.
+              elim (contains_cases (in_heap again) queue entry c) [
+                | inl is ↦
+                    subst (λ (o : Reverse Open). o.0.place < length states) is
+                    (subst (λ n. n < length states) (sym same) (f.places (in_heap from) (contains_here (in_heap from) queue)))
+                | inr k ↦ f.places entry (contains_later (in_heap from) queue entry k)
+              ];
+          each = λ n s at.
+              elim (f.each n s at) [
+                | inr done ↦ inr done
+                | inl is ↦
+                    elim (contains_cases (in_heap from) queue is.0 is.1) [
+                      | inr k ↦ inl (is.0, contains_later (in_heap again) queue is.0 k, is.2)
+                      | inl found ↦
+                          inl (
+                            in_heap again,
+                            contains_here (in_heap again) queue,
+                            same ∙ ap (λ (o : Reverse Open). o.0.place) found ∙ is.2,
+                          )
+                    ]
+              ];
+        } in
+        frontier_permuted states links (in_heap again ∷ queue) now p open_again
+
     pub visiting_done : (states : List Atoms) (links : List Link) (queue : List (Reverse Open)) (from : Open)
-        (closed : ℕ) (state : Atoms) (steps : List GroundAction) (count : ℕ)
-        → IsVisiting states links queue from closed state steps count → length steps ≤ count
+        (state : Atoms) (steps : List GroundAction) (count : ℕ)
+        → IsVisiting states links queue from state steps true count → length steps ≤ count
         → AreApplicable task known state steps → IsFrontier task known limit states links queue
-    visiting_done states links queue from closed state steps count v end are =
+    visiting_done states links queue from state steps count v end are =
         let f = v.frontier in
         record {
           tree = f.tree;
@@ -271,21 +309,11 @@ module _ (task : Task) (known : Known) where
                           let found : s ≡ state =
                           one_there states from.place s state (subst (λ k. slice_get states k ≡ Some s) place at) v.here in
                           inr (λ step after cost taken.
-                          all_taken task known states state steps count v.taken end are step after cost
+                          all_taken task known states state steps count (v.taken refl) end are step after cost
                           (subst (λ b. IsStep task known b step after cost) found taken))
                     ]
               ];
         }
-
-    -- as many states are closed as before, and the one that was expanded
-    pub visited_count : (states : List Atoms) (links : List Link) (queue : List (Reverse Open)) (from : Open)
-        (old : List Atoms) (old_links : List Link) (old_queue : List (Reverse Open)) (state : Atoms)
-        (steps : List GroundAction) (count : ℕ)
-        → IsFrontier task known limit old old_links (in_heap from ∷ old_queue)
-        → IsVisiting states links queue from (closed_count old (in_heap from ∷ old_queue)) state steps count
-        → closed_count states queue ≡ closed_count old old_queue
-    visited_count states links queue from old old_links old_queue state steps count f v =
-        omega (arith, f.once, v.frontier.once, v.counted)
 
     -- ---- no state is open
 

@@ -1,8 +1,8 @@
 -- What a search answers.
-use Rattle.std.specs.Prelude.{◌≡◌, ℕ, ◌<◌, ◌≤◌, List, length, take}
+use Rattle.std.specs.Prelude.{◌≡◌, ℕ, ◌<◌, ◌≤◌, List, length, take, Bool, true, false, Option, Some, None}
 use Rattle.task_model.specs.Initial.{initial_state}
 use Rattle.task_model.specs.Known.{Known}
-use Rattle.task_model.specs.Plans.{Executes, IsGoal, IsValid}
+use Rattle.task_model.specs.Plans.{Executes, IsGoal, IsReached, IsSolvable, IsValid, MoreThan}
 use Rattle.task_model.specs.State.{Atoms}
 use Rattle.task_model.specs.declared.task.GroundAction.{GroundAction}
 use Rattle.task_model.specs.declared.task.Task.{Task}
@@ -31,12 +31,22 @@ HasPlan task known limit (Plan plan cost) = IsFoundPlan task known limit plan.st
 HasPlan task known limit Nothing = Unit {0}
 HasPlan task known limit Limit = Unit {0}
 
+-- the answer is that there is no plan
 abbrev pub IsNothing : Found → Type 0
 IsNothing (Plan plan cost) = ⊥
 IsNothing Nothing = Unit {0}
 IsNothing Limit = ⊥
 
+-- the answer is that there are too many states
 abbrev pub IsLimit : Found → Type 0
 IsLimit (Plan plan cost) = ⊥
 IsLimit Nothing = ⊥
 IsLimit Limit = Unit {0}
+
+-- there is a plan, or there is none, and at most so many states are reached; or more are
+abbrev pub IsSolvableWithin : Task → Known → ℕ → Option Bool → Type 0
+IsSolvableWithin task known most (Some true) =
+    IsSolvable task known × ¬ (MoreThan most (IsReached task known))
+IsSolvableWithin task known most (Some false) =
+    ¬ (IsSolvable task known) × ¬ (MoreThan most (IsReached task known))
+IsSolvableWithin task known most None = MoreThan most (IsReached task known)

@@ -1,5 +1,5 @@
 -- What holds while states are explored, best first.
-use Rattle.std.specs.Prelude.{◌≡◌, ℕ, ◌-◌, ◌<◌, ◌≤◌, ◌⊎◌, List, length, true, Some, slice_get, Contains}
+use Rattle.std.specs.Prelude.{◌≡◌, ℕ, ◌<◌, ◌≤◌, ◌⊎◌, List, length, true, Some, slice_get, Contains}
 use Rattle.std.specs.declared.cmp.Reverse.{Reverse}
 use Rattle.task_model.specs.Known.{Known}
 use Rattle.task_model.specs.Plans.{IsGoal}
@@ -20,10 +20,6 @@ in_heap entry = record { 0 = entry }
 -- the state at this place is among these
 abbrev pub IsOpen : ℕ → List (Reverse Open) → Type 0
 IsOpen place queue = (entry : Reverse Open) × Contains queue entry × (entry.0.place ≡ place)
-
--- how many states are not open any more
-abbrev pub closed_count : List Atoms → List (Reverse Open) → ℕ
-closed_count states queue = length states - length queue
 
 module _ (task : Task) (known : Known) where
   -- all steps from the state lead to states that are there
@@ -53,9 +49,8 @@ module _ (task : Task) (known : Known) where
     pub here : slice_get before from ≡ Some source
     pub added : IsAdded task known before earlier from source step states links place cost
 
-  -- what holds after a turn, where so many states had been closed
-  abbrev pub Spreads : ℕ → List Atoms → List Link → List (Reverse Open) → ℕ → Turn → Type 0
-  Spreads limit states links queue closed On =
-      IsFrontier limit states links queue × (closed_count states queue ≡ closed)
-  Spreads limit states links queue closed Goal = IsMet task known true limit states links
-  Spreads limit states links queue closed More = Unit {0}
+  -- what holds after a turn
+  abbrev pub Spreads : ℕ → List Atoms → List Link → List (Reverse Open) → Turn → Type 0
+  Spreads limit states links queue On = IsFrontier limit states links queue
+  Spreads limit states links queue Goal = IsMet task known true limit states links
+  Spreads limit states links queue More = Unit {0}

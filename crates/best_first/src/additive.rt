@@ -37,6 +37,8 @@ impl Additive {
 }
 
 impl Estimate for Additive {
+    ghost tells = { λ _ _ _ _. Unit {0} };
+
     fn estimate<L: Look>(&mut self, _task: &Task, _look: &L, state: &State) -> u64
         requires { IsFit _task.now }
     {

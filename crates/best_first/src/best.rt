@@ -1,26 +1,27 @@
 //! All states that are reached, those first that an estimate puts near the goal.
-ghost use Rattle.std.specs.Prelude.{◌≡◌, ◌∷◌, ◌-◌, ◌<◌, ◌≤◌, IfOk, OnOk, Some, slice_get};
+ghost use Rattle.std.specs.Prelude.{◌≡◌, ◌∷◌, ◌≤◌, IfOk, OnOk, Some, slice_get};
 ghost use Rattle.std.specs.BinaryHeap.{heap_items};
 ghost use Rattle.grounder.specs.Applicable.{IsApplicable, AreApplicable};
 ghost use Rattle.grounder.specs.Candidates.{AreCandidates};
 ghost use Rattle.task_model.specs.Fit.{IsFit};
 ghost use Rattle.task_model.specs.declared.limits.TheConstants.{MOST_STATES};
 ghost use Rattle.best_first.specs.Explored.{LeadsToState};
-ghost use Rattle.best_first.specs.Frontiers.{IsFrontier, IsWidened, Spreads, closed_count, in_heap};
+ghost use Rattle.best_first.specs.Frontiers.{IsFrontier, IsWidened, Spreads, in_heap};
 ghost use Rattle.best_first.specs.Outcome.{ComesWithin};
 
 use crate::estimate::Estimate;
-use crate::expand::{Scene, Turn, grow, meets_goal};
+use crate::expand::{Scene, Turn, grow};
 use crate::explore::{Explored, MOST_CANDIDATES};
 use crate::tree::Tree;
 use grounder::Candidates;
+use plan_check::meets_goal;
 use std::alloc::{AllocError, Global};
 use std::cmp::Reverse;
 use std::collections::BinaryHeap;
 use task_model::{GroundAction, Look, State};
 
-/// A state that is open: it was reached, and not expanded yet. The least rank is expanded first,
-/// and of equal ones the oldest.
+/// A state that is open: it was reached, and a step from it wasn't taken yet. The least rank goes
+/// first, and of equal ones the oldest.
 #[derive(Clone, Copy, PartialEq, Eq, PartialOrd, Ord, Debug)]
 struct Open {
     /// What it costs to come to the state, and the estimate from there.
@@ -29,6 +30,17 @@ struct Open {
     place: u32,
     /// What it costs to come to the state, by its links.
     cost: u64,
+    /// Whether the steps that the estimate wants early were taken.
+    later: bool,
+}
+
+/// Which steps from the state that is expanded are taken in this turn.
+#[derive(Drop)]
+struct Choice {
+    /// The place of the state that was estimated last.
+    judged: u32,
+    /// Of each of the steps, whether it is taken.
+    taken: Vec<bool>,
 }
 
 /// The states that were reached, and those of them that are open.
@@ -36,6 +48,42 @@ struct Open {
 struct Frontier {
     tree: Tree,
     queue: BinaryHeap<Reverse<Open>>,
+    choice: Choice,
+}
+
+impl Choice {
+    /// Chooses from the steps of a state that was taken out: all of them, or those that the estimate
+    /// wants early. Fails only where memory is wanting.
+    fn choose<L: Look, E: Estimate>(
+        &mut self,
+        scene: &Scene<'_, L>,
+        estimate: &mut E,
+        from: Open,
+        state: &State,
+        steps: &[GroundAction],
+    ) -> Result<(), AllocError>
+        requires { IsFit scene.now.task.now }
+    {
+        let is_asked = !from.later && estimate.delay() > 0;
+        if is_asked && self.judged != from.place {
+            estimate.estimate(scene.task, scene.look, state);
+            self.judged = from.place;
+        }
+        self.taken.clear();
+        for step in steps {
+            self.taken.push(!is_asked || estimate.wants(step))?;
+        }
+        Ok(())
+    }
+}
+
+/// Whether more states are there than so many links, and an open state goes before this one.
+fn is_overtaken(frontier: &Frontier, from: Open, links: usize) -> bool {
+    frontier.tree.links.len() > links
+        && frontier
+            .queue
+            .peek()
+            .is_some_and(|first| first.0.rank < from.rank)
 }
 
 /// How it goes on after the state at this place was added, by a step from the one that is expanded:
@@ -54,12 +102,11 @@ fn widen<L: Look, E: Estimate>(
         (in_heap from ∷ heap_items frontier.old.queue) place cost }
     ensures spreads { IfOk result (Spreads scene.now.task.now (L.known scene.now.look.now)
         scene.now.limit frontier.new.tree.store frontier.new.tree.links.items
-        (in_heap from ∷ heap_items frontier.new.queue)
-        (closed_count frontier.old.tree.store (in_heap from ∷ heap_items frontier.old.queue) - 1)) }
+        (in_heap from ∷ heap_items frontier.new.queue)) }
     ensures same { frontier.new.tree.store ≡ frontier.old.tree.store }
 {
     let state = frontier.tree.store.get(place)?;
-    if meets_goal(scene, &state) {
+    if meets_goal(scene.task, scene.look, &state) {
         return Ok(Turn::Goal);
     }
     if place >= scene.limit {
@@ -67,7 +114,14 @@ fn widen<L: Look, E: Estimate>(
     }
     let cost = from.cost.saturating_add(cost);
     let rank = cost.saturating_add(estimate.estimate(scene.task, scene.look, &state));
-    frontier.queue.push(Reverse(Open { rank, place, cost }))?;
+    frontier.choice.judged = place;
+    let later = false;
+    frontier.queue.push(Reverse(Open {
+        rank,
+        place,
+        cost,
+        later,
+    }))?;
     Ok(Turn::On)
 }
 
@@ -90,8 +144,7 @@ fn visit<L: Look, E: Estimate>(
     requires can { IsApplicable scene.now.task.now (L.known scene.now.look.now) state.now step.now }
     ensures spreads { IfOk result (Spreads scene.now.task.now (L.known scene.now.look.now)
         scene.now.limit frontier.new.tree.store frontier.new.tree.links.items
-        (in_heap from ∷ heap_items frontier.new.queue)
-        (closed_count frontier.old.tree.store (in_heap from ∷ heap_items frontier.old.queue))) }
+        (in_heap from ∷ heap_items frontier.new.queue)) }
     ensures leads { OnOk result (LeadsToState scene.now.task.now (L.known scene.now.look.now)
         frontier.old.tree.store state.now step.now frontier.new.tree.store) }
 {
@@ -101,9 +154,10 @@ fn visit<L: Look, E: Estimate>(
     }
 }
 
-/// Takes all the steps from the state that is expanded, as long as nothing ends it. They are all
-/// that can be taken.
-fn visit_all<L: Look, E: Estimate>(
+/// Takes those of the steps from the state that is expanded which are taken in this turn, as long as
+/// nothing ends it and no new state goes before this one, which is open still then. They are all
+/// that can be taken. Where others are left, they are taken later.
+fn visit_some<L: Look, E: Estimate>(
     scene: &Scene<'_, L>,
     estimate: &mut E,
     frontier: &mut Frontier,
@@ -121,21 +175,41 @@ fn visit_all<L: Look, E: Estimate>(
         steps.now }
     ensures { IfOk result (Spreads scene.now.task.now (L.known scene.now.look.now)
         scene.now.limit frontier.new.tree.store frontier.new.tree.links.items
-        (heap_items frontier.new.queue)
-        (closed_count frontier.old.tree.store (heap_items frontier.old.queue))) }
+        (heap_items frontier.new.queue)) }
 {
-    for step in steps {
+    let links = frontier.tree.links.len();
+    let mut all = true;
+    for (index, step) in steps.iter().enumerate() {
+        if frontier.choice.taken.get(index).copied() == Some(false) {
+            all = false;
+            continue;
+        }
         match visit(scene, estimate, frontier, from, state, step)? {
             Turn::On => {}
             Turn::Goal => return Ok(Turn::Goal),
             Turn::More => return Ok(Turn::More),
         }
+        if is_overtaken(frontier, from, links) {
+            frontier.queue.push(Reverse(from))?;
+            return Ok(Turn::On);
+        }
     }
+    if all {
+        return Ok(Turn::On);
+    }
+    let rank = from.rank.saturating_add(estimate.delay());
+    let (place, cost, later) = (from.place, from.cost, true);
+    frontier.queue.push(Reverse(Open {
+        rank,
+        place,
+        cost,
+        later,
+    }))?;
     Ok(Turn::On)
 }
 
-/// Takes all steps from an open state, which was taken out, and adds the states to which they lead,
-/// as long as nothing ends it. Fails only where memory is wanting.
+/// Takes steps from an open state, which was taken out, and adds the states to which they lead, as
+/// long as nothing ends it. Fails only where memory is wanting.
 fn expand<L: Look, E: Estimate>(
     alloc: Global,
     scene: &Scene<'_, L>,
@@ -153,17 +227,21 @@ fn expand<L: Look, E: Estimate>(
         candidates.now }
     ensures { IfOk result (Spreads scene.now.task.now (L.known scene.now.look.now)
         scene.now.limit frontier.new.tree.store frontier.new.tree.links.items
-        (heap_items frontier.new.queue)
-        (closed_count frontier.old.tree.store (heap_items frontier.old.queue))) }
+        (heap_items frontier.new.queue)) }
 {
     let state = frontier.tree.store.get(from.place)?;
     let steps = candidates.applicable(alloc, scene.task, scene.look, &state)?;
-    visit_all(scene, estimate, frontier, from, &state, steps.as_slice())
+    let steps = steps.as_slice();
+    let choice = &mut frontier.choice;
+    choice.choose(scene, estimate, from, &state, steps)?;
+    visit_some(scene, estimate, frontier, from, &state, steps)
 }
 
 /// Goes through the states that are reached, the one with the least sum of the cost so far and the
 /// estimate first, until one meets the goal, or there are more than the limit allows, or all were
 /// seen. Fails only where memory is wanting.
+///
+/// Each turn closes a state, leaves it for later, or adds one, so there are at most three a state.
 pub(crate) fn explore_best<L: Look, E: Estimate>(
     alloc: Global,
     scene: &Scene<'_, L>,
@@ -177,23 +255,36 @@ pub(crate) fn explore_best<L: Look, E: Estimate>(
 {
     let tree = Tree::new(alloc, scene.task)?;
     let state = tree.store.get(0)?;
-    if meets_goal(scene, &state) {
+    if meets_goal(scene.task, scene.look, &state) {
         return Ok(Explored::Goal(tree));
     }
     let candidates = Candidates::new(alloc, scene.task, scene.look, MOST_CANDIDATES)?;
+    let rank = estimate.estimate(scene.task, scene.look, &state);
+    let choice = Choice {
+        judged: 0,
+        taken: Vec::new(alloc),
+    };
     let queue = BinaryHeap::new(alloc);
-    let mut frontier = Frontier { tree, queue };
+    let mut frontier = Frontier {
+        tree,
+        queue,
+        choice,
+    };
     frontier.queue.push(Reverse(Open {
-        rank: 0,
+        rank,
         place: 0,
         cost: 0,
+        later: false,
     }))?;
-    while let Some(Reverse(from)) = frontier.queue.pop() {
+    'turns: for _ in 0..4 * scene.limit + 4 {
+        let Some(Reverse(from)) = frontier.queue.pop() else {
+            return Ok(Explored::All);
+        };
         match expand(alloc, scene, &candidates, estimate, &mut frontier, from)? {
             Turn::On => {}
             Turn::Goal => return Ok(Explored::Goal(frontier.tree)),
             Turn::More => return Ok(Explored::More),
         }
     }
-    Ok(Explored::All)
+    Ok(Explored::More)
 }

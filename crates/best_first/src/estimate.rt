@@ -1,18 +1,33 @@
 //! Estimates of what is left to the goal.
-ghost use Rattle.std.specs.Prelude.{◌≡◌};
+ghost use Rattle.std.specs.Prelude.{◌≡◌, ℕ};
 ghost use Rattle.task_model.specs.Fit.{IsFit};
+ghost use Rattle.task_model.specs.State.{Atoms};
 
 use formula_eval::Env;
-use grounder::tops;
-use relaxed_task::fluent_atom;
-use task_model::{Look, State, Task};
+use grounder::{fluent_atom, tops};
+use task_model::{GroundAction, Look, State, Task};
 
 /// An estimate of what it costs to come from a state to the goal. It may order a search, and never
 /// prunes: whatever it answers, a search finds a plan or rules one out as it promises.
 pub trait Estimate {
+    /// What a call tells: of the estimate before and after it, of the state, and of the answer.
+    ghost tells: { Self → Self → Atoms → ℕ → Type 0 };
+
     /// The estimate for the state.
     fn estimate<L: Look>(&mut self, task: &Task, look: &L, state: &State) -> u64
-        requires { IsFit task.now };
+        requires { IsFit task.now }
+        ensures { tells self.old self.new state.now result };
+
+    /// Whether the step, from the state that was estimated last, is worth taking early.
+    fn wants(&self, _step: &GroundAction) -> bool {
+        true
+    }
+
+    /// How much later the other steps are taken, as a difference of estimates. Where it is 0, all
+    /// are taken alike, and none is asked for.
+    fn delay(&self) -> u64 {
+        0
+    }
 }
 
 /// The estimate that knows nothing and always answers 0.
@@ -20,6 +35,8 @@ pub trait Estimate {
 pub struct Blind;
 
 impl Estimate for Blind {
+    ghost tells = { λ _ _ _ n. n ≡ 0 };
+
     fn estimate<L: Look>(&mut self, _task: &Task, _look: &L, _state: &State) -> u64
         requires { IsFit _task.now }
         ensures { result ≡ 0 }
@@ -34,6 +51,8 @@ impl Estimate for Blind {
 pub struct GoalCount;
 
 impl Estimate for GoalCount {
+    ghost tells = { λ _ _ _ _. Unit {0} };
+
     fn estimate<L: Look>(&mut self, task: &Task, _look: &L, state: &State) -> u64
         requires { IsFit task.now }
     {

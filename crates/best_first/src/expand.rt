@@ -3,17 +3,14 @@ ghost use Rattle.std.specs.Prelude.{◌≡◌, ◌+◌, ◌<◌, ◌≤◌, ◌�
 ghost use Rattle.grounder.specs.Applicable.{IsApplicable, AreApplicable};
 ghost use Rattle.grounder.specs.Candidates.{AreCandidates};
 ghost use Rattle.task_model.specs.Fit.{IsFit};
-ghost use Rattle.task_model.specs.Plans.{IsGoal};
 ghost use Rattle.task_model.specs.State.{Atoms, with_atoms, without_atoms};
 ghost use Rattle.task_model.specs.Steps.{IsStep};
 ghost use Rattle.task_model.specs.declared.limits.TheConstants.{MOST_STATES};
 ghost use Rattle.best_first.specs.Explored.{ExploringEnds, Grows, IsExplored, IsGrown, LeadsToState, Comes};
 
 use crate::tree::{Link, Tree};
-use formula_eval::Env;
-use formula_memo::holds_once;
 use grounder::Candidates;
-use plan_check::{Changes, changes_of, step_cost};
+use plan_check::{Changes, changes_of, meets_goal, step_cost};
 use state_store::StateStore;
 use std::alloc::{AllocError, Global};
 use task_model::{GroundAction, Look, State, Task};
@@ -39,21 +36,6 @@ pub(crate) enum Turn {
     More,
 }
 
-/// Whether the state meets the goal.
-pub(crate) fn meets_goal<L: Look>(scene: &Scene<'_, L>, state: &State) -> bool
-    requires { IsFit scene.now.task.now }
-    ensures { IsTrue result ↔ IsGoal scene.now.task.now (L.known scene.now.look.now) state.now }
-{
-    let mut env = Env::new(&[]);
-    holds_once(
-        scene.task,
-        scene.look,
-        state,
-        &scene.task.problem.goal,
-        &mut env,
-    )
-}
-
 /// Whether the state at this place ends the search.
 pub(crate) fn ends<L: Look>(
     scene: &Scene<'_, L>,
@@ -65,33 +47,35 @@ pub(crate) fn ends<L: Look>(
     ensures { IfOk result (λ ends. (s : Atoms) → slice_get store.now id ≡ Some s → IsTrue ends
         ↔ ExploringEnds scene.now.task.now (L.known scene.now.look.now) scene.now.seeks_goal s) }
 {
-    Ok(scene.seeks_goal && meets_goal(scene, &store.get(id)?))
+    Ok(scene.seeks_goal && meets_goal(scene.task, scene.look, &store.get(id)?))
 }
 
 /// What a step that can be taken does to a state, and what it costs.
 #[derive(Drop)]
-struct Taken {
-    changes: Changes,
-    cost: u64,
+pub struct Taken {
+    /// The atoms that go and come.
+    pub changes: Changes,
+    /// What the step costs.
+    pub cost: u64,
 }
 
-/// What a step does that can be taken. Fails only where memory is wanting.
-fn take_step<L: Look>(
-    scene: &Scene<'_, L>,
+/// What a step does that can be taken in the state. Fails only where memory is wanting.
+pub fn take_step<L: Look>(
+    task: &Task,
+    look: &L,
     state: &State,
     step: &GroundAction,
 ) -> Result<Taken, AllocError>
-    requires fit { IsFit scene.now.task.now }
-    requires can { IsApplicable scene.now.task.now (L.known scene.now.look.now) state.now step.now }
-    ensures step { IfOk result (λ taken. IsStep scene.now.task.now (L.known scene.now.look.now)
-        state.now step.now
+    requires fit { IsFit task.now }
+    requires can { IsApplicable task.now (L.known look.now) state.now step.now }
+    ensures step { IfOk result (λ taken. IsStep task.now (L.known look.now) state.now step.now
         (with_atoms (without_atoms state.now taken.changes.gone.items) taken.changes.come.items)
         taken.cost) }
     ensures small { IfOk result (λ taken. taken.cost ≤ 262144000000) }
 {
-    let action = &scene.task.domain.actions.as_slice()[step.action as usize];
+    let action = &task.domain.actions.as_slice()[step.action as usize];
     let args = step.args.as_slice();
-    let Some(cost) = step_cost(scene.task, scene.look, state, action, args) else {
+    let Some(cost) = step_cost(task, look, state, action, args) else {
         unreachable!()
     };
     let changes = changes_of(state.allocator(), action, args)?;
@@ -114,7 +98,7 @@ pub(crate) fn grow<L: Look>(
     ensures { IfOk result (Grows scene.now.task.now (L.known scene.now.look.now) tree.old.store
         tree.old.links.items from state.now step.now tree.new.store tree.new.links.items) }
 {
-    let taken = take_step(scene, state, step)?;
+    let taken = take_step(scene.task, scene.look, state, step)?;
     let gone = taken.changes.gone.as_slice();
     let come = taken.changes.come.as_slice();
     let (id, fresh) = tree.store.intern_after(from, gone, come)?;

@@ -12,7 +12,7 @@ use task_model::Look;
 
 /// How many arguments of actions are kept for all states. Each takes 80 bytes; an action that has
 /// more is joined anew in each state.
-pub(crate) const MOST_CANDIDATES: usize = 100_000;
+pub const MOST_CANDIDATES: usize = 100_000;
 
 /// What an exploration comes to.
 #[derive(Drop)]

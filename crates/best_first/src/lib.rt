@@ -1,17 +1,23 @@
 //! Search for plans, complete within a number of states.
 #![tactic(auto)]
 
-pub mod additive;
+mod additive;
 mod best;
-pub mod estimate;
+mod estimate;
 mod expand;
 mod explore;
-pub mod found;
-mod path;
-pub mod plans;
+mod found;
+mod plans;
+mod relaxed_plan;
 mod tree;
+mod way;
 
 pub use additive::Additive;
 pub use estimate::{Blind, Estimate, GoalCount};
+pub use expand::{Taken, take_step};
+pub use explore::MOST_CANDIDATES;
 pub use found::Found;
-pub use plans::{exceeds, search};
+pub use plans::{exceeds, is_solvable_within, search};
+pub use relaxed_plan::RelaxedPlan;
+pub use tree::Link;
+pub use way::path;

@@ -3,7 +3,7 @@ ghost use Rattle.std.specs.Prelude.{◌≤◌, ◌↔◌, IfOk, IsTrue};
 ghost use Rattle.task_model.specs.Fit.{IsFit};
 ghost use Rattle.task_model.specs.Plans.{IsFar, IsReached, IsSolvable, MoreThan};
 ghost use Rattle.task_model.specs.declared.limits.TheConstants.{MOST_STATES};
-ghost use Rattle.best_first.specs.Answer.{HasPlan, IsNothing, IsLimit};
+ghost use Rattle.best_first.specs.Answer.{HasPlan, IsNothing, IsLimit, IsSolvableWithin};
 ghost use Rattle.best_first.specs.Outcome.{ComesTo};
 
 use crate::best::explore_best;
@@ -11,7 +11,8 @@ use crate::estimate::Estimate;
 use crate::expand::Scene;
 use crate::explore::{Explored, explore};
 use crate::found::Found;
-use crate::path::path;
+use crate::relaxed_plan::RelaxedPlan;
+use crate::way::path;
 use std::alloc::{AllocError, Global};
 use task_model::{Look, Task};
 
@@ -74,6 +75,33 @@ pub fn search<L: Look, E: Estimate>(
         }
         Explored::All => Ok(Found::Nothing),
         Explored::More => Ok(Found::Limit),
+    }
+}
+
+/// Whether there is a valid plan, or None where more than `most` states are reached; `most` is from 1
+/// to 200,000. Fails only where memory is wanting.
+pub fn is_solvable_within<L: Look>(
+    alloc: Global,
+    task: &Task,
+    look: &L,
+    most: u32,
+) -> Result<Option<bool>, AllocError>
+    requires fit { IsFit task.now }
+    requires some { 1 ≤ most }
+    requires few { most ≤ MOST_STATES }
+    ensures { IfOk result (IsSolvableWithin task.now (L.known look.now) most) }
+{
+    let mut estimate = Box::new(alloc, RelaxedPlan::new(alloc, task, look)?)?;
+    match search(alloc, task, look, most, &mut *estimate)? {
+        Found::Nothing => Ok(Some(false)),
+        Found::Limit => Ok(None),
+        Found::Plan(_, _) => {
+            if exceeds(alloc, task, look, most)? {
+                Ok(None)
+            } else {
+                Ok(Some(true))
+            }
+        }
     }
 }
 

@@ -10,13 +10,13 @@ use task_model::{GroundAction, Task};
 
 /// How a state was first reached: by a step from an earlier state.
 #[derive(Drop)]
-pub(crate) struct Link {
-    /// The earlier state's place.
-    pub(crate) parent: u32,
+pub struct Link {
+    /// The earlier state's place, from 0.
+    pub parent: u32,
     /// The step.
-    pub(crate) step: GroundAction,
+    pub step: GroundAction,
     /// What the step costs.
-    pub(crate) cost: u64,
+    pub cost: u64,
 }
 
 /// The states that were reached, the initial one first, and a link for each of the others.

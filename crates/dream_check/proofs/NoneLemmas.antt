@@ -4,7 +4,8 @@ use Rattle.task_model.specs.Known.{Known}
 use Rattle.task_model.specs.Plans.{IsReached, MoreThan}
 use Rattle.task_model.specs.State.{Atoms}
 use Rattle.task_model.specs.declared.task.Task.{Task}
-use Rattle.dream_check.specs.Judged.{IsNoneOver, IsSolvableWithin}
+use Rattle.best_first.specs.Answer.{IsSolvableWithin}
+use Rattle.dream_check.specs.Judged.{IsNoneOver}
 
 -- what is more than so many is more than fewer
 more_than_fewer : (most fewer : ℕ) (IsSuch : Atoms → Type 0) → fewer ≤ most → MoreThan most IsSuch → MoreThan fewer IsSuch

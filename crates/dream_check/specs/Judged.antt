@@ -4,6 +4,7 @@ use Rattle.task_model.specs.Dreams as dreams
 use Rattle.task_model.specs.Dreams.{supposing}
 use Rattle.task_model.specs.Known.{Known}
 use Rattle.task_model.specs.Plans.{IsReached, IsSolvable, MoreThan}
+use Rattle.task_model.specs.declared.limits.TheConstants.{MOST_SUPPOSED}
 use Rattle.task_model.specs.declared.stream.Instance.{Instance}
 use Rattle.task_model.specs.declared.task.Task.{Task}
 use Rattle.transcript_model.specs.Dreaming.{AreSupposedAfter, HasNoDreamAfter, IsDreamAfter}
@@ -38,7 +39,7 @@ module _ (limits : Limits) (task : Task) (before : List Entry) (tried : List Ins
   pub record IsUndecidedNone (limit : ℕ) : Type 0 where
     pub list : List dreams.Entry
     pub supposed : AreSupposedAfter limits task before tried list
-    pub few : length list ≤ 20000
+    pub few : length list ≤ MOST_SUPPOSED
     pub below : limit < limits.states
     pub many : MoreThan limit (IsReached task (supposing task (known_of task before) list list))
 
@@ -51,14 +52,6 @@ module _ (limits : Limits) (task : Task) (before : List Entry) (tried : List Ins
   IsNoneJudged limit None = IsUndecidedNone limit
 
 -- ---- over a list
-
--- there is a plan, or there is none, and at most so many states are reached; or more are
-abbrev pub IsSolvableWithin : Task → Known → ℕ → Option Bool → Type 0
-IsSolvableWithin task known most (Some true) =
-    IsSolvable task known × ¬ (MoreThan most (IsReached task known))
-IsSolvableWithin task known most (Some false) =
-    ¬ (IsSolvable task known) × ¬ (MoreThan most (IsReached task known))
-IsSolvableWithin task known most None = MoreThan most (IsReached task known)
 
 -- more than so many states are reached, and the report allows more
 abbrev pub IsUndecided : Task → Known → ℕ → ℕ → Type 0

@@ -5,6 +5,7 @@ use Rattle.lemmas.specs.Lists.{AreAscending}
 use Rattle.shown_steps.specs.Plans.{CanRun}
 use Rattle.task_model.specs.Dreams as dreams
 use Rattle.task_model.specs.Dreams.{supposing, instances_of, HaveSupport}
+use Rattle.task_model.specs.declared.limits.TheConstants.{MOST_SUPPOSED}
 use Rattle.task_model.specs.declared.stream.Instance.{Instance}
 use Rattle.task_model.specs.declared.task.Task.{Task}
 use Rattle.transcript_model.specs.Dreaming.{AreSupposedAfter, IsDreamAfter}
@@ -20,7 +21,7 @@ module _ (limits : Limits) (task : Task) (before : List Entry) (tried : List Ins
   -- each with support by those before it.
   pub record IsChosen (uses : List DreamUse) (list entries : List dreams.Entry) : Type 0 where
     pub supposed : AreSupposedAfter limits task before tried list
-    pub few : length list ≤ 20000
+    pub few : length list ≤ MOST_SUPPOSED
     pub places : List ℕ
     pub ascend : AreAscending nat_cmp places
     pub chosen : map (slice_get list) places ≡ map Some entries

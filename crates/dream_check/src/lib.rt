@@ -11,4 +11,4 @@ mod table;
 mod uses;
 
 pub use dream::{Dreamed, judge_dream};
-pub use none::{is_solvable_within, judge_none};
+pub use none::judge_none;

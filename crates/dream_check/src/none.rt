@@ -1,46 +1,17 @@
 //! Whether no plan rests on what may be supposed.
 ghost use Rattle.std.specs.Prelude.{◌≡◌, ℕ, ◌≤◌, List, IfOk};
-ghost use Rattle.dream_check.specs.Judged.{IsNoneJudged, IsNoneOver, IsSolvableWithin};
+ghost use Rattle.dream_check.specs.Judged.{IsNoneJudged, IsNoneOver};
 ghost use Rattle.task_model.specs.Fit.{IsFit};
 ghost use Rattle.task_model.specs.declared.limits.TheConstants.{MOST_STATES};
 ghost use Rattle.learning.specs.Ledgers.{IsLedger};
 ghost use Rattle.transcript_model.specs.Rounds.{Limits};
 ghost use Rattle.transcript_model.specs.declared.entry.Entry.{Entry as AnyEntry};
 
-use best_first::{Additive, Found, exceeds, search};
+use best_first::is_solvable_within;
 use learning::Ledger;
 use optimistic_set::{OptimisticFault, Tried, optimistic};
 use std::alloc::{AllocError, Global};
 use task_model::{Look, Task};
-
-/// Whether there is a plan, or None where more than so many states are reached.
-///
-/// # Errors
-/// Only where memory is wanting.
-pub fn is_solvable_within<L: Look>(
-    alloc: Global,
-    task: &Task,
-    look: &L,
-    most: u32,
-) -> Result<Option<bool>, AllocError>
-    requires fit { IsFit task.now }
-    requires some { 1 ≤ most }
-    requires few { most ≤ MOST_STATES }
-    ensures { IfOk result (IsSolvableWithin task.now (L.known look.now) most) }
-{
-    let mut estimate = Additive::new(alloc, task, look)?;
-    match search(alloc, task, look, most, &mut estimate)? {
-        Found::Nothing => Ok(Some(false)),
-        Found::Limit => Ok(None),
-        Found::Plan(_, _) => {
-            if exceeds(alloc, task, look, most)? {
-                Ok(None)
-            } else {
-                Ok(Some(true))
-            }
-        }
-    }
-}
 
 /// Whether no plan rests on a list, over which `look` looks up what is known, where `states` states
 /// may be searched; None where more than `limit` states are reached, and `states` is more.

@@ -6,6 +6,7 @@ use Rattle.optimistic_set.specs.Dreamable.{Dreamable}
 use Rattle.task_model.specs.Dreams as dreams
 use Rattle.task_model.specs.Dreams.{supposing, instances_of, HaveSupport, without_entry}
 use Rattle.task_model.specs.Plans.{IsValid, IsSolvable, IsFar}
+use Rattle.task_model.specs.declared.limits.TheConstants.{MOST_SUPPOSED}
 use Rattle.task_model.specs.declared.stream.Instance.{Instance}
 use Rattle.task_model.specs.declared.task.GroundAction.{GroundAction}
 use Rattle.task_model.specs.declared.task.Task.{Task}
@@ -27,7 +28,7 @@ module _ (limits : Limits) (task : Task) (before : List Entry) (tried : List Ins
   -- states are reached there than the limit allows, and so many also within the steps of any plan.
   abbrev pub HasSureNoDreamAfter : Type 0
   HasSureNoDreamAfter =
-      MoreAreSupposed 20000 task (known_of task before) (notes_of task before) tried limits.depth
+      MoreAreSupposed MOST_SUPPOSED task (known_of task before) (notes_of task before) tried limits.depth
       ⊎ ((list : List dreams.Entry) × AreSupposedAfter limits task before tried list
       × ((¬ (IsSolvable task (supposing task (known_of task before) list list)))
       ⊎ IsFar task (supposing task (known_of task before) list list) limits.states))

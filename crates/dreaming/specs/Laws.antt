@@ -5,6 +5,7 @@ use Rattle.lemmas.specs.Lists.{AreDistinct}
 use Rattle.task_model.specs.Dreams as dreams
 use Rattle.task_model.specs.Dreams.{entry_names}
 use Rattle.task_model.specs.Fit.{IsFit}
+use Rattle.task_model.specs.declared.limits.TheConstants.{MOST_SUPPOSED}
 use Rattle.task_model.specs.declared.stream.Instance.{Instance}
 use Rattle.task_model.specs.declared.task.Task.{Task}
 use Rattle.transcript_model.specs.Dreaming.{AreSupposedAfter, HasNoDreamAfter}
@@ -23,5 +24,5 @@ SureIsNone =
 abbrev pub PlaceholdersAreOwn : Type 0
 PlaceholdersAreOwn =
     (limits : Limits) (task : Task) (before : List Entry) (tried : List Instance) (list : List dreams.Entry)
-    → IsFit task → AreSupposedAfter limits task before tried list → length list ≤ 20000
+    → IsFit task → AreSupposedAfter limits task before tried list → length list ≤ MOST_SUPPOSED
     → AreDistinct (names_of task before ++ entry_names 1 list)

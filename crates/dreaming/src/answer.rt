@@ -14,7 +14,7 @@ use crate::taken::Listing;
 use crate::thin::thin;
 use crate::trial::{Kept, Trial, kept_of};
 use crate::wanted::{Wanted, places_named};
-use best_first::{Additive, Found, search};
+use best_first::{Found, RelaxedPlan, search};
 use optimistic_set::{OptEntry, OptimisticFault, Supposed, Tried, optimistic};
 use session_core::Session;
 use shown_plan::name_steps;
@@ -146,8 +146,8 @@ fn dream_over(
     ensures { IfOk result (ComesOfList task.now supposed.now states) }
 {
     let look = supposed.look();
-    let mut estimate = Additive::new(alloc, task, &look)?;
-    match search(alloc, task, &look, states, &mut estimate)? {
+    let mut estimate = Box::new(alloc, RelaxedPlan::new(alloc, task, &look)?)?;
+    match search(alloc, task, &look, states, &mut *estimate)? {
         Found::Plan(plan, cost) => thinned(alloc, task, supposed, plan, cost),
         Found::Nothing => Ok(Dreamt::Empty),
         Found::Limit => Ok(Dreamt::Empty),

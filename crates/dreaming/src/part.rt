@@ -108,8 +108,8 @@ impl<'a> Part<'a> {
         let outputs = entry.outputs();
         let domain = &task.domain;
         add_certified(
-            &mut self.more,
             alloc,
+            &mut self.more,
             self.facts,
             domain,
             stream,

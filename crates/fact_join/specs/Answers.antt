@@ -5,7 +5,9 @@ use Rattle.task_model.specs.Known.{Known, is_fact, atom_fact}
 use Rattle.task_model.specs.Truth.{slots_of, objects_at, have_types}
 use Rattle.task_model.specs.declared.condition.Term.{Term}
 use Rattle.task_model.specs.declared.condition.Term.TheVariants.{Slot, Object}
+use Rattle.task_model.specs.declared.domain.Pattern.{Pattern}
 use Rattle.task_model.specs.declared.fact.Fact.{Fact}
+use Rattle.task_model.specs.declared.limits.TheConstants.{SLOTS}
 use Rattle.fact_join.specs.Adding.{Adds, ComesOf}
 use Rattle.fact_join.specs.Partials.{Agrees}
 use Rattle.fact_join.specs.declared.partial.Partial.{Partial}
@@ -22,6 +24,10 @@ abbrev pub is_atom_over : ℕ → QueryAtom → Bool
 is_atom_over width atom =
     nat_le (length atom.terms.now) 8 && list_all (is_term_of width) atom.terms.now
 
+-- the same of an atom whose terms are listed
+abbrev pub is_pattern_of : ℕ → Pattern → Bool
+is_pattern_of width p = nat_le (length p.args) 8 && list_all (is_term_of width) p.args
+
 -- the atom is known where the slots have these objects
 abbrev pub is_known : Known → List ℕ → QueryAtom → Bool
 is_known known slots atom = is_fact known.facts (atom_fact atom.pred (objects_at slots atom.terms.now))
@@ -34,9 +40,9 @@ pub record IsAnswer (known : Known) (sorts : List ℕ) (wants : List ℕ → Boo
   pub known_atoms : list_all (is_known known (slots_of tuple)) atoms ≡ true
   pub wanted : wants tuple ≡ true
 
--- At most sixteen types; the slots of the atoms are places of the tuple; each tuple as long can be judged.
+-- No more types than slots; the slots of the atoms are places of the tuple; each tuple as long can be judged.
 pub record IsAskable (sorts : List ℕ) (can_judge : List ℕ → Type 0) (atoms : List QueryAtom) : Type 0 where
-  pub narrow : length sorts ≤ 16
+  pub narrow : length sorts ≤ SLOTS
   pub slots : list_all (is_atom_over (length sorts)) atoms ≡ true
   pub judged : (tuple : List ℕ) → length tuple ≡ length sorts → can_judge tuple
 

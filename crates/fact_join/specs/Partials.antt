@@ -3,14 +3,15 @@ use Rattle.std.specs.Prelude.{◌≡◌, ℕ, ◌<◌, ◌≤◌, List, ◌↔�
 use Rattle.task_model.specs.Truth.{object_of, objects_at}
 use Rattle.task_model.specs.declared.condition.Term.{Term}
 use Rattle.task_model.specs.declared.condition.Term.TheVariants.{Slot}
+use Rattle.task_model.specs.declared.limits.TheConstants.{SLOTS}
 use Rattle.fact_join.specs.declared.partial.Grounding.{Grounding}
 use Rattle.fact_join.specs.declared.partial.Grounding.TheVariants.{Row, Free}
 use Rattle.fact_join.specs.declared.partial.Partial.{Partial}
 
--- where one of the sixteen slots of the partial tuple has an object, the slots have it too
+-- where one of the slots of the partial tuple has an object, the slots have it too
 abbrev pub Agrees : Partial → List ℕ → Type 0
 Agrees partial slots =
-    (slot object : ℕ) → slot < 16 → slice_get partial.slots slot ≡ Some (Some object)
+    (slot object : ℕ) → slot < SLOTS → slice_get partial.slots slot ≡ Some (Some object)
     → slice_index slots slot ≡ object
 
 abbrev pub free_slots : Partial → ℕ

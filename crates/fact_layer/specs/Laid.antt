@@ -4,6 +4,7 @@ use Rattle.task_model.specs.Known.{Known}
 use Rattle.task_model.specs.declared.fact.Fact.{Fact}
 use Rattle.task_model.specs.declared.task.Valued.{Valued}
 
+-- what is known with names, facts and values behind a store's own
 abbrev pub laid_over : Known → List (List ℕ) → List Fact → List Valued → Known
 laid_over known names facts values =
     record { names = known.names ++ names; facts = known.facts ++ facts; values = known.values ++ values }

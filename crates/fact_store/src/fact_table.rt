@@ -5,10 +5,12 @@ ghost use Rattle.task_model.specs.declared.fact.Fact.{Fact};
 ghost use Rattle.fact_store.specs.Atoms.{atoms_of};
 ghost use Rattle.fact_store.specs.Tables.{CoverPlaces};
 
+use crate::number_hasher::NumberHasher;
 use crate::scan::{count_with, nth_with};
 use crate::table::{Group, Table};
 use indexmap::IndexSet;
 use std::alloc::{AllocError, Global};
+use std::hash::BuildHasherDefault;
 use std::marker::Model;
 use task_model::{Fact, Obj};
 
@@ -17,7 +19,7 @@ use task_model::{Fact, Obj};
 /// that it doesn't cover are searched.
 #[derive(Drop)]
 pub struct FactTable {
-    facts: IndexSet<Fact>,
+    facts: IndexSet<Fact, BuildHasherDefault<NumberHasher>>,
     objects: Table,
     atoms: Table,
     /// By places of the arguments.
@@ -70,7 +72,7 @@ impl FactTable {
         ensures { result ≡ [] }
     {
         FactTable {
-            facts: IndexSet::new(alloc),
+            facts: IndexSet::with_hasher(alloc, BuildHasherDefault::new()),
             objects: Table::new(alloc),
             atoms: Table::new(alloc),
             atoms_at: Vec::new(alloc),

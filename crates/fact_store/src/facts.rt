@@ -5,9 +5,11 @@ ghost use Rattle.fact_store.specs.Store.{coherent_prop};
 
 use crate::fact_table::FactTable;
 use crate::initial::{add_names, add_objects, add_static, add_values};
+use crate::number_hasher::NumberHasher;
 use crate::value_table::ValueTable;
 use indexmap::IndexSet;
 use std::alloc::{AllocError, Global};
+use std::hash::BuildHasherDefault;
 use std::marker::Model;
 use task_model::{Fact, Look, Name, Obj, Row, Task, Valued};
 
@@ -19,7 +21,7 @@ pub const MOST_NAMES: usize = (1 << 32) - (1 << 18);
 #[derive(Drop)]
 pub struct Facts {
     names: Vec<Name>,
-    places: IndexSet<Vec<u8>>,
+    places: IndexSet<Vec<u8>, BuildHasherDefault<NumberHasher>>,
     facts: FactTable,
     values: ValueTable,
     alloc: Global,
@@ -71,9 +73,9 @@ impl Facts {
         ensures { OnOk result (self.new.known ≡ initial_known task.now) }
     {
         let problem = &task.problem;
-        self.reserve(problem.objects.len())?;
-        add_names(self, alloc, problem.objects.as_slice())?;
-        add_objects(self, alloc, &task.domain, problem.objects.as_slice())?;
+        self.reserve(problem.objects.len(), problem.init.len())?;
+        add_names(alloc, self, problem.objects.as_slice())?;
+        add_objects(alloc, self, &task.domain, problem.objects.as_slice())?;
         add_static(self, &task.domain, problem.init.as_slice())?;
         add_values(self, &task.domain, problem.values.as_slice())?;
         Ok(())
@@ -85,20 +87,22 @@ impl Facts {
     {
         Facts {
             names: Vec::new(alloc),
-            places: IndexSet::new(alloc),
+            places: IndexSet::with_hasher(alloc, BuildHasherDefault::new()),
             facts: FactTable::new(alloc),
             values: ValueTable::new(alloc),
             alloc,
         }
     }
 
-    /// Takes room for so many objects, each with two facts. Fails only where memory is wanting.
-    fn reserve(&mut self, objects: usize) -> Result<(), AllocError>
+    /// Takes room for so many objects, each with two facts, and for so many facts more. Fails only
+    /// where memory is wanting.
+    fn reserve(&mut self, objects: usize, facts: usize) -> Result<(), AllocError>
         ensures { self.new ≡ self.old }
     {
         self.names.reserve(objects)?;
         self.places.reserve(objects)?;
-        self.facts.reserve(objects.saturating_mul(2))
+        self.facts
+            .reserve(objects.saturating_mul(2).saturating_add(facts))
     }
 
     /// The facts, with the tables by which they are found.

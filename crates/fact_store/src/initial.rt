@@ -11,12 +11,12 @@ ghost use Rattle.task_model.specs.Roles.{role_of};
 
 use crate::facts::Facts;
 use std::alloc::{AllocError, Global};
-use task_model::{Declared, Domain, Fact, Kind, Obj, Role, Row, Valued};
+use task_model::{Declared, Domain, Fact, Kind, Obj, Role, Row, Valued, supertypes};
 
 /// Gives the declared objects their numbers, in a store that has no names.
 pub(crate) fn add_names(
-    facts: &mut Facts,
     alloc: Global,
+    facts: &mut Facts,
     objects: &[Declared],
 ) -> Result<(), AllocError>
     requires empty { facts.old.known.names ≡ [] }
@@ -34,7 +34,7 @@ pub(crate) fn add_names(
 }
 
 /// That the object has the type. Fails only where memory is wanting, and leaves all as it was then.
-fn add_type(facts: &mut Facts, alloc: Global, sort: u32, object: Obj) -> Result<(), AllocError>
+fn add_type(alloc: Global, facts: &mut Facts, sort: u32, object: Obj) -> Result<(), AllocError>
     requires { IsIn facts.old.known.names object }
     ensures facts { OnOk result (facts.new.known.facts
         ≡ with_fact facts.old.known.facts (type_fact sort object)) }
@@ -53,7 +53,7 @@ fn add_type(facts: &mut Facts, alloc: Global, sort: u32, object: Obj) -> Result<
 
 /// That the object has each of these types. Fails only where memory is wanting; then the first of
 /// them may be known.
-fn add_types(facts: &mut Facts, alloc: Global, sorts: &[u32], object: Obj) -> Result<(), AllocError>
+fn add_types(alloc: Global, facts: &mut Facts, sorts: &[u32], object: Obj) -> Result<(), AllocError>
     requires { IsIn facts.old.known.names object }
     ensures facts { OnOk result (facts.new.known.facts
         ≡ with_facts facts.old.known.facts (map (λ s. type_fact s object) sorts.now)) }
@@ -63,20 +63,9 @@ fn add_types(facts: &mut Facts, alloc: Global, sorts: &[u32], object: Obj) -> Re
     ensures values { facts.new.known.values ≡ facts.old.known.values }
 {
     for sort in sorts {
-        add_type(facts, alloc, *sort, object)?;
+        add_type(alloc, facts, *sort, object)?;
     }
     Ok(())
-}
-
-/// The proper supertypes of the type, and none where there is no such type.
-pub fn supertypes(domain: &Domain, sort: u32) -> &[u32]
-    ensures { result.now ≡ unwrap_or (option_map (λ s. s.above) (slice_get domain.now.sorts sort))
-        [] }
-{
-    match domain.sorts.as_slice().get(sort as usize) {
-        Some(declared) => declared.above.as_slice(),
-        None => &[],
-    }
 }
 
 /// Whether `object` is the type or one of its supertypes.
@@ -90,8 +79,8 @@ fn has_object(sort: u32, above: &[u32]) -> bool
 /// has a name. Fails only where memory is wanting; then the first of these facts may be known, and
 /// nothing else has changed.
 pub fn add_supertypes(
-    facts: &mut Facts,
     alloc: Global,
+    facts: &mut Facts,
     domain: &Domain,
     sort: u32,
     object: Obj,
@@ -105,12 +94,12 @@ pub fn add_supertypes(
     ensures values { facts.new.known.values ≡ facts.old.known.values }
 {
     let above = supertypes(domain, sort);
-    add_type(facts, alloc, sort, object)?;
-    add_types(facts, alloc, above, object)?;
+    add_type(alloc, facts, sort, object)?;
+    add_types(alloc, facts, above, object)?;
     if has_object(sort, above) {
         return Ok(());
     }
-    add_type(facts, alloc, 0, object)
+    add_type(alloc, facts, 0, object)
 }
 
 /// Whether there is a type among these, and nothing above `object`.
@@ -124,8 +113,8 @@ fn is_typed(domain: &Domain, sorts: &[u32]) -> bool
 
 /// The types of a declared object. One with a type has got `object` with that.
 fn add_object(
-    facts: &mut Facts,
     alloc: Global,
+    facts: &mut Facts,
     domain: &Domain,
     declared: &Declared,
     object: Obj,
@@ -138,18 +127,18 @@ fn add_object(
     ensures values { OnOk result (facts.new.known.values ≡ facts.old.known.values) }
 {
     for sort in declared.sorts.as_slice() {
-        add_supertypes(facts, alloc, domain, *sort, object)?;
+        add_supertypes(alloc, facts, domain, *sort, object)?;
     }
     if is_typed(domain, declared.sorts.as_slice()) {
         return Ok(());
     }
-    add_supertypes(facts, alloc, domain, 0, object)
+    add_supertypes(alloc, facts, domain, 0, object)
 }
 
 /// The types of the declared objects, which are the first of the table of names.
 pub(crate) fn add_objects(
-    facts: &mut Facts,
     alloc: Global,
+    facts: &mut Facts,
     domain: &Domain,
     objects: &[Declared],
 ) -> Result<(), AllocError>
@@ -161,7 +150,7 @@ pub(crate) fn add_objects(
     ensures values { OnOk result (facts.new.known.values ≡ facts.old.known.values) }
 {
     for (place, declared) in objects.iter().enumerate() {
-        add_object(facts, alloc, domain, declared, Obj::new(place as u32))?;
+        add_object(alloc, facts, domain, declared, Obj::new(place as u32))?;
     }
     Ok(())
 }

@@ -4,11 +4,12 @@
 mod fact_table;
 mod facts;
 mod initial;
+mod number_hasher;
 mod scan;
 mod table;
 mod value_table;
 
 pub use fact_table::FactTable;
 pub use facts::{Facts, MOST_NAMES};
-pub use initial::{add_supertypes, supertypes};
+pub use initial::add_supertypes;
 pub use value_table::ValueTable;

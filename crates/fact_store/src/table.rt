@@ -3,10 +3,12 @@ ghost use Rattle.std.specs.Prelude.{◌≡◌, ◌+◌, ◌<◌, ◌^◌, ◌∷
 ghost use Rattle.fact_store.specs.Tables.{Covers, Key, facts_with, same_key, places_in};
 ghost use Rattle.fact_store.specs.Tables as tables;
 
+use crate::number_hasher::NumberHasher;
 use crate::scan::{count_with, nth_with};
 use indexmap::IndexMap;
 use smallvec::SmallVec;
 use std::alloc::{AllocError, Global};
+use std::hash::BuildHasherDefault;
 use task_model::{Fact, Kind};
 
 /// Which facts a table finds, and by what.
@@ -23,10 +25,13 @@ pub(crate) enum Group {
 /// What facts are found by: a name, with an object's place, or with 0 where the name alone counts.
 pub(crate) type Key = (u32, u32);
 
+/// Lists of places by keys.
+type Lists = IndexMap<Key, SmallVec<u32, 4>, BuildHasherDefault<NumberHasher>>;
+
 /// The places of a group's facts by their keys, for the first `done` facts of a list.
 #[derive(Drop)]
 pub(crate) struct Table {
-    lists: IndexMap<Key, SmallVec<u32, 4>>,
+    lists: Lists,
     done: usize,
 }
 
@@ -58,12 +63,7 @@ pub(crate) fn has_key(group: Group, key: Key, fact: &Fact) -> bool
 
 /// Puts a place behind the others of the key. Fails only where memory is wanting, and then each key
 /// has its places still.
-fn put(
-    lists: &mut IndexMap<Key, SmallVec<u32, 4>>,
-    alloc: Global,
-    key: Key,
-    place: u32,
-) -> Result<(), AllocError>
+fn put(lists: &mut Lists, alloc: Global, key: Key, place: u32) -> Result<(), AllocError>
     ensures ok { OnOk result ((q : Key) → places_in lists.new q
         ≡ (if same_key key q then places_in lists.old q ++ place ∷ [] else places_in lists.old q)) }
     ensures err { OnErr result ((q : Key) → places_in lists.new q ≡ places_in lists.old q) }
@@ -88,7 +88,7 @@ impl Table {
         ensures { (group : grouping.Group) (facts : List Fact) → Covers group facts result }
     {
         Table {
-            lists: IndexMap::new(alloc),
+            lists: IndexMap::with_hasher(alloc, BuildHasherDefault::new()),
             done: 0,
         }
     }

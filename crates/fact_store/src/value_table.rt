@@ -6,21 +6,26 @@ ghost use Rattle.task_model.specs.Known as known;
 ghost use Rattle.task_model.specs.declared.task.Valued.{Valued};
 ghost use Rattle.fact_store.specs.Least.{Term, lesser_of, least_in, same_term};
 
+use crate::number_hasher::NumberHasher;
 use indexmap::{IndexMap, IndexSet};
 use std::alloc::{AllocError, Global};
+use std::hash::BuildHasherDefault;
 use std::marker::Model;
 use task_model::{Obj, Row, Valued};
 
 /// A function's term: the function and its arguments.
 type Term = (u32, Row);
 
+/// Numbers by terms.
+type Terms = IndexMap<Term, u32, BuildHasherDefault<NumberHasher>>;
+
 /// The values in the order in which they came. Contracts see the list of them. `least` has the
 /// least value of each term among the first `done`, mostly all of them: where memory is wanting it
 /// stays behind, and the others are searched.
 #[derive(Drop)]
 pub struct ValueTable {
-    values: IndexSet<Valued>,
-    least: IndexMap<Term, u32>,
+    values: IndexSet<Valued, BuildHasherDefault<NumberHasher>>,
+    least: Terms,
     done: usize,
     alloc: Global,
 }
@@ -74,7 +79,7 @@ fn least_value(least: Option<u32>, values: &[Valued], func: u32, args: &[Obj]) -
 
 /// Takes a value among those that the table covers. Fails only where memory is wanting, and then
 /// each term has its value still.
-fn put(least: &mut IndexMap<Term, u32>, v: &Valued) -> Result<(), AllocError>
+fn put(least: &mut Terms, v: &Valued) -> Result<(), AllocError>
     ensures ok { OnOk result ((q : Term) → least_in least.new q
         ≡ (if same_term (v.now.func, v.now.args) q then Some
         (lesser_of (least_in least.old q) v.now.value) else least_in least.old q)) }
@@ -92,8 +97,8 @@ impl ValueTable {
         ensures { result ≡ [] }
     {
         ValueTable {
-            values: IndexSet::new(alloc),
-            least: IndexMap::new(alloc),
+            values: IndexSet::with_hasher(alloc, BuildHasherDefault::new()),
+            least: IndexMap::with_hasher(alloc, BuildHasherDefault::new()),
             done: 0,
             alloc,
         }

@@ -2,7 +2,6 @@
 use Rattle.std.specs.Prelude.{ℕ, ◌+◌, List, [], ◌∷◌, map, length, codes, count_by, Bool, true, false, not, ◌&&◌, ◌==◌, nat_le, Option, None, Some, slice_get}
 use Rattle.std.specs.List.{list_any, list_all}
 use Rattle.task_model.specs.Fit as fit
-use Rattle.task_model.specs.Initial.{sorts_with}
 use Rattle.task_model.specs.Known.{same_numbers}
 use Rattle.task_model.specs.Roles.{role_of}
 use Rattle.task_model.specs.declared.domain.Action.{Action}
@@ -162,9 +161,3 @@ mentions_head (Some first) None = false
 abbrev pub item_leads : Domain → ℕ → ℕ → Bool
 item_leads domain from to =
     mentions_head (slice_get domain.derived from) (slice_get domain.derived to)
-
--- ---- slots
-
--- an output of the second type may be an input of the first, as far as types say
-abbrev pub is_type_of : Domain → ℕ → ℕ → Bool
-is_type_of domain input output = list_any (λ s. s == input) (sorts_with domain output)

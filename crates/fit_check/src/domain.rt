@@ -7,11 +7,13 @@ ghost use Rattle.fit_check.specs.Tests as tests;
 
 use crate::conditions::{Scope, has_arity, is_fit_application, is_fit_condition};
 use crate::lists::{are_places, is_short};
-use crate::names::{are_named, is_name};
+use crate::names::are_named;
 use crate::roles::{are_fit_roles, has_derived_role};
 use crate::slots::Slots;
 use crate::sorts::are_fit_sorts;
-use task_model::{Action, CostTerm, Declared, Derived, Domain, LARGEST_NUMBER, Pattern, Signature};
+use task_model::{
+    Action, CostTerm, Declared, Derived, Domain, LARGEST_NUMBER, Pattern, Signature, is_name,
+};
 
 /// Whether each takes at most eight arguments.
 fn have_fit_arities(signatures: &[Signature]) -> bool
@@ -197,7 +199,7 @@ fn are_fit_actions(domain: &Domain) -> bool
 fn have_fit_lists(domain: &Domain) -> bool
     ensures { result ≡ tests.have_fit_lists domain.now }
 {
-    is_name(&domain.name)
+    is_name(domain.name.bytes())
         && are_fit_sorts(domain.sorts.as_slice())
         && are_fit_signatures(domain.predicates.as_slice())
         && are_fit_signatures(domain.functions.as_slice())

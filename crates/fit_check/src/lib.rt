@@ -2,7 +2,7 @@
 //! checked.
 #![tactic(auto)]
 
-pub mod check;
+mod check;
 mod conditions;
 mod domain;
 mod graph;
@@ -16,4 +16,3 @@ mod sorts;
 mod streams;
 
 pub use check::is_fit;
-pub use streams::stream_leads;

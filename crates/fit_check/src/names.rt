@@ -5,7 +5,7 @@ ghost use Rattle.task_model.specs.Fit as fit;
 ghost use Rattle.task_model.specs.Known.{same_numbers};
 ghost use Rattle.fit_check.specs.Tests.{are_different, are_fit_names};
 
-use task_model::{Action, Declared, Name, Signature, Sort, Stream};
+use task_model::{Action, Declared, Name, Signature, Sort, Stream, is_name};
 
 /// What has a name.
 pub(crate) trait Named {
@@ -58,37 +58,6 @@ impl Named for Stream {
     }
 }
 
-/// Whether the byte is a letter in lower case.
-fn is_letter(byte: u8) -> bool
-    ensures { result ≡ fit.is_letter byte }
-{
-    byte.is_ascii_lowercase()
-}
-
-/// Whether the byte may stand in a name behind the first.
-fn is_name_byte(byte: u8) -> bool
-    ensures { result ≡ fit.is_name_byte byte }
-{
-    is_letter(byte) || byte.is_ascii_digit() || byte == b'-' || byte == b'_'
-}
-
-/// Whether all bytes may stand in a name behind the first.
-fn are_name_bytes(bytes: &[u8]) -> bool
-    ensures { result ≡ list_all fit.is_name_byte bytes.now }
-{
-    bytes.iter().all(|byte| is_name_byte(*byte))
-}
-
-/// Whether the bytes are a name.
-pub(crate) fn is_name(name: &Name) -> bool
-    ensures { result ≡ fit.is_name name.now }
-{
-    match name.bytes() {
-        [] => false,
-        [first, rest @ ..] => is_letter(*first) && are_name_bytes(rest) && rest.len() < 255,
-    }
-}
-
 /// Whether the names are equal.
 pub(crate) fn same_name(name: &Name, other: &Name) -> bool
     ensures { result ≡ same_numbers name.now other.now }
@@ -127,7 +96,7 @@ fn have_different_names<T: Named>(items: &[T]) -> bool
 fn have_names<T: Named>(items: &[T]) -> bool
     ensures { result ≡ list_all (λ x. fit.is_name (T.named x)) items.now }
 {
-    items.iter().all(|item| is_name(item.name()))
+    items.iter().all(|item| is_name(item.name().bytes()))
 }
 
 /// Whether these have names, each its own.

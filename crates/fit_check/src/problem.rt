@@ -7,10 +7,10 @@ ghost use Rattle.fit_check.specs.Tests as tests;
 use crate::conditions::{Scope, has_arity, is_fit_condition};
 use crate::domain::are_fit_objects;
 use crate::lists::is_short;
-use crate::names::{is_name, same_name};
+use crate::names::same_name;
 use crate::roles::has_derived_role;
 use crate::slots::Slots;
-use task_model::{Declared, Domain, Fact, Kind, LARGEST_NUMBER, Obj, Task, Valued};
+use task_model::{Declared, Domain, Fact, Kind, LARGEST_NUMBER, Obj, Task, Valued, is_name};
 
 /// Whether the first objects are these, by their names.
 fn are_first(constants: &[Declared], objects: &[Declared]) -> bool
@@ -143,7 +143,7 @@ fn has_fit_goal(task: &Task) -> bool
 pub(crate) fn is_fit_problem(task: &Task) -> bool
     ensures { result ≡ tests.is_fit_problem task.now }
 {
-    is_name(&task.problem.name)
+    is_name(task.problem.name.bytes())
         && are_fit_objects(&task.domain, task.problem.objects.as_slice())
         && are_first(
             task.domain.constants.as_slice(),

@@ -5,14 +5,7 @@ ghost use Rattle.task_model.specs.Fit as fit;
 ghost use Rattle.task_model.specs.Roles as roles;
 ghost use Rattle.fit_check.specs.Tests as tests;
 
-use task_model::{Action, Domain, Pattern, Role};
-
-/// Whether one of these is an atom of the predicate.
-pub(crate) fn has_atom_of(pred: usize, patterns: &[Pattern]) -> bool
-    ensures { result ≡ list_any (λ p. p.pred == pred) patterns.now }
-{
-    patterns.iter().any(|pattern| pattern.pred as usize == pred)
-}
+use task_model::{Action, Domain, Role, has_atom_of};
 
 /// Whether the action has an effect on the predicate.
 fn is_changed_by(pred: usize, action: &Action) -> bool

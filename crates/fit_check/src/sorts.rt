@@ -9,7 +9,7 @@ use crate::names::are_named;
 use task_model::Sort;
 
 /// Whether the number is among these.
-pub(crate) fn is_among(number: usize, numbers: &[u32]) -> bool
+fn is_among(number: usize, numbers: &[u32]) -> bool
     ensures { result ≡ list_any (λ n. n == number) numbers.now }
 {
     numbers.iter().any(|n| *n as usize == number)

@@ -37,6 +37,7 @@ is_change w =
     bytes_eq w (codes "increase") || bytes_eq w (codes "decrease") || bytes_eq w (codes "assign")
     || bytes_eq w (codes "scale-up") || bytes_eq w (codes "scale-down") || bytes_eq w (codes "either")
 
+-- which words name predicates: names but for the heads that PDDL has
 abbrev pub is_predicate_name : List ℕ → Bool
 is_predicate_name w = is_name w && not (is_connective w) && not (is_change w)
 

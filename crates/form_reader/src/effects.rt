@@ -8,9 +8,9 @@ ghost use Rattle.form_reader.specs.Faults.{first};
 
 use crate::fault::{Fault, sooner};
 use crate::groups::{check_application, check_end};
-use crate::words::{EffectHead, WordSort, effect_head_of, is_name};
+use crate::words::{EffectHead, WordSort, effect_head_of};
 use sexpr_text::{Front, Tree, front_of};
-use task_model::is_number;
+use task_model::{is_name, is_number};
 
 /// Whether the word is `total-cost`.
 pub fn is_total_cost(word: &[u8]) -> bool

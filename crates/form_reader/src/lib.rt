@@ -20,6 +20,6 @@ pub use items::{Item, TextKind};
 pub use keys::{Key, Keyed};
 pub use texts::check_form;
 pub use words::{
-    ConditionHead, EffectHead, WordSort, condition_head_of, effect_head_of, is_keyword, is_name,
+    ConditionHead, EffectHead, WordSort, condition_head_of, effect_head_of, is_keyword,
     is_predicate_name, is_variable,
 };

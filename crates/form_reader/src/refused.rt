@@ -12,7 +12,7 @@ use crate::words::{begins_with_digit, is_refused_in_atoms};
 use sexpr_text::{Front, Tree, front_of};
 
 /// Where lists are looked at.
-#[derive(Clone, Copy, Debug, PartialEq, Eq)]
+#[derive(Clone, Copy, PartialEq, Eq)]
 pub(crate) enum Region {
     /// In a problem's `:init`: no negative literals and no timed ones (PDDL 2.2).
     Init,

@@ -1,12 +1,9 @@
 //! What words there are, and what a list's first word makes of the list.
 ghost use Rattle.std.specs.Prelude.{◌≡◌};
 ghost use Rattle.std.specs.Char.{is_ascii_digit};
-ghost use Rattle.std.specs.List.{list_all};
-ghost use Rattle.task_model.specs.Fit as fit;
 ghost use Rattle.form_reader.specs.Words as specs;
 
-/// The longest name, in bytes.
-const NAME_BYTES: usize = 255;
+use task_model::is_name;
 
 /// What kind of word has to stand in a place.
 #[derive(Clone, Copy, Debug, PartialEq, Eq)]
@@ -36,37 +33,6 @@ impl WordSort {
             WordSort::Term => is_name(word) || is_variable(word),
         }
     }
-}
-
-/// Whether the word is a name, in lower case: a letter and then letters, digits, `-` and `_`, at
-/// most 255 bytes (PDDL 2.1; the length is this project's).
-pub fn is_name(word: &[u8]) -> bool
-    ensures { result ≡ fit.is_name word.now }
-{
-    match word {
-        [] => false,
-        [first, rest @ ..] => {
-            is_letter(*first) && are_name_bytes(rest) && rest.len() < NAME_BYTES
-        }
-    }
-}
-
-fn are_name_bytes(bytes: &[u8]) -> bool
-    ensures { result ≡ list_all fit.is_name_byte bytes.now }
-{
-    bytes.iter().all(|b| is_name_byte(*b))
-}
-
-fn is_name_byte(byte: u8) -> bool
-    ensures { result ≡ fit.is_name_byte byte }
-{
-    is_letter(byte) || byte.is_ascii_digit() || byte == b'-' || byte == b'_'
-}
-
-fn is_letter(byte: u8) -> bool
-    ensures { result ≡ fit.is_letter byte }
-{
-    byte.is_ascii_lowercase()
 }
 
 /// Whether the word is `?` and a name (PDDL 2.1).

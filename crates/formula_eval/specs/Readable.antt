@@ -5,14 +5,15 @@ use Rattle.task_model.specs.Condition.{Condition, Conditions, Atom, Equal, All a
 use Rattle.task_model.specs.declared.condition.Term.{Term}
 use Rattle.task_model.specs.declared.condition.Term.TheVariants.{Slot, Object}
 use Rattle.task_model.specs.declared.domain.Domain.{Domain}
+use Rattle.task_model.specs.declared.limits.TheConstants.{SLOTS}
 
--- a slot is below sixteen
+-- a slot is one of those that there are
 abbrev pub is_readable_term : Term → Bool
-is_readable_term (Slot n) = nat_lt n 16
+is_readable_term (Slot n) = nat_lt n SLOTS
 is_readable_term (Object o) = true
 
 module _ (domain : Domain) where
-  -- each predicate is the domain's, with at most eight arguments, and all slots are below sixteen
+  -- each predicate is the domain's, with at most eight arguments, and all slots are among those that there are
   abbrev mutual
     pub is_readable : Condition → Bool
     is_readable (Atom pred args) =
@@ -21,7 +22,7 @@ module _ (domain : Domain) where
     is_readable (every parts) = are_readable parts
     is_readable (Any parts) = are_readable parts
     is_readable (Not part) = is_readable part
-    is_readable (Exists first sorts body) = nat_le (first + length sorts) 16 && is_readable body
+    is_readable (Exists first sorts body) = nat_le (first + length sorts) SLOTS && is_readable body
 
     pub are_readable : Conditions → Bool
     are_readable none = true

@@ -2,9 +2,9 @@
 //! state.
 #![tactic(auto)]
 
-pub mod env;
-pub mod lookup;
-pub mod truth;
+mod env;
+mod lookup;
+mod truth;
 
 pub use env::Env;
 pub use lookup::{have_types, object_of, objects_at};

@@ -2,11 +2,11 @@
 #![tactic(auto)]
 
 mod choice;
-pub mod holds;
+mod holds;
 mod judge;
 pub mod laws;
 mod lead;
-pub mod memo;
+mod memo;
 mod scene;
 mod tries;
 

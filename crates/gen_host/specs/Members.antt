@@ -1,5 +1,5 @@
 -- Many counts as one, and a list's members by place.
-use Rattle.std.specs.Prelude.{ℕ, ◌*◌, Bool, true, not, ◌&&◌, List, [], ◌∷◌, length, nat_lt, sum_by, if◌then◌else◌, Option, Some, None}
+use Rattle.std.specs.Prelude.{ℕ, ◌*◌, Bool, true, not, ◌&&◌, List, [], ◌∷◌, length, nat_lt, slice_get, sum_by, if◌then◌else◌, Option, Some, None}
 
 abbrev pub all_below : {B : Type 0} → ℕ → (B → ℕ) → List B → Bool
 all_below last count [] = true
@@ -13,6 +13,10 @@ total last count xs = if all_below last count xs then sum_by count xs else lengt
 abbrev pub at_member : {A B : Type 0} → A → (B → A) → Option B → A
 at_member none value None = none
 at_member none value (Some x) = value x
+
+-- the same by the place
+abbrev pub at_members : {A B : Type 0} → A → (B → A) → List B → ℕ → A
+at_members none value xs k = at_member none value (slice_get xs k)
 
 -- none of them runs
 abbrev pub all_idle : {B : Type 0} → (B → Bool) → List B → Bool

@@ -1,9 +1,9 @@
 // A host whose children are boxed generators.
 ghost use Rattle.std.proofs.Common.{lit≤};
-ghost use Rattle.std.specs.Prelude.{◌≡◌, ◌-◌, ◌*◌, ◌<◌, ◌≤◌, ℕ, length, take, true, false, None, slice_get, is_ok, option_map, IfOk, MatchResult};
-ghost use Rattle.gen_host.specs.Members.{total, at_member, all_idle};
-ghost use Rattle.io_world.specs.Faults.{last_count, HasCause};
-ghost use Rattle.io_world.specs.Talks.{Talk, silence, wrote_more, heard_more};
+ghost use Rattle.std.specs.Prelude.{◌≡◌, ◌≢◌, ◌-◌, ◌*◌, ◌<◌, ◌≤◌, ℕ, ⊤, length, map, take, true, false, None, slice_get, string_bytes, is_ok, option_map, IfOk, MatchResult};
+ghost use Rattle.gen_host.specs.Members.{total, at_members, all_idle};
+ghost use Rattle.io_world.specs.Faults.{last_count, Counts, HasCause};
+ghost use Rattle.io_world.specs.Talks.{Talk, silence, wrote_more, heard_more, started, wrote, heard, stopped, given, Logs, Same, Becomes, Empties, Writes, Hears};
 ghost use Rattle.io_world.specs.declared.host.HostFault.TheVariants.{Failed};
 ghost use Rattle.io_world.specs.declared.host.TheConstants.{CHILDREN};
 
@@ -20,6 +20,7 @@ fn start(member: &mut Member, argv: &[String]) -> Result<(), HostFault>
         (λ _. spoken member.new ≡ option_map (λ (talk : Talk). silence) (spoken member.old))
         (λ _. spoken member.new ≡ spoken member.old) }
     ensures cause { HasCause Failed last_count (faults member.old) (faults member.new) result }
+    ensures counts { Counts Failed last_count (faults member.old) (faults member.new) result }
 {
     member.start(argv)
 }
@@ -33,6 +34,7 @@ fn send(member: &mut Member, bytes: &[u8]) -> Result<usize, HostFault>
         (λ n. spoken member.new ≡ option_map (wrote_more (take n bytes.now)) (spoken member.old))
         (λ _. spoken member.new ≡ spoken member.old) }
     ensures cause { HasCause Failed last_count (faults member.old) (faults member.new) result }
+    ensures counts { Counts Failed last_count (faults member.old) (faults member.new) result }
 {
     member.send(bytes)
 }
@@ -46,6 +48,7 @@ fn receive(member: &mut Member, room: &mut [u8]) -> Result<usize, HostFault>
         (λ n. spoken member.new ≡ option_map (heard_more (take n room.new)) (spoken member.old))
         (λ _. spoken member.new ≡ spoken member.old) }
     ensures cause { HasCause Failed last_count (faults member.old) (faults member.new) result }
+    ensures counts { Counts Failed last_count (faults member.old) (faults member.new) result }
 {
     member.receive(room)
 }
@@ -55,6 +58,7 @@ fn stop(member: &mut Member) -> Result<(), HostFault>
     ensures running { running member.new ≡ false }
     ensures spoken { spoken member.new ≡ spoken member.old }
     ensures cause { HasCause Failed last_count (faults member.old) (faults member.new) result }
+    ensures counts { Counts Failed last_count (faults member.old) (faults member.new) result }
 {
     member.stop()
 }
@@ -84,9 +88,9 @@ impl BoxHost {
         ensures count { ⟦<BoxHost as Host>⟧.faults result
             ≡ total last_count (λ b. faults b) members.items }
         ensures running { (k : ℕ) → ⟦<BoxHost as Host>⟧.running result k
-            ≡ at_member false (λ b. running b) (slice_get members.items k) }
+            ≡ at_members false (λ b. running b) members.items k }
         ensures spoken { (k : ℕ) → ⟦<BoxHost as Host>⟧.spoken result k
-            ≡ at_member None (λ b. spoken b) (slice_get members.items k) }
+            ≡ at_members None (λ b. spoken b) members.items k }
         ensures idle { all_idle (λ b. running b) members.items ≡ true → (k : ℕ)
             → ⟦<BoxHost as Host>⟧.running result k ≡ false }
     {
@@ -100,11 +104,11 @@ impl Host for BoxHost {
 
     ghost last = { CHILDREN * last_count };
 
-    ghost running = { λ s k. at_member false (λ b. (Generator-box b).running b.value)
-        (slice_get s.members.items k) };
+    ghost running = { λ s.
+        at_members false (λ b. (Generator-box b).running b.value) s.members.items };
 
-    ghost spoken = { λ s k. at_member None (λ b. (Generator-box b).spoken b.value)
-        (slice_get s.members.items k) };
+    ghost spoken = { λ s.
+        at_members None (λ b. (Generator-box b).spoken b.value) s.members.items };
 
     ghost log = { λ s. None };
 
@@ -112,19 +116,111 @@ impl Host for BoxHost {
 
     ghost high = { lit≤ tt };
 
-    fn start(&mut self, child: u8, argv: &[String]) -> Result<(), HostFault> {
+    ghost leads = { λ old new memory. ⊤ };
+
+    ghost stays = { λ h. tt };
+
+    ghost chains = { λ a b c m first second. tt };
+
+    ghost ends = { λ a b c m first second. tt };
+
+    fn start(&mut self, child: u8, argv: &[String]) -> Result<(), HostFault>
+        requires number { child < CHILDREN }
+        requires words { 0 < length argv.now }
+        requires idle { at_members false (λ b. running b) self.old.members.items child ≡ false }
+        ensures running { MatchResult result
+            (λ _. Becomes child true (at_members false (λ b. running b) self.old.members.items)
+            (at_members false (λ b. running b) self.new.members.items))
+            (λ _. Same (at_members false (λ b. running b) self.old.members.items)
+            (at_members false (λ b. running b) self.new.members.items)) }
+        ensures spoken { MatchResult result
+            (λ _. Empties child (at_members None (λ b. spoken b) self.old.members.items)
+            (at_members None (λ b. spoken b) self.new.members.items))
+            (λ _. Same (at_members None (λ b. spoken b) self.old.members.items)
+            (at_members None (λ b. spoken b) self.new.members.items)) }
+        ensures log { Logs None None (started child (map string_bytes argv.now) result) }
+        ensures cause { HasCause Failed (CHILDREN * last_count)
+            (total last_count (λ b. faults b) self.old.members.items)
+            (total last_count (λ b. faults b) self.new.members.items) result }
+        ensures counts { Counts Failed last_count
+            (at_members 0 (λ b. faults b) self.old.members.items child)
+            (at_members 0 (λ b. faults b) self.new.members.items child) result }
+        ensures others { (k : ℕ) → k ≢ child
+            → slice_get self.new.members.items k ≡ slice_get self.old.members.items k }
+    {
         start(&mut self.members[child as usize], argv)
     }
 
-    fn write(&mut self, child: u8, bytes: &[u8]) -> Result<usize, HostFault> {
+    fn write(&mut self, child: u8, bytes: &[u8]) -> Result<usize, HostFault>
+        requires number { child < CHILDREN }
+        requires some { 0 < length bytes.now }
+        requires runs { at_members false (λ b. running b) self.old.members.items child ≡ true }
+        ensures count { IfOk result (λ n. (0 < n) × (n ≤ length bytes.now)) }
+        ensures running { Same (at_members false (λ b. running b) self.old.members.items)
+            (at_members false (λ b. running b) self.new.members.items) }
+        ensures spoken { MatchResult result
+            (λ n. Writes child (take n bytes.now)
+            (at_members None (λ b. spoken b) self.old.members.items)
+            (at_members None (λ b. spoken b) self.new.members.items))
+            (λ _. Same (at_members None (λ b. spoken b) self.old.members.items)
+            (at_members None (λ b. spoken b) self.new.members.items)) }
+        ensures log { Logs None None (wrote child bytes.now result) }
+        ensures cause { HasCause Failed (CHILDREN * last_count)
+            (total last_count (λ b. faults b) self.old.members.items)
+            (total last_count (λ b. faults b) self.new.members.items) result }
+        ensures counts { Counts Failed last_count
+            (at_members 0 (λ b. faults b) self.old.members.items child)
+            (at_members 0 (λ b. faults b) self.new.members.items child) result }
+        ensures others { (k : ℕ) → k ≢ child
+            → slice_get self.new.members.items k ≡ slice_get self.old.members.items k }
+    {
         send(&mut self.members[child as usize], bytes)
     }
 
-    fn read(&mut self, child: u8, room: &mut [u8]) -> Result<usize, HostFault> {
+    fn read(&mut self, child: u8, room: &mut [u8]) -> Result<usize, HostFault>
+        requires number { child < CHILDREN }
+        requires some { 0 < length room.old }
+        requires runs { at_members false (λ b. running b) self.old.members.items child ≡ true }
+        ensures count { IfOk result (λ n. (0 < n) × (n ≤ length room.new)) }
+        ensures running { Same (at_members false (λ b. running b) self.old.members.items)
+            (at_members false (λ b. running b) self.new.members.items) }
+        ensures spoken { MatchResult result
+            (λ n. Hears child (take n room.new)
+            (at_members None (λ b. spoken b) self.old.members.items)
+            (at_members None (λ b. spoken b) self.new.members.items))
+            (λ _. Same (at_members None (λ b. spoken b) self.old.members.items)
+            (at_members None (λ b. spoken b) self.new.members.items)) }
+        ensures log { Logs None None (heard child (length room.old) (given result room.new)) }
+        ensures cause { HasCause Failed (CHILDREN * last_count)
+            (total last_count (λ b. faults b) self.old.members.items)
+            (total last_count (λ b. faults b) self.new.members.items) result }
+        ensures counts { Counts Failed last_count
+            (at_members 0 (λ b. faults b) self.old.members.items child)
+            (at_members 0 (λ b. faults b) self.new.members.items child) result }
+        ensures others { (k : ℕ) → k ≢ child
+            → slice_get self.new.members.items k ≡ slice_get self.old.members.items k }
+    {
         receive(&mut self.members[child as usize], room)
     }
 
-    fn stop(&mut self, child: u8) -> Result<(), HostFault> {
+    fn stop(&mut self, child: u8) -> Result<(), HostFault>
+        requires number { child < CHILDREN }
+        requires runs { at_members false (λ b. running b) self.old.members.items child ≡ true }
+        ensures running { Becomes child false
+            (at_members false (λ b. running b) self.old.members.items)
+            (at_members false (λ b. running b) self.new.members.items) }
+        ensures spoken { Same (at_members None (λ b. spoken b) self.old.members.items)
+            (at_members None (λ b. spoken b) self.new.members.items) }
+        ensures log { Logs None None (stopped child result) }
+        ensures cause { HasCause Failed (CHILDREN * last_count)
+            (total last_count (λ b. faults b) self.old.members.items)
+            (total last_count (λ b. faults b) self.new.members.items) result }
+        ensures counts { Counts Failed last_count
+            (at_members 0 (λ b. faults b) self.old.members.items child)
+            (at_members 0 (λ b. faults b) self.new.members.items child) result }
+        ensures others { (k : ℕ) → k ≢ child
+            → slice_get self.new.members.items k ≡ slice_get self.old.members.items k }
+    {
         stop(&mut self.members[child as usize])
     }
 

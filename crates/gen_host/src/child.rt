@@ -1,9 +1,12 @@
 // A generator that is a program of its own.
-ghost use Rattle.std.specs.Prelude.{◌≡◌, ◌+◌, ◌<◌, ◌≤◌, min, length, take, true, false, is_ok, is_some, option_map, IfOk, MatchResult};
+ghost use Rattle.std.specs.Prelude.{◌≡◌, ◌≢◌, ◌+◌, ◌<◌, ◌≤◌, min, length, take, true, false, is_ok, is_some, option_map, IfErr, IfOk, IsErrOf, MatchResult};
+ghost use Rattle.std.specs.Result.{IsErrAnd};
+ghost use Rattle.std.specs.IoError.{error_kind};
+ghost use Rattle.std.specs.declared.io.ErrorKind.TheVariants.{OutOfMemory};
 ghost use Rattle.gen_host.specs.Children.{untold};
 ghost use Rattle.io_world.specs.Faults.{last_count, Counts, HasCause};
 ghost use Rattle.io_world.specs.Talks.{Talk, silence, wrote_more, heard_more};
-ghost use Rattle.io_world.specs.declared.host.HostFault.TheVariants.{Failed};
+ghost use Rattle.io_world.specs.declared.host.HostFault.TheVariants.{Failed, Memory};
 
 use crate::Generator;
 use io_world::{FaultCount, HostFault, read_some, write_some};
@@ -62,16 +65,31 @@ fn command(alloc: Global, argv: &[String]) -> Result<Command, AllocError>
 }
 
 /// What it means for the host that a program could not be started so: want of memory, or a fault.
-fn fault_of(error: &io::Error) -> HostFault {
+fn fault_of(error: &io::Error) -> HostFault
+    ensures memory { error_kind error.now ≡ OutOfMemory → result ≡ Memory }
+    ensures failed { error_kind error.now ≢ OutOfMemory → result ≡ Failed }
+{
     match error.kind() {
         ErrorKind::OutOfMemory => HostFault::Memory,
         _ => HostFault::Failed,
     }
 }
 
-/// Starts the command. Where it has no pipes, it is ended again, which is a fault.
+/// Starts the command.
 fn launch<R: Processes>(command: &mut Command, rt: &R) -> Result<Running<R::Started>, HostFault> {
-    let mut child = match command.spawn(rt) {
+    piped(command.spawn(rt))
+}
+
+/// What became of a program that was to be started: it runs, with its pipes. Where it has no pipes,
+/// it is ended again, which is a fault. Where it could not be started, that is want of memory only
+/// if the system's error is that.
+fn piped<P: OpenProcess + Drop>(spawned: io::Result<Child<P>>) -> Result<Running<P>, HostFault>
+    ensures memory { IfErr spawned
+        (λ error. error_kind error ≡ OutOfMemory → IsErrOf result Memory) }
+    ensures failed { IsErrOf result Memory
+        → IsErrAnd spawned (λ error. error_kind error ≡ OutOfMemory) }
+{
+    let mut child = match spawned {
         Ok(child) => child,
         Err(error) => return Err(fault_of(&error)),
     };

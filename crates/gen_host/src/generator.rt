@@ -1,6 +1,6 @@
 // One child of a host, as an object.
 ghost use Rattle.std.specs.Prelude.{◌≡◌, ◌<◌, ◌≤◌, ℕ, Bool, true, false, Option, length, take, option_map, is_ok, IfOk, MatchResult};
-ghost use Rattle.io_world.specs.Faults.{last_count, HasCause};
+ghost use Rattle.io_world.specs.Faults.{last_count, Counts, HasCause};
 ghost use Rattle.io_world.specs.Talks.{Talk, silence, wrote_more, heard_more};
 ghost use Rattle.io_world.specs.declared.host.HostFault.TheVariants.{Failed};
 
@@ -10,7 +10,8 @@ use io_world::HostFault;
 ///
 /// It tells whether it runs: from an Ok of `start` until `stop` answers, whatever that answers. It
 /// may tell what was said since it was started: an Ok of `start` empties it, an Ok of `send` or
-/// `receive` adds the bytes taken or given, and nothing else changes it.
+/// `receive` adds the bytes taken or given, and nothing else changes it. Each fault is one more on
+/// its count, and every other answer leaves the count.
 pub trait Generator: Drop {
     /// How often a call has failed, at most `2^48 - 1`.
     ghost faults: { Self → ℕ };
@@ -32,7 +33,8 @@ pub trait Generator: Drop {
         ensures spoken { MatchResult result
             (λ _. spoken self.new ≡ option_map (λ (talk : Talk). silence) (spoken self.old))
             (λ _. spoken self.new ≡ spoken self.old) }
-        ensures cause { HasCause Failed last_count (faults self.old) (faults self.new) result };
+        ensures cause { HasCause Failed last_count (faults self.old) (faults self.new) result }
+        ensures counts { Counts Failed last_count (faults self.old) (faults self.new) result };
 
     /// Writes the first of these bytes, and answers how many it took: at least 1. There has to be
     /// one, and it has to run.
@@ -47,7 +49,8 @@ pub trait Generator: Drop {
         ensures spoken { MatchResult result
             (λ n. spoken self.new ≡ option_map (wrote_more (take n bytes.now)) (spoken self.old))
             (λ _. spoken self.new ≡ spoken self.old) }
-        ensures cause { HasCause Failed last_count (faults self.old) (faults self.new) result };
+        ensures cause { HasCause Failed last_count (faults self.old) (faults self.new) result }
+        ensures counts { Counts Failed last_count (faults self.old) (faults self.new) result };
 
     /// Puts bytes of it at the beginning of the room, and answers how many: at least 1. There has
     /// to be room, and it has to run.
@@ -63,7 +66,8 @@ pub trait Generator: Drop {
         ensures spoken { MatchResult result
             (λ n. spoken self.new ≡ option_map (heard_more (take n room.new)) (spoken self.old))
             (λ _. spoken self.new ≡ spoken self.old) }
-        ensures cause { HasCause Failed last_count (faults self.old) (faults self.new) result };
+        ensures cause { HasCause Failed last_count (faults self.old) (faults self.new) result }
+        ensures counts { Counts Failed last_count (faults self.old) (faults self.new) result };
 
     /// Ends it. It has to run, and doesn't run afterwards, whatever the answer.
     ///
@@ -73,7 +77,8 @@ pub trait Generator: Drop {
         requires runs { running self.old ≡ true }
         ensures running { running self.new ≡ false }
         ensures spoken { spoken self.new ≡ spoken self.old }
-        ensures cause { HasCause Failed last_count (faults self.old) (faults self.new) result };
+        ensures cause { HasCause Failed last_count (faults self.old) (faults self.new) result }
+        ensures counts { Counts Failed last_count (faults self.old) (faults self.new) result };
 
     /// The count of faults. It never falls, and stops at `2^48 - 1`.
     fn faults(&self) -> u64

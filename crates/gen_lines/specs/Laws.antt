@@ -12,6 +12,7 @@ use Rattle.task_model.specs.declared.task.Task.{Task}
 use Rattle.gen_lines.specs.declared.answer.Wanted.{Wanted}
 use Rattle.gen_lines.specs.declared.answer.Wanted.TheVariants.{Outputs}
 
+-- However bytes are cut into pieces, their lines are those of the whole.
 abbrev pub LinesIgnoreCutting : Type 0
 LinesIgnoreCutting =
     (all : List ℕ) (taken : List (List ℕ)) (held : List ℕ) → Cut all taken held → IsWhole all taken held
@@ -20,11 +21,13 @@ LinesIgnoreCutting =
 abbrev pub is_word : List ℕ → Bool
 is_word text = is_filled text && list_all (λ b. not (is_space b)) text
 
+-- Words with a space between each two are the fields of that line.
 abbrev pub WordsAreFields : Type 0
 WordsAreFields =
     (words : List (List ℕ)) → list_all is_word words ≡ true
     → fields (join_with_byte 32 words) ≡ words
 
+-- A line that is read as a yield gives tuples such as the stream may give.
 abbrev pub YieldsAreRight : Type 0
 YieldsAreRight =
     (line : List ℕ) (outputs : ℕ) (several : Bool) (tuples : ℕ) (values : List (List ℕ))
@@ -42,12 +45,14 @@ pub record ReadsBack (task : Task) (names : List (List ℕ)) (number : ℕ) (ins
   pub words : fields (join_with_byte 32 (request_words task names number instance))
       ≡ request_words task names number instance
 
+-- A request is one line, and its fields are its words.
 abbrev pub RequestsReadBack : Type 0
 RequestsReadBack =
     (task : Task) (names : List (List ℕ)) (number : ℕ) (instance : Instance) → number < 2 ^ 32
     → is_printed (stream_name task instance.stream) ≡ true
     → list_all is_printed (map (name_at names) instance.inputs) ≡ true → ReadsBack task names number instance
 
+-- A line that is read as a number gives one of at most 1,000,000.
 abbrev pub NumbersAreSmall : Type 0
 NumbersAreSmall =
     (line : List ℕ) (wanted : Wanted) (n : ℕ) → reply_of line wanted ≡ number n → n ≤ LARGEST_NUMBER

@@ -1,5 +1,5 @@
 -- The lines of a stream of bytes.
-use Rattle.std.specs.Prelude.{◌≡◌, ℕ, ◌<◌, Bool, ◌==◌, List, [], ◌∷◌, length, map}
+use Rattle.std.specs.Prelude.{◌≡◌, ℕ, ◌<◌, Bool, ◌==◌, List, [], ◌∷◌, ⊤, length, map, position, IfSome}
 use Rattle.std.specs.List.{slice_split, after_first}
 use Rattle.std.specs.Io.BufRead.{strip_last}
 use Rattle.gen_lines.specs.declared.line_buf.Seen.{Seen}
@@ -41,3 +41,14 @@ Shows held (Line line) =
     (lines_of held ≡ line.now ∷ lines_of (after_first is_feed held)) × (length line.now < 1025)
 Shows held Part = (lines_of held ≡ []) × (length held < 1025)
 Shows held TooLong = (lines_of held ≡ []) × (length held ≡ 1025)
+
+-- At most 1,024 bytes stand before the first line feed: so long is the first line as it came, with the carriage return
+-- that is dropped.
+abbrev pub IsFirstShort : List ℕ → Type 0
+IsFirstShort held = IfSome (position is_feed held) (λ count. count < 1025)
+
+-- a line is shown only if it was so short as it came
+abbrev pub IsShownShort : List ℕ → Seen → Type 0
+IsShownShort held (Line line) = IsFirstShort held
+IsShownShort held Part = ⊤
+IsShownShort held TooLong = ⊤

@@ -3,7 +3,7 @@ ghost use Rattle.std.specs.Prelude.{◌≡◌, ◌+◌, ◌≤◌, [], ◌++◌,
 ghost use Rattle.std.specs.Borrow.{sem};
 ghost use Rattle.std.specs.Io.BufRead.{Rests, strip_last};
 ghost use Rattle.gen_lines.specs.contracts.line_buf.LineBuf.{the_row};
-ghost use Rattle.gen_lines.specs.Lines.{is_feed, left_after, Shows};
+ghost use Rattle.gen_lines.specs.Lines.{is_feed, left_after, IsShownShort, Shows};
 
 use std::alloc::{AllocError, Global};
 use std::marker::Model;
@@ -79,6 +79,7 @@ impl LineBuf {
         ensures* after { sem 𝓛
             (Rests the_row self.entry (λ new. new ≡ left_after self.old result)) }
         ensures shown { Shows self.old result }
+        ensures short { IsShownShort self.old result }
     {
         let from = self.start;
         let Some(length) = first_feed(self.held()) else {

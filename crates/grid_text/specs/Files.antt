@@ -31,6 +31,7 @@ pub record IsBareFault (bytes : List ℕ) (line : ℕ) (kind : GridKind) : Type 
   pub all : is_bare bytes ≡ true
   pub is : (line ≡ 1) × (kind ≡ Form)
 
+-- the first faulty line, with that line's first fault
 abbrev pub BlamesGridText : List ℕ → GridFault → Type 0
 BlamesGridText bytes (At line kind) = IsBareFault bytes line kind ⊎ IsFirstGridFault bytes line kind
 BlamesGridText bytes Memory = Unit {0}

@@ -4,13 +4,13 @@ ghost use Rattle.gen_lines.specs.Reply.{fields};
 ghost use Rattle.grid_text.specs.Entries as specs;
 
 use crate::fields::{first_field, four_fields};
-use crate::names::is_name;
 use crate::numbers::{extent_of, short_number};
 use crate::rect::Rect;
 use std::marker::Model;
+use task_model::is_name;
 
 /// What a line is about, by its first word.
-#[derive(Clone, Copy, Debug, PartialEq, Eq)]
+#[derive(Clone, Copy, PartialEq, Eq)]
 pub(crate) enum EntrySort {
     /// `grid`: how wide and high the grid is.
     Size,

@@ -10,7 +10,6 @@ mod fields;
 mod grid;
 pub mod laws;
 mod lines;
-mod names;
 mod numbers;
 mod reader;
 mod rect;

@@ -109,7 +109,7 @@ fn grid_of(alloc: Global, number: u32) -> Result<Vec<u8>, AllocError>
 }
 
 /// What is written for each number from 1 on.
-#[derive(Clone, Copy, Debug, PartialEq, Eq)]
+#[derive(Clone, Copy, PartialEq, Eq)]
 enum Row {
     /// The block's name.
     Blocks,

@@ -115,6 +115,7 @@ impl Generator for GridGen {
               self.old.session;
         }) }
         ensures memory { IfErr result (λ fault. (fault ≡ Memory) × (self.new ≡ self.old)) }
+        ensures counts { Counts Failed last_count self.old.faults self.new.faults result }
     {
         let Some(session) = &mut self.session else {
             unreachable!()
@@ -164,6 +165,7 @@ impl Generator for GridGen {
           session = option_map
               (λ (s : SessionState). record s { running = false }) self.old.session;
         } }
+        ensures counts { Counts Failed last_count self.old.faults self.new.faults result }
     {
         if let Some(session) = &mut self.session {
             session.stop();

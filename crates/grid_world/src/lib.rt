@@ -33,3 +33,4 @@ pub use grid_text::{
 pub use replies::GridReplies;
 pub use service::{MOST_LINES, serve};
 pub use status::GridStatus;
+pub use words::{Corner, block_named, pose_of, rect_at};

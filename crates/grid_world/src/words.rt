@@ -19,9 +19,11 @@ pub(crate) enum Stream {
 
 /// A corner with the least x and y.
 #[derive(Clone, Copy, Debug, PartialEq, Eq)]
-pub(crate) struct Corner {
-    pub(crate) x: u32,
-    pub(crate) y: u32,
+pub struct Corner {
+    /// The least x.
+    pub x: u32,
+    /// The least y.
+    pub y: u32,
 }
 
 #[tactic(auto, unfolding(crate::specs::Words::served_stream))]
@@ -63,7 +65,8 @@ pub(crate) fn side_of(word: &[u8]) -> Option<Side>
     None
 }
 
-pub(crate) fn block_named<'a>(grid: &'a Grid, name: &[u8]) -> Option<&'a Block>
+/// The block of this name.
+pub fn block_named<'a>(grid: &'a Grid, name: &[u8]) -> Option<&'a Block>
     ensures { option_copied result ≡ specs.block_named grid.now name.now }
 {
     grid.blocks().iter().find(|b| b.name.bytes() == name)
@@ -77,7 +80,7 @@ pub(crate) fn region_named<'a>(grid: &'a Grid, name: &[u8]) -> Option<&'a Region
 
 /// The corner that a pose word means: `#X,Y`, or `home-B` for the first corner of a block.
 #[tactic(auto, unfolding(crate::specs::Words::pose_of))]
-pub(crate) fn pose_of(grid: &Grid, word: &[u8]) -> Option<Corner>
+pub fn pose_of(grid: &Grid, word: &[u8]) -> Option<Corner>
     ensures { result ≡ specs.pose_of grid.now word.now }
 {
     if let Some(text) = behind(word, b"#") {
@@ -159,7 +162,8 @@ pub(crate) fn posed(grid: &Grid, block: &[u8], pose: &[u8]) -> Option<Rect>
     Some(rect_at(block, corner))
 }
 
-pub(crate) fn rect_at(block: &Block, corner: Corner) -> Rect
+/// The cells of a block whose corner with the least x and y lies there.
+pub fn rect_at(block: &Block, corner: Corner) -> Rect
     ensures { result ≡ specs.rect_at block.now corner }
 {
     Rect {

@@ -1,5 +1,5 @@
--- The static atoms of a condition: no state changes whether they are true.
-use Rattle.std.specs.Prelude.{◌≡◌, ℕ, List, [], ◌∷◌, length, Bool, true, false}
+-- The static atoms of a condition: no state changes whether they are true. And the fluent ones: these are the state's.
+use Rattle.std.specs.Prelude.{◌≡◌, ℕ, List, [], ◌∷◌, length, Bool, true, false, Option, None, Some}
 use Rattle.std.specs.List.{list_all}
 use Rattle.task_model.specs.Condition.{Condition, Conditions, Atom, Equal, All, Any, Not, Exists, none, more}
 use Rattle.task_model.specs.Fit.{is_sound, is_static_role}
@@ -8,6 +8,9 @@ use Rattle.lemmas.specs.Lists.{numbers_from}
 use Rattle.task_model.specs.Roles.{role_of}
 use Rattle.task_model.specs.Truth.{objects_at}
 use Rattle.task_model.specs.declared.domain.Domain.{Domain}
+use Rattle.task_model.specs.declared.domain.Role.{Role}
+use Rattle.task_model.specs.declared.domain.Role.TheVariants.{Static, Fluent, Derived}
+use Rattle.task_model.specs.declared.fact.Atom as facts
 use Rattle.std.specs.Prelude.{not, ◌||◌}
 use Rattle.fact_join.specs.Answers.{is_known, is_atom_over}
 use Rattle.fact_join.specs.declared.query.QueryAtom.{QueryAtom}
@@ -47,6 +50,22 @@ is_known_atom known slots (Exists first sorts body) = true
 -- it is a known fact if it is an atom of a static predicate
 abbrev pub is_settled : Domain → Known → List ℕ → Condition → Bool
 is_settled domain known slots part = not (is_static_part domain part) || is_known_atom known slots part
+
+-- the atom, if this is the role of fluents
+abbrev pub fluent_as : Role → facts.Atom → Option facts.Atom
+fluent_as Fluent atom = Some atom
+fluent_as Static atom = None
+fluent_as Derived atom = None
+
+-- the atom where the slots have these objects, if the condition is one of a fluent
+abbrev pub fluent_in : Domain → List ℕ → Condition → Option facts.Atom
+fluent_in domain slots (Atom pred args) =
+    fluent_as (role_of domain pred) (record { pred = pred; args = objects_at slots args })
+fluent_in domain slots (Equal s t) = None
+fluent_in domain slots (All parts) = None
+fluent_in domain slots (Any parts) = None
+fluent_in domain slots (Not part) = None
+fluent_in domain slots (Exists first sorts body) = None
 
 -- the condition is fit where so many slots are filled
 abbrev pub is_sound_over : Domain → ℕ → Condition → Bool

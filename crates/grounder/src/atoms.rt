@@ -1,13 +1,14 @@
-//! The static atoms of a condition.
+//! The static atoms of a condition, and its fluent ones.
 ghost use Rattle.std.specs.Prelude.{◌≡◌, false, true, IfOk, MatchOption};
 ghost use Rattle.formula_eval.specs.Readable.{is_readable};
 ghost use Rattle.task_model.specs.Fit.{IsFitDomain};
-ghost use Rattle.grounder.specs.Parts.{IsNeeded, AreNeeded, is_static_part, tops_of};
+ghost use Rattle.grounder.specs.Parts.{IsNeeded, AreNeeded, fluent_in, is_static_part, tops_of};
 
 use fact_join::QueryAtom;
+use formula_eval::{Env, objects_at};
 use std::alloc::{AllocError, Global};
 use std::slice;
-use task_model::{Domain, Formula, FormulaNode, Role};
+use task_model::{Atom, Domain, Formula, FormulaNode, Role};
 
 /// The parts that all have to be true where the condition is made of such, and else the condition
 /// alone.
@@ -40,6 +41,25 @@ pub(crate) fn static_atom<'a>(domain: &Domain, condition: &'a Formula) -> Option
             terms: args.as_slice(),
         }),
         Role::Fluent | Role::Derived => None,
+    }
+}
+
+/// The condition as an atom where the slots have these objects, if it is one of a fluent. It takes
+/// no memory.
+pub fn fluent_atom(alloc: Global, domain: &Domain, condition: &Formula, env: &Env) -> Option<Atom>
+    requires fit { IsFitDomain domain.now }
+    requires readable { is_readable domain.now condition.now ≡ true }
+    ensures { result ≡ fluent_in domain.now env.now condition.now }
+{
+    let FormulaNode::Atom { pred, args } = &condition.node else {
+        return None;
+    };
+    match domain.roles.as_slice()[*pred as usize] {
+        Role::Fluent => Some(Atom {
+            pred: *pred,
+            args: objects_at(alloc, args.as_slice(), env),
+        }),
+        Role::Static | Role::Derived => None,
     }
 }
 

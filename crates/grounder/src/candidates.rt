@@ -13,7 +13,7 @@ use std::alloc::{AllocError, Global};
 use task_model::{Action, GroundAction, Look, Obj, Seq, State, Task, Wide};
 
 /// Any tuple is wanted.
-#[derive(Clone, Copy, Debug)]
+#[derive(Clone, Copy)]
 struct Anything;
 
 impl Wanted for Anything {

@@ -1,11 +1,11 @@
 //! The actions that are applicable in a state, with their arguments.
 #![tactic(auto)]
 
-pub mod actions;
-pub mod atoms;
-pub mod candidates;
+mod actions;
+mod atoms;
+mod candidates;
 mod steps;
 
 pub use actions::applicable;
-pub use atoms::tops;
+pub use atoms::{fluent_atom, tops};
 pub use candidates::Candidates;

@@ -1,6 +1,7 @@
 //! The notes of what was answered, and what they say of an instance.
 ghost use Rattle.std.specs.Prelude.{◌≡◌};
 ghost use Rattle.task_model.specs.Streams.{is_test as tests};
+ghost use Rattle.task_model.specs.declared.limits.TheConstants.{LARGEST_COUNT};
 
 use crate::due::{Due, QueueFault};
 use crate::level::level;
@@ -105,7 +106,7 @@ impl Queue {
     /// Notes that an instance gave a tuple; it has given fewer than 2^32 - 1 before. Fails only
     /// where memory is wanting, and leaves all as it was then.
     pub fn note_got(&mut self, instance: &Instance) -> Result<(), AllocError>
-        requires { yields_of self.old instance.now < 4294967295 }
+        requires { yields_of self.old instance.now < LARGEST_COUNT }
         ensures ok { OnOk result (self.new ≡ self.old ++ Yielded instance.now ∷ []) }
         ensures err { OnErr result (self.new ≡ self.old) }
     {

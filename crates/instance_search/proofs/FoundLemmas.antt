@@ -7,7 +7,7 @@ use Rattle.std.proofs.lemmas.Option.{slice_get_within, same_Some}
 use Rattle.std.specs.Cmp.{first_so, second_so}
 use Rattle.std.specs.List.{list_all}
 use Rattle.fact_join.specs.Adding.{AreAll, Adds, ComesOf}
-use Rattle.fact_join.specs.Answers.{IsAnswer, is_known, is_atom_over}
+use Rattle.fact_join.specs.Answers.{IsAnswer, is_known, is_atom_over, is_pattern_of}
 use Rattle.fact_join.specs.Partials.{Agrees}
 use Rattle.fact_join.specs.declared.partial.Partial.{Partial}
 use Rattle.fact_join.specs.declared.query.JoinFault.{JoinFault}
@@ -26,7 +26,7 @@ use Rattle.task_model.specs.declared.stream.Instance.{Instance}
 use Rattle.task_model.specs.declared.stream.Stream.{Stream}
 use Rattle.task_model.specs.declared.task.Task.{Task}
 use Rattle.instance_search.specs.Found.{Seeks, IsFound, instance_at, pattern_of_query, AreDomainAtoms, is_sought_at, IsSoughtInput, AddsInstances, IsSoughtBelow}
-use Rattle.instance_search.specs.Readable.{IsReadableStream, is_pattern_of}
+use Rattle.instance_search.specs.Readable.{IsReadableStream}
 
 -- ---- one stream
 

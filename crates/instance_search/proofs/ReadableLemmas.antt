@@ -14,7 +14,8 @@ use Rattle.task_model.specs.declared.domain.Domain.{Domain}
 use Rattle.task_model.specs.declared.domain.Pattern.{Pattern}
 use Rattle.task_model.specs.declared.stream.Stream.{Stream}
 use Rattle.task_model.specs.declared.task.Task.{Task}
-use Rattle.instance_search.specs.Readable.{is_readable_pattern, is_pattern_of, IsReadableStream}
+use Rattle.fact_join.specs.Answers.{is_pattern_of}
+use Rattle.instance_search.specs.Readable.{is_readable_pattern, IsReadableStream}
 use borrow.Author.Tests.{leb-true}
 
 readable_patterns : (domain : Domain) → IsFitDomain domain → (objects n : ℕ) → n ≤ 16

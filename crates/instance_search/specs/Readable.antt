@@ -1,18 +1,14 @@
 -- Streams whose domain facts can be looked up. Those of a fit task are such.
-use Rattle.std.specs.Prelude.{◌≡◌, ℕ, ◌≤◌, length, Bool, true, ◌&&◌, nat_le}
+use Rattle.std.specs.Prelude.{◌≡◌, ◌≤◌, length, true, Bool, ◌&&◌, nat_le}
 use Rattle.std.specs.List.{list_all}
 use Rattle.formula_eval.specs.Readable.{is_readable_term}
-use Rattle.fact_join.specs.Answers.{is_term_of}
+use Rattle.fact_join.specs.Answers.{is_pattern_of}
 use Rattle.task_model.specs.declared.domain.Pattern.{Pattern}
 use Rattle.task_model.specs.declared.stream.Stream.{Stream}
 
 -- at most eight terms, whose slots are below sixteen
 abbrev pub is_readable_pattern : Pattern → Bool
 is_readable_pattern p = nat_le (length p.args) 8 && list_all is_readable_term p.args
-
--- at most eight terms, whose slots are among the first, so many
-abbrev pub is_pattern_of : ℕ → Pattern → Bool
-is_pattern_of width p = nat_le (length p.args) 8 && list_all (is_term_of width) p.args
 
 pub record IsReadableStream (stream : Stream) : Type 0 where
   pub narrow : length stream.inputs ≤ 8

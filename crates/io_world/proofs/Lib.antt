@@ -4,3 +4,4 @@ pub mod RepliesLemmas
 pub mod AppendsLemmas
 pub mod TalksLemmas
 pub mod TalksHeardLemmas
+pub mod ProgressLemmas

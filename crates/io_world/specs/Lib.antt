@@ -1,12 +1,14 @@
 pub mod Faults
 pub mod Plans
 pub mod FileMap
+pub mod Leads
 pub mod Talks
 pub mod MemSinkState
 pub mod MemSourceState
 pub mod MemFilesState
 pub mod Calls
 pub mod Logs
+pub mod Scripted
 pub mod ScriptHostState
 pub mod Replies
 pub mod SureHostState

@@ -2,10 +2,15 @@
 use Rattle.std.specs.Prelude.{◌≡◌, ℕ, Bool, true, false, refl, List, [], ◌∷◌, ◌++◌, Option, Some, None, if◌then◌else◌}
 use Rattle.io_world.specs.Talks.{Event, Talk, said_after, spelled, silence, Spells}
 
--- the calls that were done, and whether they are all calls
+-- the calls that were done, whether they are all calls, and for how many stops room is kept
 pub record Calls : Type 0 where
   pub events : List Event
   pub whole : Bool
+  pub kept : ℕ
+
+-- no call was done yet
+abbrev pub no_calls : Calls
+no_calls = record { events = []; whole = true; kept = 0 }
 
 -- all calls, as long as none was lost
 abbrev pub told_of : Calls → Option (List Event)

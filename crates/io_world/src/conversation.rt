@@ -1,6 +1,7 @@
 // What is said with a child.
 ghost use Rattle.std.specs.Prelude.{◌≡◌, ◌<◌, ◌≤◌, ◌++◌, ℕ, List, true, length, take, drop, OnOk, OnErr, IfOk, IfErr};
 ghost use Rattle.io_world.specs.Faults.{HasCause};
+ghost use Rattle.io_world.specs.Leads.{wants_memory};
 ghost use Rattle.io_world.specs.Replies.{IsLine};
 ghost use Rattle.io_world.specs.Talks.{Same, Writes, Hears, FillsRoom, LogsTaken, LogsTakenPart, LogsGiven, LogsGivenPart};
 ghost use Rattle.io_world.specs.declared.host.HostFault.TheVariants.{Failed};
@@ -25,6 +26,7 @@ pub fn send_all<H: Host>(host: &mut H, child: u8, bytes: &[u8]) -> Result<(), Ho
     ensures log_part { IfErr result
         (λ fault. LogsTakenPart child bytes.now fault (H.log host.old) (H.log host.new)) }
     ensures cause { HasCause Failed H.last (H.faults host.old) (H.faults host.new) result }
+    ensures leads { H.leads host.old host.new (wants_memory result) }
 {
     let mut done = 0;
     while done < bytes.len() {
@@ -61,6 +63,7 @@ pub fn hear_line<H: Host>(
         (λ fault. LogsGivenPart child (take held room.old) fault (H.log host.old)
         (H.log host.new)) }
     ensures cause { HasCause Failed H.last (H.faults host.old) (H.faults host.new) result }
+    ensures leads { H.leads host.old host.new (wants_memory result) }
 {
     let mut filled = held;
     while filled < room.len() && !has_line(&room[..filled]) {

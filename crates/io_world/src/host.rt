@@ -1,6 +1,7 @@
 // Children, by number: they are started, written to, read from and stopped.
 ghost use Rattle.std.specs.Prelude.{◌≡◌, ◌<◌, ◌≤◌, ℕ, Bool, true, false, List, Option, length, take, map, string_bytes, IfOk, MatchResult};
 ghost use Rattle.io_world.specs.Faults.{last_count, HasCause};
+ghost use Rattle.io_world.specs.Leads.{wants_memory};
 ghost use Rattle.io_world.specs.Talks.{Talk, Event, started, wrote, heard, stopped, given, Logs, Spells, Same, Becomes, Empties, Writes, Hears};
 ghost use Rattle.io_world.specs.declared.host.HostFault.TheVariants.{Failed};
 
@@ -25,6 +26,9 @@ pub enum HostFault {
 /// Ok of `write` or `read` adds the bytes taken or given, and nothing else changes it. It may tell
 /// the log of all calls on all children in order, with their answers. A host that tells its log
 /// tells what was said with each child that runs, and that is what the log spells.
+///
+/// It may say what calls make of it (`leads`), so that who hands a host to generic code knows what
+/// became of it there.
 pub trait Host {
     /// How often a call has failed, at most `last`.
     ghost faults: { Self → ℕ };
@@ -41,6 +45,9 @@ pub trait Host {
     /// All calls on all children, where they are told.
     ghost log: { Self → Option (List Event) };
 
+    /// What calls made of a host; the last argument says that one of them may have wanted memory.
+    ghost leads: { Self → Self → Bool → Type 0 };
+
     /// Starts a child that doesn't run, by its program and its words: at least one.
     ///
     /// # Errors
@@ -56,7 +63,8 @@ pub trait Host {
             (λ _. Same (spoken self.old) (spoken self.new)) }
         ensures log { Logs (log self.old) (log self.new)
             (started child (map string_bytes argv.now) result) }
-        ensures cause { HasCause Failed last (faults self.old) (faults self.new) result };
+        ensures cause { HasCause Failed last (faults self.old) (faults self.new) result }
+        ensures leads { leads self.old self.new (wants_memory result) };
 
     /// Writes the first of these bytes to a running child, and answers how many it took: at least
     /// 1. There has to be one.
@@ -73,7 +81,8 @@ pub trait Host {
             (λ n. Writes child (take n bytes.now) (spoken self.old) (spoken self.new))
             (λ _. Same (spoken self.old) (spoken self.new)) }
         ensures log { Logs (log self.old) (log self.new) (wrote child bytes.now result) }
-        ensures cause { HasCause Failed last (faults self.old) (faults self.new) result };
+        ensures cause { HasCause Failed last (faults self.old) (faults self.new) result }
+        ensures leads { leads self.old self.new (wants_memory result) };
 
     /// Puts bytes of a running child at the beginning of the room, and answers how many: at least
     /// 1. There has to be room.
@@ -92,7 +101,8 @@ pub trait Host {
             (λ _. Same (spoken self.old) (spoken self.new)) }
         ensures log { Logs (log self.old) (log self.new)
             (heard child (length room.old) (given result room.new)) }
-        ensures cause { HasCause Failed last (faults self.old) (faults self.new) result };
+        ensures cause { HasCause Failed last (faults self.old) (faults self.new) result }
+        ensures leads { leads self.old self.new (wants_memory result) };
 
     /// Ends a running child. It doesn't run afterwards, whatever the answer.
     ///
@@ -104,7 +114,8 @@ pub trait Host {
         ensures running { Becomes child false (running self.old) (running self.new) }
         ensures spoken { Same (spoken self.old) (spoken self.new) }
         ensures log { Logs (log self.old) (log self.new) (stopped child result) }
-        ensures cause { HasCause Failed last (faults self.old) (faults self.new) result };
+        ensures cause { HasCause Failed last (faults self.old) (faults self.new) result }
+        ensures leads { leads self.old self.new false };
 
     /// The count of faults. It never falls.
     fn faults(&self) -> u64
@@ -117,4 +128,13 @@ pub trait Host {
 
     /// A count stands at its last value only after very many faults.
     ghost high: { last_count ≤ last };
+
+    /// Without a call nothing is made of a host.
+    ghost stays: { (h : Self) → leads h h false };
+
+    /// Calls behind others, of which none wanted memory, are calls in a row.
+    ghost chains: { (a b c : Self) (m : Bool) → leads a b false → leads b c m → leads a c m };
+
+    /// So are calls that didn't want memory behind others of which one may have wanted it.
+    ghost ends: { (a b c : Self) (m : Bool) → leads a b m → leads b c false → leads a c m };
 }

@@ -2,7 +2,7 @@
 ghost use Rattle.std.specs.Prelude.{◌≡◌, ◌≤◌};
 ghost use Rattle.io_world.specs.ScriptHostState.{idle, begun, progress_of, open_to, line_feeds};
 
-/// How far a scripted child has come since its last start.
+/// How far a scripted child has come since its last start, and how often it was started.
 #[derive(Clone, Copy, Debug, PartialEq, Eq)]
 pub struct Progress {
     /// Whether it runs.
@@ -13,6 +13,8 @@ pub struct Progress {
     pub reads: u64,
     /// How many line feeds were written to it. This stops at `2^64 - 1`.
     pub lines: u64,
+    /// How many of its starts were Ok. This stops at `2^64 - 1`.
+    pub starts: u64,
 }
 
 impl Progress {
@@ -25,15 +27,17 @@ impl Progress {
             position: 0,
             reads: 0,
             lines: 0,
+            starts: 0,
         }
     }
 
-    /// It was just started.
-    pub fn begun() -> Progress
-        ensures { result ≡ begun }
+    /// It was just started once more.
+    pub fn begun(self) -> Progress
+        ensures { result ≡ begun self.starts }
     {
         Progress {
             running: true,
+            starts: self.starts.saturating_add(1),
             ..Progress::idle()
         }
     }

@@ -1,10 +1,10 @@
 // Children that play scripts.
 ghost use Rattle.std.proofs.Common.{lit≤};
-ghost use Rattle.std.specs.Prelude.{◌≡◌, ℕ, ◌<◌, ◌≤◌, ◌+◌, ◌^◌, ◌==◌, [], true, false, length, take, map, string_bytes, replicate, IfOk, MatchResult};
+ghost use Rattle.std.specs.Prelude.{◌≡◌, ℕ, ◌<◌, ◌≤◌, ◌+◌, ◌^◌, ◌==◌, [], ◌∷◌, true, false, ⊤, length, take, map, slice_get, string_bytes, option_copied, IfOk, MatchResult};
 ghost use Rattle.io_world.specs.Faults.{last_count, HasCause};
 ghost use Rattle.io_world.specs.Logs.{told_of, calls_spell};
-ghost use Rattle.io_world.specs.Plans.{planned, fails_next, cut_or};
-ghost use Rattle.io_world.specs.ScriptHostState.{Scripted, ScriptHostState, Plays, Feeds, Gets, idle, begun, progress_of, script_of, open_bytes, ready, most_given, is_running, talk_with, start_fails, read_fails};
+ghost use Rattle.io_world.specs.Plans.{fails_next, cut_or};
+ghost use Rattle.io_world.specs.ScriptHostState.{ScriptHostState, Plays, Feeds, Gets, unplayed, begun, progress_of, scripts_for, scripts_of, script_of, turn_of, is_again, is_played_out, open_bytes, ready, most_given, is_running, talk_with, start_fails, read_fails};
 ghost use Rattle.io_world.specs.Talks.{started, wrote, heard, stopped, given, Logs, Same, Becomes, Empties, Writes, Hears};
 ghost use Rattle.io_world.specs.declared.host.HostFault.TheVariants.{Failed};
 ghost use Rattle.io_world.specs.declared.host.TheConstants.{CHILDREN};
@@ -15,37 +15,15 @@ use crate::host::{CHILDREN, Host, HostFault};
 use crate::pieces::{cut_at, give};
 use crate::progress::{Progress, line_feeds, open_to, progress_of};
 use crate::schedule::Schedule;
+use crate::scripts::{Script, Scripts};
 use std::alloc::Global;
 use std::marker::Model;
 
-/// What a scripted child says.
-#[derive(Drop)]
-pub struct Script {
-    /// The bytes that it gives in all.
-    pub bytes: Vec<u8>,
-    /// The i-th read, from 0, gives at most `cuts[i]` bytes, where such a cut is stated and at
-    /// least 1.
-    pub cuts: Vec<usize>,
-    /// A triple of a place, a child and a number of lines: the bytes from this place on are given
-    /// only after so many line feeds were written to that child. A read before that fails.
-    pub needs: Vec<(usize, u8, u64)>,
-}
-
-impl Model for Script {
-    ghost Value = { Scripted };
-
-    ghost view = { λ s. record {
-      bytes = s.bytes.items;
-      cuts = s.cuts.items;
-      needs = s.needs.items;
-    } };
-}
-
-/// A host whose children play scripts. It keeps and tells its log as long as there is memory for
-/// it, and tells what was said with each child.
+/// A host whose children play scripts, the same one at each start or the next one. It keeps and
+/// tells its log as long as there is memory for it, and tells what was said with each child.
 #[derive(Drop)]
 pub struct ScriptHost {
-    scripts: Vec<Script>,
+    scripts: Scripts,
     progress: [Progress; CHILDREN],
     log: CallLog,
     schedule: Schedule,
@@ -56,7 +34,8 @@ impl Model for ScriptHost {
     ghost Value = { ScriptHostState };
 
     ghost view = { λ s. record {
-      scripts = s.scripts.items;
+      scripts = scripts_of s.scripts;
+      again = is_again s.scripts;
       progress = s.progress;
       calls = s.log;
       plan = s.schedule;
@@ -72,22 +51,58 @@ impl ScriptHost {
     /// It takes the memory of its log from `alloc`.
     pub fn new(alloc: Global, children: Vec<Script>, fails: Vec<u64>) -> ScriptHost
         ensures idle { (k : ℕ) → is_running result k ≡ false }
-        ensures state { result ≡ record {
-          scripts = children.items;
-          progress = replicate CHILDREN idle;
-          calls = record
-              { events = []; whole = true };
-          plan = planned fails.items;
-          faults = 0;
-        } }
+        ensures state { result
+            ≡ unplayed (map (λ script. script ∷ []) children.items) false fails.items }
+    {
+        ScriptHost::with_scripts(alloc, Scripts::One(children), fails)
+    }
+
+    /// Children that play one script a start, by their numbers; none of them runs. A child's j-th
+    /// start that is Ok plays its j-th script from its beginning, and a start fails where none is
+    /// left. A start that fails uses up none. The rest is as with `new`.
+    pub fn again(alloc: Global, children: Vec<Vec<Script>>, fails: Vec<u64>) -> ScriptHost
+        ensures idle { (k : ℕ) → is_running result k ≡ false }
+        ensures state { result
+            ≡ unplayed (map (λ scripts. scripts.items) children.items) true fails.items }
+    {
+        ScriptHost::with_scripts(alloc, Scripts::Several(children), fails)
+    }
+
+    fn with_scripts(alloc: Global, scripts: Scripts, fails: Vec<u64>) -> ScriptHost
+        ensures idle { (k : ℕ) → is_running result k ≡ false }
+        ensures state { result
+            ≡ unplayed (scripts_of scripts) (is_again scripts) fails.items }
     {
         ScriptHost {
-            scripts: children,
+            scripts,
             progress: [Progress::idle(); CHILDREN],
             log: CallLog::new(alloc),
             schedule: Schedule::new(fails),
             faults: FaultCount::new(),
         }
+    }
+
+    /// The script that the child plays since its last start.
+    fn script(&self, child: u8) -> Option<&Script>
+        ensures { option_copied result
+            ≡ slice_get (scripts_for self.now.scripts child) (turn_of self.now child) }
+    {
+        let starts = progress_of(&self.progress, child).starts;
+        let turn = if self.scripts.is_again() {
+            starts.saturating_sub(1)
+        } else {
+            0
+        };
+        self.scripts.of(child).get(turn as usize)
+    }
+
+    /// Whether the child has no script for its next start.
+    fn is_played_out(&self, child: u8) -> bool
+        ensures { result ≡ is_played_out self.now child }
+    {
+        let starts = progress_of(&self.progress, child).starts;
+        let left = (starts as usize) < self.scripts.of(child).len();
+        (child as usize) >= self.scripts.len() || self.scripts.is_again() && !left
     }
 
     /// The bytes that the child may give now.
@@ -96,7 +111,7 @@ impl ScriptHost {
         ensures fits { (progress_of self.now.progress child).position + length result.now < 2 ^ 64 }
     {
         let position = progress_of(&self.progress, child).position;
-        match self.scripts.get(child as usize) {
+        match self.script(child) {
             Some(script) => open_bytes(script, &self.progress, position),
             None => &[],
         }
@@ -104,11 +119,11 @@ impl ScriptHost {
 
     /// The most that the next read of the child gives.
     fn cut(&self, child: u8, most: usize) -> usize
-        ensures value { result ≡ cut_or (script_of self.now.scripts child).cuts
+        ensures value { result ≡ cut_or (script_of self.now child).cuts
             (progress_of self.now.progress child).reads most }
         ensures some { 0 < most → 0 < result }
     {
-        match self.scripts.get(child as usize) {
+        match self.script(child) {
             Some(script) => cut_at(&script.cuts, progress_of(&self.progress, child).reads, most),
             None => most,
         }
@@ -156,6 +171,14 @@ impl Host for ScriptHost {
 
     ghost high = { lit≤ tt };
 
+    ghost leads = { λ old new memory. ⊤ };
+
+    ghost stays = { λ h. tt };
+
+    ghost chains = { λ a b c m first second. tt };
+
+    ghost ends = { λ a b c m first second. tt };
+
     fn start(&mut self, child: u8, argv: &[String]) -> Result<(), HostFault>
         requires number { child < CHILDREN }
         requires words { 0 < length argv.now }
@@ -171,12 +194,12 @@ impl Host for ScriptHost {
         ensures cause { HasCause Failed last_count self.old.faults self.new.faults result }
         ensures plays { Plays (start_fails self.old child) self.old self.new result }
         ensures progress { MatchResult result
-            (λ _. Becomes child begun (progress_of self.old.progress)
-            (progress_of self.new.progress))
+            (λ _. Becomes child (begun (progress_of self.old.progress child).starts)
+            (progress_of self.old.progress) (progress_of self.new.progress))
             (λ _. Same (progress_of self.old.progress) (progress_of self.new.progress)) }
     {
-        let scripted = (child as usize) < self.scripts.len();
-        let fails = self.schedule.call() || !scripted;
+        let played_out = self.is_played_out(child);
+        let fails = self.schedule.call() || played_out;
         let answer = if fails {
             Err(HostFault::Failed)
         } else {
@@ -189,7 +212,7 @@ impl Host for ScriptHost {
             self.faults.raise();
             return Err(HostFault::Failed);
         }
-        self.progress[child as usize] = Progress::begun();
+        self.progress[child as usize] = progress_of(&self.progress, child).begun();
         Ok(())
     }
 

@@ -1,8 +1,8 @@
 // Children that answer by a function.
 ghost use Rattle.std.proofs.Common.{lit≤};
-ghost use Rattle.std.specs.Prelude.{◌≡◌, ◌<◌, ◌≤◌, ℕ, [], true, false, length, take, map, string_bytes, IfOk, OnOk, MatchResult};
+ghost use Rattle.std.specs.Prelude.{◌≡◌, ◌<◌, ◌≤◌, ℕ, [], true, false, ⊤, length, take, map, string_bytes, IfOk, OnOk, MatchResult};
 ghost use Rattle.io_world.specs.Faults.{last_count, HasCause};
-ghost use Rattle.io_world.specs.Logs.{told_of, said_of, calls_spell};
+ghost use Rattle.io_world.specs.Logs.{told_of, said_of, no_calls, calls_spell};
 ghost use Rattle.io_world.specs.Replies.{no_reply};
 ghost use Rattle.io_world.specs.SureHostState.{SureChild, SureHostState, ServesCall, TakesRequests, Drains, child_of, runs};
 ghost use Rattle.io_world.specs.Talks.{started, wrote, heard, stopped, given, Logs, Same, Becomes, Empties, Writes, Hears};
@@ -56,7 +56,7 @@ impl<A: AnswerBy> SureHost<A> {
     pub fn new(alloc: Global, answers: A) -> SureHost<A>
         ensures idle { (k : ℕ) → runs result.children k ≡ false }
         ensures state { result ≡ record
-            { answers = answers; children = []; calls = record { events = []; whole = true } } }
+            { answers = answers; children = []; calls = no_calls } }
     {
         SureHost {
             answers,
@@ -121,6 +121,14 @@ impl<A: AnswerBy> Host for SureHost<A> {
     ghost spells = { λ host child running. calls_spell host.calls child };
 
     ghost high = { lit≤ tt };
+
+    ghost leads = { λ old new memory. ⊤ };
+
+    ghost stays = { λ h. tt };
+
+    ghost chains = { λ a b c m first second. tt };
+
+    ghost ends = { λ a b c m first second. tt };
 
     fn start(&mut self, child: u8, argv: &[String]) -> Result<(), HostFault>
         requires number { child < CHILDREN }

@@ -3,7 +3,7 @@ use Rattle.std.specs.Prelude.{◌≡◌, ℕ, ◌+◌, ◌*◌, ◌≤◌, ◌<�
 use Rattle.task_model.specs.Fit.{IsFit}
 use Rattle.task_model.specs.Known.{Known, IsIn}
 use Rattle.task_model.specs.Streams.{Note}
-use Rattle.task_model.specs.declared.limits.TheConstants.{LARGEST_NUMBER}
+use Rattle.task_model.specs.declared.limits.TheConstants.{LARGEST_COUNT, LARGEST_NUMBER}
 use Rattle.task_model.specs.declared.stream.Instance.{Instance}
 use Rattle.task_model.specs.declared.stream.Stream.{Stream}
 use Rattle.task_model.specs.declared.task.Task.{Task}
@@ -19,7 +19,7 @@ pub record IsRoomFor (known : Known) (notes : List Note) (stream : Stream) (tupl
     (values : List (List ℕ)) : Type 0 where
   pub count : length values ≡ tuples * length stream.outputs
   pub few_names : length known.names + length values < MOST_NAMES
-  pub few_notes : length notes + tuples < 4294967295
+  pub few_notes : length notes + tuples < LARGEST_COUNT
 
 abbrev pub IsRoomAfter : Known → List Note → Stream → Entry → Type 0
 IsRoomAfter known notes stream (entry.Got n tuples values) =

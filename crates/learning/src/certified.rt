@@ -8,10 +8,9 @@ ghost use Rattle.task_model.specs.Known.{type_fact as type_of};
 ghost use Rattle.task_model.specs.Streams.{certified_by, output_types, fact_of};
 ghost use Rattle.task_model.specs.Truth.{slots_of};
 
-use fact_store::supertypes;
 use formula_eval::{Env, objects_at};
 use std::alloc::{AllocError, Global};
-use task_model::{Domain, Fact, Kind, Obj, Pattern, Row, Stream};
+use task_model::{Domain, Fact, Kind, Obj, Pattern, Row, Stream, supertypes};
 
 /// That the object has the type. It takes no memory.
 fn type_fact(alloc: Global, sort: u32, object: Obj) -> Fact
@@ -30,8 +29,8 @@ fn type_fact(alloc: Global, sort: u32, object: Obj) -> Fact
 
 /// Adds that the object has each of these types.
 fn add_each(
-    facts: &mut Vec<Fact>,
     alloc: Global,
+    facts: &mut Vec<Fact>,
     sorts: &[u32],
     object: Obj,
 ) -> Result<(), AllocError>
@@ -46,8 +45,8 @@ fn add_each(
 
 /// Adds that the object has the type, with all supertypes.
 fn add_types(
-    facts: &mut Vec<Fact>,
     alloc: Global,
+    facts: &mut Vec<Fact>,
     domain: &Domain,
     sort: u32,
     object: Obj,
@@ -55,15 +54,15 @@ fn add_types(
     ensures { OnOk result (facts.new.items
         ≡ facts.old.items ++ type_facts domain.now sort object) }
 {
-    add_each(facts, alloc, &[sort], object)?;
-    add_each(facts, alloc, supertypes(domain, sort), object)?;
-    add_each(facts, alloc, &[0], object)
+    add_each(alloc, facts, &[sort], object)?;
+    add_each(alloc, facts, supertypes(domain, sort), object)?;
+    add_each(alloc, facts, &[0], object)
 }
 
 /// Adds that each of these objects has its type, with all supertypes.
 fn add_output_types(
-    facts: &mut Vec<Fact>,
     alloc: Global,
+    facts: &mut Vec<Fact>,
     domain: &Domain,
     sorts: &[u32],
     objects: &[Obj],
@@ -73,15 +72,15 @@ fn add_output_types(
         ≡ facts.old.items ++ output_types domain.now sorts.now objects.now) }
 {
     for (place, sort) in sorts.iter().enumerate() {
-        add_types(facts, alloc, domain, *sort, objects[place])?;
+        add_types(alloc, facts, domain, *sort, objects[place])?;
     }
     Ok(())
 }
 
 /// Adds the patterns' atoms where the slots have these objects.
 fn add_atoms(
-    facts: &mut Vec<Fact>,
     alloc: Global,
+    facts: &mut Vec<Fact>,
     patterns: &[Pattern],
     args: &[Obj],
 ) -> Result<(), AllocError>
@@ -122,8 +121,8 @@ pub fn certified_facts(
 {
     let mut facts = Vec::new(alloc);
     add_output_types(
-        &mut facts,
         alloc,
+        &mut facts,
         domain,
         stream.outputs.as_slice(),
         outputs,
@@ -131,8 +130,8 @@ pub fn certified_facts(
     let mut args = Vec::from_slice(alloc, inputs)?;
     args.extend_from_slice(outputs)?;
     add_atoms(
-        &mut facts,
         alloc,
+        &mut facts,
         stream.certified.as_slice(),
         args.as_slice(),
     )?;

@@ -2,6 +2,7 @@
 ghost use Rattle.std.specs.Prelude.{◌≡◌, ◌≤◌, ◌+◌, ◌<◌, ◌++◌, [], length, take, replicate, OnOk, OnErr};
 ghost use Rattle.fact_store.specs.Growth.{IsBetween, LiesBetween};
 ghost use Rattle.task_model.specs.Streams.{Yielded};
+ghost use Rattle.task_model.specs.declared.limits.TheConstants.{LARGEST_COUNT};
 ghost use Rattle.transcript_model.specs.Transcript.{known_of, notes_of, known_with, notes_with};
 ghost use Rattle.transcript_model.specs.declared.entry.Entry.TheVariants as entry;
 ghost use Rattle.learning.specs.Learning.{MayLearn, CanLearn};
@@ -52,8 +53,8 @@ fn learn_tuples(
     for _ in 0..tuples {
         let (tuple, later) = rest.split_at(stream.outputs.len());
         learn_tuple(
-            facts,
             alloc,
+            facts,
             &task.domain,
             stream,
             instance.inputs.as_slice(),
@@ -67,7 +68,7 @@ fn learn_tuples(
 /// Notes that the instance gave so many tuples. Fails only where memory is wanting; then the first
 /// of them may be noted.
 fn note_tuples(queue: &mut Queue, instance: &Instance, tuples: u8) -> Result<(), AllocError>
-    requires { length queue.old + tuples < 4294967295 }
+    requires { length queue.old + tuples < LARGEST_COUNT }
     ensures notes { OnOk result (queue.new ≡ queue.old ++ replicate tuples (Yielded instance.now)) }
     ensures part { OnErr result (IsBetween queue.old queue.new
         (queue.old ++ replicate tuples (Yielded instance.now))) }
@@ -119,7 +120,7 @@ fn learn_answer(
         }
         Entry::Value { value, .. } => {
             let inputs = instance.inputs.as_slice();
-            learn_value(facts, alloc, &task.domain, stream, inputs, *value)?;
+            learn_value(alloc, facts, &task.domain, stream, inputs, *value)?;
             queue.note_end(instance)
         }
         Entry::End { .. } => queue.note_end(instance),

@@ -23,8 +23,8 @@ pub fn generated_name(alloc: Global, value: &Name) -> Result<Name, AllocError>
 /// Gives the values' objects their numbers, and answers these. Fails only where memory is wanting;
 /// then the first of them may have their numbers.
 pub(crate) fn name_outputs(
-    facts: &mut Facts,
     alloc: Global,
+    facts: &mut Facts,
     values: &[Name],
 ) -> Result<Row, AllocError>
     requires { length facts.old.known.names + length values.now < MOST_NAMES }

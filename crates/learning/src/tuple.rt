@@ -19,8 +19,8 @@ use task_model::{Domain, Fact, Kind, Name, Obj, Pattern, Row, Stream};
 /// That each of these objects has its type, with all supertypes. Fails only where memory is
 /// wanting; then the first of these facts may be known.
 fn learn_types(
-    facts: &mut Facts,
     alloc: Global,
+    facts: &mut Facts,
     domain: &Domain,
     sorts: &[u32],
     objects: &[Obj],
@@ -36,7 +36,7 @@ fn learn_types(
     ensures values { facts.new.known.values ≡ facts.old.known.values }
 {
     for (place, sort) in sorts.iter().enumerate() {
-        add_supertypes(facts, alloc, domain, *sort, objects[place])?;
+        add_supertypes(alloc, facts, domain, *sort, objects[place])?;
     }
     Ok(())
 }
@@ -44,8 +44,8 @@ fn learn_types(
 /// That the patterns' atoms are facts where the slots have these objects. Fails only where memory
 /// is wanting; then the first of them may be known.
 fn learn_atoms(
-    facts: &mut Facts,
     alloc: Global,
+    facts: &mut Facts,
     patterns: &[Pattern],
     args: &[Obj],
 ) -> Result<(), AllocError>
@@ -80,8 +80,8 @@ fn learn_atoms(
 ///
 /// Fails only where memory is wanting; then a part of it may be known, and nothing else.
 pub fn learn_tuple(
-    facts: &mut Facts,
     alloc: Global,
+    facts: &mut Facts,
     domain: &Domain,
     stream: &Stream,
     inputs: &[Obj],
@@ -99,16 +99,16 @@ pub fn learn_tuple(
     ensures part { OnErr result (LiesBetween facts.old.known facts.new.known
         (with_tuple domain.now stream.now inputs.now values.now facts.old.known)) }
 {
-    let outputs = name_outputs(facts, alloc, values)?;
+    let outputs = name_outputs(alloc, facts, values)?;
     learn_types(
-        facts,
         alloc,
+        facts,
         domain,
         stream.outputs.as_slice(),
         outputs.as_slice(),
     )?;
     let mut args = Vec::from_slice(alloc, inputs)?;
     args.extend_from_slice(outputs.as_slice())?;
-    learn_atoms(facts, alloc, stream.certified.as_slice(), args.as_slice())?;
+    learn_atoms(alloc, facts, stream.certified.as_slice(), args.as_slice())?;
     Ok(outputs)
 }

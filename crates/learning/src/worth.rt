@@ -43,8 +43,8 @@ pub fn worth_of(
 ///
 /// Fails only where memory is wanting, and leaves all as it was then.
 pub fn learn_value(
-    facts: &mut Facts,
     alloc: Global,
+    facts: &mut Facts,
     domain: &Domain,
     stream: &Stream,
     inputs: &[Obj],

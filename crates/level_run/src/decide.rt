@@ -11,7 +11,7 @@ ghost use Rattle.transcript_model.specs.Rounds.{limits_of};
 ghost use Rattle.transcript_model.specs.Transcript.{known_of, notes_of};
 
 use crate::plans::known_plan;
-use best_first::{Additive, Found, search};
+use best_first::{Found, RelaxedPlan, search};
 use instance_queue::{Due, QueueFault};
 use round_run::RunFault;
 use session_core::Session;
@@ -47,8 +47,8 @@ pub(crate) fn decide(
     ensures only { IfErr result (λ fault. fault ≡ Memory) }
 {
     let facts = session.facts();
-    let mut estimate = Additive::new(alloc, task, facts)?;
-    match search(alloc, task, facts, head.states, &mut estimate)? {
+    let mut estimate = Box::new(alloc, RelaxedPlan::new(alloc, task, facts)?)?;
+    match search(alloc, task, facts, head.states, &mut *estimate)? {
         Found::Plan(plan, cost) => {
             let shown = known_plan(alloc, task, head, session, &plan, cost)?;
             Ok(Decision::Ends(shown))

@@ -12,7 +12,7 @@ ghost use Rattle.io_world.specs.declared.host.TheConstants.{CHILDREN};
 ghost use Rattle.limit_laws.specs.GridTexts.{grid_domain, grid_streams};
 ghost use Rattle.report_reader.specs.declared.reader.TheConstants.{REPORT_BYTES};
 ghost use Rattle.std.specs.Prelude.{ℕ, ◌≡◌, ◌*◌, ◌^◌};
-ghost use Rattle.task_model.specs.declared.limits.TheConstants.{LARGEST_NUMBER, MOST_DUE, MOST_STATES};
+ghost use Rattle.task_model.specs.declared.limits.TheConstants.{LARGEST_COUNT, LARGEST_NUMBER, MOST_DUE, MOST_STATES, MOST_SUPPOSED, SLOTS};
 ghost use Rattle.task_reader.specs.declared.texts.TheConstants.{TEXT_BYTES};
 ghost use Rattle.transcript_model.specs.declared.limits.TheConstants.{MOST_CALLS, MOST_DEPTH, WORKERS};
 
@@ -31,6 +31,14 @@ pub fn limits_have_their_values()
     ensures value { VALUE_BYTES ≡ 64 }
     ensures names { MOST_NAMES ≡ 4294705152 }
     ensures lines { MOST_LINES ≡ 100000 }
+{}
+
+/// At most 20,000 entries are supposed at a time, counts and the numbers of a report go up to
+/// 2^32 - 1, and an action, an item or a stream has at most 16 slots.
+pub fn counts_have_their_values()
+    ensures supposed { MOST_SUPPOSED ≡ 20000 }
+    ensures count { LARGEST_COUNT ≡ 4294967295 }
+    ensures slots { SLOTS ≡ 16 }
 {}
 
 /// Where the words name no limit, a run makes at most 10,000 requests, a search goes through at

@@ -1,7 +1,8 @@
 //! Where in a turn a transcript stands.
+ghost use Rattle.task_model.specs.declared.limits.TheConstants.{LARGEST_COUNT};
 ghost use Rattle.transcript_model.specs.declared.limits.TheConstants.{MOST_CALLS};
 
-use crate::joined::{copies, join};
+use crate::copied::copies;
 use crate::running::Running;
 use dream_asks::dues_of;
 use fact_store::Facts;
@@ -191,7 +192,7 @@ impl ModeCourse {
     {
         let count = ((calls - before) as usize).min(asks.len());
         let (asked, _) = asks.as_slice().split_at(count);
-        join(&mut self.tried, asked)?;
+        self.tried.join(asked)?;
         self.batch.begin(pools, asks, before, calls);
         self.phase = Phase::Resting;
         Ok(())
@@ -291,7 +292,7 @@ impl ModeCourse {
     ) -> Result<(), AllocError>
         requires fit { IsFit task.now }
         requires place { (s : Kept) × (slice_get self.old.kept.skeletons place ≡ Some s)
-            × (s.picks < 4294967295) }
+            × (s.picks < LARGEST_COUNT) }
         requires left { before < calls }
         requires few { calls ≤ MOST_CALLS }
         ensures { (s : Kept) → slice_get self.old.kept.skeletons place ≡ Some s

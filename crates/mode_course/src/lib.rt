@@ -1,8 +1,8 @@
 //! Where in a turn a transcript stands, whatever its mode, and what may come next.
 #![tactic(auto)]
 
+mod copied;
 mod course;
-mod joined;
 pub mod laws;
 mod running;
 

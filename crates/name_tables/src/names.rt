@@ -71,9 +71,6 @@ impl NameTable {
         ensures names { OnOk result (self.new ≡ specs.with_name self.old name.now) }
         ensures fresh { IfOk result (λ fresh. fresh ≡ not (specs.has_name name.now self.old)) }
     {
-        if self.has(name) {
-            return Ok(false);
-        }
         let bytes = Vec::from_slice(self.alloc, name)?;
         Ok(self.names.insert(bytes)?)
     }

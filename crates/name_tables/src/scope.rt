@@ -69,8 +69,7 @@ impl Scope {
     pub fn push(&mut self, name: &[u8]) -> Result<(), AllocError>
         ensures { OnOk result (self.new ≡ self.old ++ name.now ∷ []) }
     {
-        let bytes = Vec::from_slice(self.alloc, name)?;
-        self.names.push(Name::new(bytes))?;
+        self.names.push(Name::from_slice(self.alloc, name)?)?;
         Ok(())
     }
 

@@ -6,6 +6,7 @@ use Rattle.instance_search.specs.Found.{IsFound}
 use Rattle.task_model.specs.Dreams.{Entry, entry_facts, entry_values, entry_names, instances_of, supposing, HasFreshOutputs}
 use Rattle.task_model.specs.Known.{Known, IsIn, with_facts, with_values}
 use Rattle.task_model.specs.Streams.{Note, is_finished, same_instance}
+use Rattle.task_model.specs.declared.limits.TheConstants.{MOST_SUPPOSED}
 use Rattle.task_model.specs.declared.stream.Instance.{Instance}
 use Rattle.task_model.specs.declared.stream.Stream.{Stream}
 use Rattle.task_model.specs.declared.task.Task.{Task}
@@ -22,7 +23,7 @@ pub record IsDraft (task : Task) (known : Known) (draft : Draft) : Type 0 where
   pub values : known.values ++ draft.more.values
       ≡ with_values known.values (flat_map (entry_values task) draft.entries.items)
   pub asked : draft.asked ≡ instances_of draft.entries.items
-  pub few : length draft.entries.items ≤ 20000
+  pub few : length draft.entries.items ≤ MOST_SUPPOSED
   pub plain : (k : ℕ) (e : Entry) → slice_get draft.entries.items k ≡ Some e
       → IsPlainEntry task (known.names ++ draft.names.items) e
 
@@ -63,6 +64,6 @@ seeks_new notes tried old stream instance =
 -- what is true where a pass came to no end: there are more instances than 20,000 entries leave room for
 abbrev pub LacksPass : Task → Known → List Note → List Instance → List Entry → OptimisticFault → Type 0
 LacksPass task known notes tried old TooManyEntries =
-    Exceeds (20000 - length old)
+    Exceeds (MOST_SUPPOSED - length old)
     (IsFound task (supposing task known old old) (seeks_new notes tried (instances_of old))) []
 LacksPass task known notes tried old Memory = Unit {0}

@@ -3,6 +3,7 @@ use Rattle.std.specs.Prelude.{◌≡◌, ℕ, ◌≤◌, ◌++◌, List, length,
 use Rattle.task_model.specs.Dreams.{Entry, entry_names}
 use Rattle.task_model.specs.Fit.{IsFit}
 use Rattle.task_model.specs.Known.{Known, IsIn}
+use Rattle.task_model.specs.declared.limits.TheConstants.{MOST_SUPPOSED}
 use Rattle.task_model.specs.declared.stream.Stream.{Stream}
 use Rattle.task_model.specs.declared.task.Task.{Task}
 use Rattle.optimistic_set.specs.Dreamable.{AreReal}
@@ -26,6 +27,6 @@ pub record IsPlainEntry (task : Task) (names : List (List ℕ)) (e : Entry) : Ty
 -- their objects have names.
 pub record ArePlainEntries (task : Task) (known : Known) (list : List Entry) : Type 0 where
   pub base : IsBase task known
-  pub few : length list ≤ 20000
+  pub few : length list ≤ MOST_SUPPOSED
   pub each : (k : ℕ) (e : Entry) → slice_get list k ≡ Some e
       → IsPlainEntry task (known.names ++ entry_names 1 list) e

@@ -4,6 +4,7 @@ use Rattle.fact_join.specs.declared.query.JoinFault.{JoinFault}
 use Rattle.fact_join.specs.declared.query.JoinFault.TheVariants as join
 use Rattle.task_model.specs.Known.{Known}
 use Rattle.task_model.specs.Streams.{Note}
+use Rattle.task_model.specs.declared.limits.TheConstants.{MOST_SUPPOSED}
 use Rattle.task_model.specs.declared.stream.Instance.{Instance}
 use Rattle.task_model.specs.declared.task.Task.{Task}
 use Rattle.transcript_model.specs.Dreaming.{MoreAreSupposed}
@@ -17,5 +18,5 @@ optimistic_fault join.Memory = Memory
 
 -- what is true where there is no list
 abbrev pub ComesOf : Task → Known → List Note → List Instance → ℕ → OptimisticFault → Type 0
-ComesOf task known notes tried depth TooManyEntries = MoreAreSupposed 20000 task known notes tried depth
+ComesOf task known notes tried depth TooManyEntries = MoreAreSupposed MOST_SUPPOSED task known notes tried depth
 ComesOf task known notes tried depth Memory = Unit {0}

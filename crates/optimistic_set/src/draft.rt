@@ -4,6 +4,7 @@ ghost use Rattle.task_model.specs.Dreams.{IsPass, supposing};
 ghost use Rattle.task_model.specs.Fit.{IsFitDomain, is_fit_stream};
 ghost use Rattle.task_model.specs.Known.{with_facts, with_values};
 ghost use Rattle.task_model.specs.Streams.{certified_by, worth_by};
+ghost use Rattle.task_model.specs.declared.limits.TheConstants.{MOST_SUPPOSED};
 ghost use Rattle.task_model.specs.declared.task.Task.{Task as AnyTask};
 ghost use Rattle.fact_join.specs.Adding.{ComesOf};
 ghost use Rattle.instance_search.specs.Found.{IsFound, AreFound};
@@ -12,7 +13,6 @@ ghost use Rattle.optimistic_set.specs.Drafts.{IsDraft, IsPlainInstance, ArePlain
 
 use crate::entry::OptEntry;
 use crate::fault::OptimisticFault;
-use crate::list::MOST_ENTRIES;
 use crate::placeholders::{add_placeholders, fresh_objects};
 use crate::tried::Tried;
 use fact_join::JoinFault;
@@ -22,7 +22,7 @@ use instance_queue::Queue;
 use instance_search::{Names, Sought, found_instances, stream_of};
 use learning::{certified_facts, worth_of};
 use std::alloc::{AllocError, Global};
-use task_model::{Domain, Instance, Name, Obj, Stream, Task};
+use task_model::{Domain, Instance, MOST_SUPPOSED, Name, Obj, Stream, Task};
 
 /// Entries over a store, with what they certify.
 #[derive(Drop)]
@@ -63,8 +63,8 @@ impl<'a> Sought for Fresh<'a> {
 /// Puts what an entry of the stream certifies behind a store. Fails only where memory is wanting;
 /// then some of it may be there.
 pub fn add_certified(
-    more: &mut More,
     alloc: Global,
+    more: &mut More,
     facts: &Facts,
     domain: &Domain,
     stream: &Stream,
@@ -119,7 +119,7 @@ impl<'a> Draft<'a> {
     ) -> Result<(), AllocError>
         requires base { IsBase task.now self.old.facts.now.known }
         requires draft { IsDraft task.now self.old.facts.now.known self.old }
-        requires room { length self.old.entries.items < 20000 }
+        requires room { length self.old.entries.items < MOST_SUPPOSED }
         requires instance { IsPlainInstance task.now
             (self.old.facts.now.known.names ++ self.old.names.items) instance.now }
         ensures draft { OnOk result (IsDraft task.now self.old.facts.now.known self.new) }
@@ -132,8 +132,8 @@ impl<'a> Draft<'a> {
         let first = self.facts.name_count() + self.names.len() as u32;
         let outputs = fresh_objects(alloc, first, stream.outputs.len())?;
         add_certified(
-            &mut self.more,
             alloc,
+            &mut self.more,
             self.facts,
             &task.domain,
             stream,
@@ -141,7 +141,7 @@ impl<'a> Draft<'a> {
             outputs.as_slice(),
         )?;
         let number = self.entries.len() as u64 + 1;
-        add_placeholders(&mut self.names, alloc, number, stream.outputs.len())?;
+        add_placeholders(alloc, &mut self.names, number, stream.outputs.len())?;
         self.asked.add(instance)?;
         self.entries.push(OptEntry::new(instance.copy()?, outputs))?;
         Ok(())
@@ -156,7 +156,7 @@ impl<'a> Draft<'a> {
     ) -> Result<(), AllocError>
         requires base { IsBase task.now self.old.facts.now.known }
         requires draft { IsDraft task.now self.old.facts.now.known self.old }
-        requires room { length self.old.entries.items + length instances.now ≤ 20000 }
+        requires room { length self.old.entries.items + length instances.now ≤ MOST_SUPPOSED }
         requires instances { ArePlainInstances task.now
             (self.old.facts.now.known.names ++ self.old.names.items) instances.now }
         ensures draft { OnOk result (IsDraft task.now self.old.facts.now.known self.new) }
@@ -185,8 +185,8 @@ impl<'a> Draft<'a> {
             self.now.entries.items) (seeks_new queue.now tried.now self.now.asked)
             instances.items) }
         ensures few { IfOk result (λ instances. length instances.items
-            ≤ 20000 - length self.now.entries.items) }
-        ensures fault { IfErr result (ComesOf (20000 - length self.now.entries.items)
+            ≤ MOST_SUPPOSED - length self.now.entries.items) }
+        ensures fault { IfErr result (ComesOf (MOST_SUPPOSED - length self.now.entries.items)
             (IsFound task.now (supposing task.now self.now.facts.now.known self.now.entries.items
             self.now.entries.items) (seeks_new queue.now tried.now self.now.asked)) []) }
     {
@@ -198,7 +198,7 @@ impl<'a> Draft<'a> {
             tried,
             asked,
         };
-        let most = MOST_ENTRIES - self.entries.len();
+        let most = MOST_SUPPOSED - self.entries.len();
         found_instances(alloc, task, &look, &names, &fresh, most)
     }
 

@@ -12,7 +12,7 @@ mod tried;
 pub use draft::add_certified;
 pub use entry::OptEntry;
 pub use fault::OptimisticFault;
-pub use list::{MOST_ENTRIES, optimistic};
+pub use list::optimistic;
 pub use placeholders::are_real;
 pub use supposed::Supposed;
 pub use tried::Tried;

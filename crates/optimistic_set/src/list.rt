@@ -2,6 +2,7 @@
 ghost use Rattle.std.specs.Prelude.{◌≡◌, ◌≤◌, length, IfOk, IfErr};
 ghost use Rattle.task_model.specs.Dreams.{AreSupposed, supposing};
 ghost use Rattle.task_model.specs.Fit.{IsFit};
+ghost use Rattle.task_model.specs.declared.limits.TheConstants.{MOST_SUPPOSED};
 ghost use Rattle.optimistic_set.specs.Dreamable.{AreReal};
 ghost use Rattle.optimistic_set.specs.Entries.{ArePlainEntries};
 ghost use Rattle.optimistic_set.specs.Faults.{ComesOf};
@@ -15,16 +16,13 @@ use instance_queue::Queue;
 use std::alloc::Global;
 use task_model::Task;
 
-/// The most entries of a list (this project's limit).
-pub const MOST_ENTRIES: usize = 20_000;
-
 /// The instances that may be supposed to answer, with placeholders for their outputs: behind the
 /// empty list come, so often as `depth` says, those that are due by what is known with the entries
 /// so far, have none, and weren't tried (PDDLStream 2020; how the list is found and ordered is this
 /// project's). The facts are those of the task and of what was answered, so none of their names
 /// begins with `@`.
 ///
-/// Fails where there would be more than [`MOST_ENTRIES`] entries, and where memory is wanting.
+/// Fails where there would be more than [`task_model::MOST_SUPPOSED`] entries, and where memory is wanting.
 pub fn optimistic<'a>(
     alloc: Global,
     task: &Task,
@@ -41,7 +39,7 @@ pub fn optimistic<'a>(
     ensures known { IfOk result (λ supposed. supposed.known
         ≡ supposing task.now facts.now.known supposed.list supposed.list) }
     ensures base { IfOk result (λ supposed. supposed.base ≡ facts.now.known) }
-    ensures few { IfOk result (λ supposed. length supposed.list ≤ 20000) }
+    ensures few { IfOk result (λ supposed. length supposed.list ≤ MOST_SUPPOSED) }
     ensures plain { IfOk result (λ supposed. ArePlainEntries task.now supposed.base
         supposed.list) }
     ensures fault { IfErr result (ComesOf task.now facts.now.known queue.now tried.now depth) }

@@ -45,8 +45,8 @@ fn placeholder_name(alloc: Global, entry: u64, output: u64) -> Result<Name, Allo
 
 /// Adds the names of so many outputs of the entry of this number, at most eight.
 pub(crate) fn add_placeholders(
-    names: &mut Vec<Name>,
     alloc: Global,
+    names: &mut Vec<Name>,
     entry: u64,
     count: usize,
 ) -> Result<(), AllocError>

@@ -1,5 +1,6 @@
 //! Instances that were asked.
 use indexmap::IndexSet;
+use instance_queue::Due;
 use std::alloc::{AllocError, Global};
 use std::marker::Model;
 use task_model::Instance;
@@ -29,6 +30,7 @@ impl Model for Tried {
 impl Tried {
     ghost use Rattle.std.specs.Prelude.{◌≡◌, ◌++◌, ◌∷◌, ◌↔◌, [], IsTrue, OnOk, OnErr};
     ghost use Rattle.std.specs.List.{list_any};
+    ghost use Rattle.instance_queue.specs.Level.{instances_of};
     ghost use Rattle.task_model.specs.Streams.{same_instance};
 
     /// Nothing, which takes no memory.
@@ -67,6 +69,17 @@ impl Tried {
         self.list.reserve(1)?;
         self.set.insert(key)?;
         self.list.push(last)?;
+        Ok(())
+    }
+
+    /// Puts the instances of these asks behind the others. Fails only where memory is wanting; then
+    /// the first of them may be there.
+    pub fn join(&mut self, asks: &[Due]) -> Result<(), AllocError>
+        ensures { OnOk result (self.new ≡ self.old ++ instances_of asks.now) }
+    {
+        for ask in asks {
+            self.add(&ask.instance)?;
+        }
         Ok(())
     }
 

@@ -30,6 +30,7 @@ fn write_one(alloc: Global, out: &mut Out, kind: &[u8], rest: &[u8], text: &[u8]
         b"pieces" => lines::write_cut(alloc, out, number(rest), text),
         b"report" => reports::write_faulty(alloc, out, text),
         b"report-fronts" => reports::write_fronts(alloc, out, text),
+        b"migrated" => reports::write_migrated(alloc, out, text),
         b"command" => commands::write_asked(alloc, out, text),
         b"usage" => out.put(usage_text()),
         _ => write_task_text(alloc, out, kind, text),

@@ -6,7 +6,7 @@ use crate::refusals::write_refusal;
 use crate::shown::write_name;
 use crate::tasks::bare_task;
 use report_reader::read_report;
-use report_text::{ReportFault, entry_text, head_text, outcome_text};
+use report_text::{ReportFault, entry_text, head_text, migrated, outcome_text};
 use std::alloc::{AllocError, Global};
 use task_model::{Name, Seq, Task};
 use transcript_model::{Call, DreamUse, Entry, Head, Origin, Outcome, Pool, Report};
@@ -218,6 +218,7 @@ fn head(alloc: Global, report: &Report, places: &[u32]) -> Result<Head, AllocErr
         calls: report.calls,
         states: report.states,
         depth: report.depth,
+        optimal: false,
         pools: Seq::from_vec(vec![in alloc; pool]?),
     })
 }
@@ -257,5 +258,19 @@ pub(crate) fn write_again(alloc: Global, out: &mut Out, streams: &[u8], text: &[
     match bare_task(alloc, streams) {
         Ok(task) => write_report(alloc, out, &task, text),
         Err(refusal) => write_refusal(out, refusal),
+    }
+}
+
+/// Writes a report in the latest version without its last line feed, or a text's first faulty line.
+pub(crate) fn write_migrated(alloc: Global, out: &mut Out, text: &[u8]) {
+    if text.len() > LONGEST {
+        return out.lose();
+    }
+    match read_report(alloc, text) {
+        Ok(report) => match migrated(alloc, &report) {
+            Ok(text) => out.put_bytes(text.strip_suffix(b"\n").unwrap_or(&text)),
+            Err(_) => out.lose(),
+        },
+        Err(_) => write_faulty(alloc, out, text),
     }
 }

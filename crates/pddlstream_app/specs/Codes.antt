@@ -3,6 +3,7 @@ use Rattle.std.specs.Prelude.{ℕ}
 use Rattle.pddlstream_app.specs.declared.status.Status.{Status}
 use Rattle.pddlstream_app.specs.declared.status.Status.TheVariants.{Plan, Done, NoPlan, Limit, Usage, Input, BadAnswer, ReadFault, GeneratorFault, WriteFault, Memory, Invalid}
 
+-- the exit status
 abbrev pub code_of : Status → ℕ
 code_of Plan = 0
 code_of Done = 0

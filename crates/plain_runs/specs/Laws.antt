@@ -24,6 +24,7 @@ pub record KnowsSame (task : Task) (entries others : List Entry) : Type 0 where
   pub notes : notes_of task entries ≡ notes_of task others
   pub asks : asks_of entries ≡ asks_of others
 
+-- Transcripts that say the same know the same.
 abbrev pub SaidIsKnown : Type 0
 SaidIsKnown = (task : Task) (entries others : List Entry) → SaysSame entries others → KnowsSame task entries others
 

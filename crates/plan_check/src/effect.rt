@@ -3,6 +3,7 @@ ghost use Rattle.std.specs.Prelude.{◌≡◌, ◌≤◌, IfOk, OnOk, length, ma
 ghost use Rattle.std.specs.List.{list_all};
 ghost use Rattle.task_model.specs.State.{Atoms, with_atoms, without_atoms};
 ghost use Rattle.task_model.specs.Steps.{atom_of, effect_of};
+ghost use Rattle.task_model.specs.Truth.{slots_of};
 ghost use Rattle.plan_check.specs.Readable.{is_readable_pattern};
 
 use formula_eval::{Env, objects_at};
@@ -74,7 +75,11 @@ pub fn after(state: &State, action: &Action, args: &[Obj]) -> Result<State, Allo
 }
 
 /// The patterns' atoms, in their order. Fails only where memory is wanting.
-fn pattern_atoms(alloc: Global, patterns: &[Pattern], env: &Env) -> Result<Vec<Atom>, AllocError>
+pub fn pattern_atoms(
+    alloc: Global,
+    patterns: &[Pattern],
+    env: &Env,
+) -> Result<Vec<Atom>, AllocError>
     requires { list_all is_readable_pattern patterns.now ≡ true }
     ensures { IfOk result (λ atoms. atoms.items ≡ map (atom_of env.now) patterns.now) }
 {
@@ -100,9 +105,11 @@ pub fn changes_of(alloc: Global, action: &Action, args: &[Obj]) -> Result<Change
     requires few { length args.now ≤ 16 }
     requires adds { list_all is_readable_pattern action.now.adds ≡ true }
     requires deletes { list_all is_readable_pattern action.now.deletes ≡ true }
-    ensures { IfOk result (λ changes. (state : Atoms)
+    ensures effect { IfOk result (λ changes. (state : Atoms)
         → with_atoms (without_atoms state changes.gone.items) changes.come.items
         ≡ effect_of action.now args.now state) }
+    ensures come { IfOk result (λ changes. changes.come.items
+        ≡ map (atom_of (slots_of args.now)) action.now.adds) }
 {
     let env = Env::new(args);
     let gone = pattern_atoms(alloc, action.deletes.as_slice(), &env)?;

@@ -4,13 +4,13 @@
 
 mod cost;
 mod effect;
-pub mod fault;
-pub mod plan;
-pub mod start;
-pub mod step;
+mod fault;
+mod plan;
+mod start;
+mod step;
 
-pub use effect::{Changes, after, changes_of};
+pub use effect::{Changes, after, changes_of, pattern_atoms};
 pub use fault::{CheckFault, StepFault};
-pub use plan::check;
+pub use plan::{check, meets_goal};
 pub use start::initial;
 pub use step::{Applied, advance, apply, cost as step_cost};

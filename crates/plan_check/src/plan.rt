@@ -1,7 +1,7 @@
 //! Whether a plan is valid.
-ghost use Rattle.std.specs.Prelude.{◌≡◌, ◌<◌, ◌^◌, IfOk, IfErr, length};
+ghost use Rattle.std.specs.Prelude.{◌≡◌, ◌<◌, ◌^◌, ◌↔◌, IsTrue, IfOk, IfErr, length};
 ghost use Rattle.task_model.specs.Fit.{IsFit};
-ghost use Rattle.task_model.specs.Plans.{IsValid, Executes};
+ghost use Rattle.task_model.specs.Plans.{IsValid, IsGoal, Executes};
 ghost use Rattle.task_model.specs.Initial.{initial_state};
 ghost use Rattle.plan_check.specs.Faults.{PlanFails, StepsRun, fault_at as fault_of};
 
@@ -52,6 +52,15 @@ fn run<L: Look>(
     Ok(Applied { state, cost })
 }
 
+/// Whether the goal is true in the state (PDDL 2.1).
+pub fn meets_goal<L: Look>(task: &Task, look: &L, state: &State) -> bool
+    requires { IsFit task.now }
+    ensures { IsTrue result ↔ IsGoal task.now (L.known look.now) state.now }
+{
+    let mut env = Env::new(&[]);
+    holds_once(task, look, state, &task.problem.goal, &mut env)
+}
+
 /// What a valid plan costs (PDDL 2.1; costs as in IPC 2008): each step is applicable in turn from
 /// the initial state, and the goal is true at the end. A plan has fewer than 2^26 steps, so that
 /// the sum fits.
@@ -68,8 +77,7 @@ pub fn check<L: Look>(alloc: Global, task: &Task, look: &L, plan: &Plan) -> Resu
         Ok(end) => end,
         Err(fault) => return Err(fault),
     };
-    let mut env = Env::new(&[]);
-    if holds_once(task, look, &end.state, &task.problem.goal, &mut env) {
+    if meets_goal(task, look, &end.state) {
         Ok(end.cost)
     } else {
         Err(CheckFault::Goal)

@@ -4,7 +4,7 @@ ghost use Rattle.task_model.specs.Fit.{IsFit};
 use crate::fault::Fault;
 use crate::plans::{add_applicable, add_applied, add_checked, add_goal, add_kept};
 use crate::queue::tell_queue;
-use crate::searches::{add_estimate, add_exceeds, add_found_steps, add_search};
+use crate::searches::{add_estimate, add_exceeds, add_found_steps, add_search, add_wanted};
 use crate::store::tell_store;
 use fact_store::Facts;
 use instance_queue::Queue;
@@ -35,6 +35,7 @@ fn answer_part(
         "steps" => add_found_steps(alloc, task, facts, line, out),
         "exceeds" => add_exceeds(alloc, task, facts, number(line), out),
         "estimate" => add_estimate(alloc, task, facts, line, out),
+        "wanted" => add_wanted(alloc, task, facts, out),
         _ => Err(Fault::Unfit),
     }
 }

@@ -4,8 +4,9 @@ ghost use Rattle.task_model.specs.Fit.{IsFit};
 
 use crate::fault::Fault;
 use crate::plans::push_steps;
-use best_first::{Additive, Blind, Estimate, Found, GoalCount, exceeds, search};
+use best_first::{Additive, Blind, Estimate, Found, GoalCount, RelaxedPlan, exceeds, search};
 use fact_store::Facts;
+use grounder::applicable;
 use plan_check::initial;
 use std::alloc::{AllocError, Global};
 use std::fmt::Write;
@@ -29,6 +30,10 @@ fn found_by(
         b"goals" => search(alloc, task, facts, limit, &mut GoalCount)?,
         b"additive" => {
             let mut estimate = Box::new(alloc, Additive::new(alloc, task, facts)?)?;
+            search(alloc, task, facts, limit, &mut *estimate)?
+        }
+        b"relaxed" => {
+            let mut estimate = Box::new(alloc, RelaxedPlan::new(alloc, task, facts)?)?;
             search(alloc, task, facts, limit, &mut *estimate)?
         }
         _ => return Err(Fault::Unfit),
@@ -134,7 +139,32 @@ pub(crate) fn add_estimate(
             let mut estimate = Box::new(alloc, Additive::new(alloc, task, facts)?)?;
             estimate_of(alloc, task, facts, &mut *estimate)?
         }
+        b"relaxed" => {
+            let mut estimate = Box::new(alloc, RelaxedPlan::new(alloc, task, facts)?)?;
+            estimate_of(alloc, task, facts, &mut *estimate)?
+        }
         _ => return Err(Fault::Unfit),
     };
     Ok(write!(out, "{value}\n")?)
+}
+
+/// Adds the steps of the initial state that the estimate by relaxed plans wants early.
+pub(crate) fn add_wanted(
+    alloc: Global,
+    task: &Task,
+    facts: &Facts,
+    out: &mut String,
+) -> Result<(), Fault>
+    requires { IsFit task.now }
+{
+    let mut estimate = Box::new(alloc, RelaxedPlan::new(alloc, task, facts)?)?;
+    estimate_of(alloc, task, facts, &mut *estimate)?;
+    let state = Box::new(alloc, initial(alloc, task)?)?;
+    let mut wanted = Vec::new(alloc);
+    for step in applicable(alloc, task, facts, &state)? {
+        if estimate.wants(&step) {
+            wanted.push(step)?;
+        }
+    }
+    Ok(push_steps(out, task, facts, wanted.as_slice())?)
 }

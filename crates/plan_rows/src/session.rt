@@ -73,6 +73,7 @@ fn head(
         calls,
         states: 1,
         depth: 1,
+        optimal: false,
         pools,
     })
 }

@@ -151,6 +151,7 @@ problem_by d v t =
       metric = has_metric (body_of t);
     }
 
+-- the problem that a text spells
 abbrev pub problem_of : Domain → Trees → Problem
 problem_of d t = problem_by d (problem_names d (body_of t)) t
 

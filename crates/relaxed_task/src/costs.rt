@@ -10,10 +10,15 @@ use std::alloc::{AllocError, Global};
 /// What a fact costs that wasn't reached.
 pub(crate) const UNREACHED: u32 = u32::MAX;
 
-/// What a fact costs as far as was seen, and whether its rules were told.
+/// No rule.
+const NONE: u32 = u32::MAX;
+
+/// What a fact costs as far as was seen, the rule that gave it for that, and whether its rules were
+/// told.
 #[derive(Clone, Copy, Debug)]
 struct Cost {
     cost: u32,
+    giver: u32,
     is_taken: bool,
     /// Whether it doesn't hold at first, whatever is said afterwards.
     is_barred: bool,
@@ -22,6 +27,7 @@ struct Cost {
 /// A fact that wasn't reached yet.
 const UNSEEN: Cost = Cost {
     cost: UNREACHED,
+    giver: NONE,
     is_taken: false,
     is_barred: false,
 };
@@ -35,11 +41,12 @@ struct Board {
 }
 
 impl Board {
-    /// Notes that the fact can be had for this cost.
-    fn offer(&mut self, fact: u32, cost: u32) {
+    /// Notes that the fact can be had for this cost by this rule.
+    fn offer(&mut self, fact: u32, cost: u32, giver: u32) {
         if let Some(known) = self.costs.get_mut(fact as usize) {
             if cost < known.cost {
                 known.cost = cost;
+                known.giver = giver;
                 self.queue.push(fact, cost);
             }
         }
@@ -50,7 +57,7 @@ impl Board {
         if let Some(open) = self.open.get(rule as usize) {
             let cost = open.sum;
             for fact in gives.row(rule as usize) {
-                self.offer(*fact, cost);
+                self.offer(*fact, cost, rule);
             }
         }
     }
@@ -82,6 +89,7 @@ impl Board {
 /// room is taken when it is made.
 #[derive(Drop)]
 pub(crate) struct Costs {
+    needs: Lists,
     gives: Lists,
     needed_by: Lists,
     start: Vec<Open>,
@@ -104,6 +112,7 @@ impl Costs {
             queue,
         };
         Ok(Costs {
+            needs: Lists::new(alloc),
             gives: Lists::new(alloc),
             needed_by: Lists::new(alloc),
             start: Vec::new(alloc),
@@ -128,6 +137,7 @@ impl Costs {
         let queue = Queue::new(alloc, rules.len(), times)?;
         let board = Board { open, costs, queue };
         Ok(Costs {
+            needs: rules.needs,
             gives: rules.gives,
             needed_by,
             start: rules.start,
@@ -162,7 +172,7 @@ impl Costs {
             .get(fact as usize)
             .is_some_and(|known| !known.is_barred)
         {
-            self.board.offer(fact, 0);
+            self.board.offer(fact, 0, NONE);
         }
     }
 
@@ -182,6 +192,47 @@ impl Costs {
             .as_slice()
             .get(fact as usize)
             .map_or(UNREACHED, |known| known.cost)
+    }
+
+    /// The rule that gave the fact for what it costs, if one did.
+    pub(crate) fn giver(&self, fact: u32) -> Option<u32> {
+        let known = self.board.costs.as_slice().get(fact as usize)?;
+        if known.giver == NONE {
+            None
+        } else {
+            Some(known.giver)
+        }
+    }
+
+    /// What the rule needs.
+    pub(crate) fn needs(&self, rule: u32) -> &[u32] {
+        self.needs.row(rule as usize)
+    }
+
+    /// What the rule costs by itself: 1 where it is a step, else 0.
+    pub(crate) fn own_cost(&self, rule: u32) -> u32 {
+        match self.start.as_slice().get(rule as usize) {
+            Some(open) => open.sum,
+            None => 0,
+        }
+    }
+
+    /// What the rule costs with all that it needs, where that was reached.
+    pub(crate) fn full_cost(&self, rule: u32) -> u32 {
+        match self.board.open.as_slice().get(rule as usize) {
+            Some(open) => open.sum,
+            None => UNREACHED,
+        }
+    }
+
+    /// How many rules there are.
+    pub(crate) fn rule_count(&self) -> usize {
+        self.start.len()
+    }
+
+    /// How many facts there are.
+    pub(crate) fn fact_count(&self) -> usize {
+        self.board.costs.len()
     }
 
     /// Whether all that the rule needs was reached.

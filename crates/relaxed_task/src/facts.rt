@@ -1,4 +1,5 @@
 //! The facts of atoms.
+use crate::lists::number;
 use crate::rules::Rules;
 use indexmap::IndexMap;
 use indexmap::map::Slice;
@@ -46,9 +47,15 @@ impl AtomFacts {
         }
     }
 
-    /// The facts that there are of the atom.
-    pub(crate) fn get(&self, atom: &Atom) -> Option<Sides> {
-        self.atoms.get(atom).copied()
+    /// The atom's number, and the facts that there are of it.
+    pub(crate) fn get(&self, atom: &Atom) -> Option<(u32, Sides)> {
+        let (place, _, sides) = self.atoms.get_full(atom)?;
+        Some((number(place), *sides))
+    }
+
+    /// How many atoms there are.
+    pub(crate) fn len(&self) -> usize {
+        self.atoms.len()
     }
 
     /// The atoms with their facts.

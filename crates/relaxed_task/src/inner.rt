@@ -1,10 +1,9 @@
 //! What stands in the body of an `exists`, with its own variables alone.
 ghost use Rattle.std.specs.Prelude.{◌≡◌, ◌≤◌, IfOk, IfSome, length, true};
 ghost use Rattle.std.specs.List.{list_all};
-ghost use Rattle.fact_join.specs.Answers.{is_term_of};
+ghost use Rattle.fact_join.specs.Answers.{is_term_of, is_pattern_of};
 ghost use Rattle.formula_eval.specs.Readable.{is_readable, is_readable_term};
 ghost use Rattle.task_model.specs.Fit.{IsFitDomain};
-ghost use Rattle.relaxed_task.specs.Inner.{is_inner};
 
 use grounder::tops;
 use std::alloc::{AllocError, Global};
@@ -64,7 +63,7 @@ impl<'a> Exists<'a> {
         requires fit { IsFitDomain domain.now }
         requires readable { is_readable domain.now part.now ≡ true }
         ensures { IfOk result
-            (λ atom. IfSome atom (λ p. is_inner (length self.now.sorts.now) p ≡ true)) }
+            (λ atom. IfSome atom (λ p. is_pattern_of (length self.now.sorts.now) p ≡ true)) }
     {
         let FormulaNode::Atom { pred, args } = &part.node else {
             return Ok(None);
@@ -87,7 +86,7 @@ impl<'a> Exists<'a> {
         requires fit { IsFitDomain domain.now }
         requires readable { is_readable domain.now self.now.body.now ≡ true }
         ensures { IfOk result
-            (λ atoms. list_all (is_inner (length self.now.sorts.now)) atoms.items ≡ true) }
+            (λ atoms. list_all (is_pattern_of (length self.now.sorts.now)) atoms.items ≡ true) }
     {
         let mut atoms = Vec::new(alloc);
         for part in tops(self.body) {

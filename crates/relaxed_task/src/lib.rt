@@ -4,16 +4,18 @@
 mod conditions;
 mod costs;
 mod facts;
-pub mod fluents;
+mod guide;
 mod inner;
 mod lists;
 mod net;
+mod plan;
 mod queue;
 mod reached;
 mod rules;
+mod seen;
 mod steps;
-pub mod task;
+mod task;
 mod tuples;
 
-pub use fluents::fluent_atom;
+pub use guide::{Guide, Sight};
 pub use task::RelaxedTask;

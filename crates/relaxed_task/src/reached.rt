@@ -44,6 +44,11 @@ impl Reached {
         Ok(())
     }
 
+    /// All atoms.
+    pub(crate) fn atoms(&self) -> &[Atom] {
+        self.atoms.as_slice()
+    }
+
     /// Whether the atom is there.
     pub(crate) fn has(&self, atom: &Atom) -> bool {
         self.atoms.contains(atom)

@@ -17,7 +17,7 @@ pub(crate) struct Open {
 #[derive(Drop)]
 pub(crate) struct Rules {
     /// What each rule needs.
-    needs: Lists,
+    pub(crate) needs: Lists,
     /// What it gives.
     pub(crate) gives: Lists,
     /// How many facts it needs, and what it costs.

@@ -7,12 +7,11 @@ ghost use Rattle.plan_check.specs.Readable.{is_readable_pattern};
 ghost use Rattle.task_model.specs.Fit.{IsFit, is_fit_action};
 
 use crate::conditions::{Scene, literal};
-use crate::fluents::fluent_atom;
 use crate::lists::number;
 use crate::net::{Literal, Net};
 use crate::tuples::filled;
 use formula_eval::Env;
-use grounder::{Candidates, tops};
+use grounder::{Candidates, fluent_atom, tops};
 use plan_check::{changes_of, step_cost};
 use std::alloc::AllocError;
 use task_model::{Action, Formula, Look, Obj, State, Wide};

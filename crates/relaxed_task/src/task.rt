@@ -14,11 +14,21 @@ use crate::tuples::filled;
 use grounder::Candidates;
 use plan_check::initial;
 use std::alloc::{AllocError, Global};
-use std::mem;
 use task_model::{Look, State, Task};
 
 /// The most arguments of actions for which there is room.
-const MOST_ROWS: usize = 200_000;
+pub(crate) const MOST_ROWS: usize = 200_000;
+
+/// How far the goal is from a state.
+#[derive(Clone, Copy, Debug)]
+pub(crate) enum Ahead {
+    /// It is true in each state that is reached.
+    Here,
+    /// It isn't reached.
+    Never,
+    /// It is this fact, which costs so much.
+    Goal { goal: u32, cost: u32 },
+}
 
 /// A task whose deletes are ignored but for what conditions need false: what is left to the goal
 /// from a state, as a number of steps.
@@ -28,6 +38,13 @@ pub struct RelaxedTask {
     atoms: AtomFacts,
     /// The facts that atoms are false.
     lacks: Vec<u32>,
+    /// For each step its rule, if it has one.
+    steps: Vec<Option<u32>>,
+    /// What is reached, if there was room to find it.
+    reached: Option<Reached>,
+    /// The numbers of the atoms of the state that was looked at last, `held_count` of them.
+    held: Vec<u32>,
+    held_count: usize,
     costs: Costs,
     goal: Literal,
     /// What a step costs, on the average and rounded up, and at least 1.
@@ -42,6 +59,10 @@ impl RelaxedTask {
         Ok(RelaxedTask {
             atoms: AtomFacts::new(alloc),
             lacks: Vec::new(alloc),
+            steps: Vec::new(alloc),
+            reached: None,
+            held: Vec::new(alloc),
+            held_count: 0,
             costs: Costs::none(alloc)?,
             goal: Literal::Always,
             step_cost: 1,
@@ -56,25 +77,40 @@ impl RelaxedTask {
         ensures { IfOk result HasRoom }
     {
         let candidates = Candidates::new(alloc, task, look, MOST_ROWS)?;
-        let Some(mut net) = relax(alloc, task, look, None, &candidates)? else {
+        RelaxedTask::with_candidates(alloc, task, look, &candidates)
+    }
+
+    /// The same over these steps.
+    pub(crate) fn with_candidates<L: Look>(
+        alloc: Global,
+        task: &Task,
+        look: &L,
+        candidates: &Candidates,
+    ) -> Result<RelaxedTask, AllocError>
+        requires fit { IsFit task.now }
+        requires candidates { AreCandidates task.now (L.known look.now) candidates.now }
+        ensures { IfOk result HasRoom }
+    {
+        let Some(net) = relax(alloc, task, look, None, candidates)? else {
             return RelaxedTask::empty(alloc);
         };
-        let steps = mem::replace(&mut net.steps, Vec::new(alloc));
         let mut plain = RelaxedTask::over(alloc, net)?;
-        let reached = plain.reached(alloc, task, steps.as_slice())?;
-        match relax(alloc, task, look, Some(&reached), &candidates)? {
-            Some(net) => RelaxedTask::over(alloc, net)?.within_room(alloc),
-            None => plain.within_room(alloc),
+        let reached = plain.reached(alloc, task)?;
+        match relax(alloc, task, look, Some(&reached), candidates)? {
+            Some(net) => RelaxedTask::over(alloc, net)?.within_room(alloc, reached),
+            None => plain.within_room(alloc, reached),
         }
     }
 
-    /// The same, or the one in which nothing is left to do where there is no room for it. Fails only
-    /// where memory is wanting.
-    fn within_room(self, alloc: Global) -> Result<RelaxedTask, AllocError>
+    /// The same with what is reached, or the one in which nothing is left to do where there is no room
+    /// for it. Fails only where memory is wanting.
+    fn within_room(self, alloc: Global, reached: Reached) -> Result<RelaxedTask, AllocError>
         ensures { IfOk result HasRoom }
     {
         if self.costs.has_room() {
-            Ok(self)
+            let mut whole = self;
+            whole.reached = Some(reached);
+            Ok(whole)
         } else {
             RelaxedTask::empty(alloc)
         }
@@ -89,9 +125,15 @@ impl RelaxedTask {
             }
         }
         let step_cost = net.mean_cost();
+        let mut held = Vec::new(alloc);
+        held.resize(net.fluents.len(), 0)?;
         Ok(RelaxedTask {
             atoms: net.fluents,
             lacks,
+            steps: net.steps,
+            reached: None,
+            held,
+            held_count: 0,
             costs: Costs::new(alloc, net.rules)?,
             goal: net.goal,
             step_cost,
@@ -106,24 +148,63 @@ impl RelaxedTask {
     /// How many steps are left from the state: those that each fact of the goal takes, added up, and
     /// so those of each step's condition. The largest number where the goal is out of reach.
     pub fn steps_left(&mut self, state: &State) -> u64 {
+        match self.look_from(state) {
+            Ahead::Here => 0,
+            Ahead::Never => u64::MAX,
+            Ahead::Goal { cost, .. } => u64::from(cost),
+        }
+    }
+
+    /// Finds what facts cost from the state, as far as the goal, and answers how far that is.
+    pub(crate) fn look_from(&mut self, state: &State) -> Ahead {
         let goal = match self.goal {
-            Literal::Always => return 0,
-            Literal::Never => return u64::MAX,
+            Literal::Always => return Ahead::Here,
+            Literal::Never => return Ahead::Never,
             Literal::Fact(goal) => goal,
         };
         self.begin(state);
         self.costs.spread(Some(goal));
         match self.costs.cost(goal) {
-            UNREACHED => u64::MAX,
-            cost => u64::from(cost),
+            UNREACHED => Ahead::Never,
+            cost => Ahead::Goal { goal, cost },
         }
+    }
+
+    /// What is reached, if there was room to find it.
+    pub(crate) fn all_reached(&self) -> Option<&Reached> {
+        self.reached.as_ref()
+    }
+
+    /// What facts cost, as far as was found last.
+    pub(crate) fn costs(&self) -> &Costs {
+        &self.costs
+    }
+
+    /// The rule of the step at this place, if it has one.
+    pub(crate) fn rule(&self, step: usize) -> Option<u32> {
+        *self.steps.as_slice().get(step)?
+    }
+
+    /// The numbers of the atoms that held in the state from which costs were found last.
+    pub(crate) fn held(&self) -> &[u32] {
+        self.held.as_slice().get(..self.held_count).unwrap_or(&[])
+    }
+
+    /// How many atoms have numbers.
+    pub(crate) fn atom_count(&self) -> usize {
+        self.atoms.len()
     }
 
     /// Begins with what holds in the state.
     fn begin(&mut self, state: &State) {
         self.costs.clear();
+        self.held_count = 0;
         for atom in state.as_slice() {
-            if let Some(sides) = self.atoms.get(atom) {
+            if let Some((number, sides)) = self.atoms.get(atom) {
+                if let Some(place) = self.held.get_mut(self.held_count) {
+                    *place = number;
+                    self.held_count = self.held_count.saturating_add(1);
+                }
                 if let Some(fact) = sides.holds {
                     self.costs.hold(fact);
                 }
@@ -137,21 +218,15 @@ impl RelaxedTask {
         }
     }
 
-    /// What is reached from the initial state, where these are the steps' rules. Fails only where
-    /// memory is wanting.
-    fn reached(
-        &mut self,
-        alloc: Global,
-        task: &Task,
-        steps: &[Option<u32>],
-    ) -> Result<Reached, AllocError>
+    /// What is reached from the initial state. Fails only where memory is wanting.
+    fn reached(&mut self, alloc: Global, task: &Task) -> Result<Reached, AllocError>
         requires { IsFit task.now }
     {
         let state = initial(alloc, task)?;
         self.begin(&state);
         self.costs.spread(None);
-        let mut taken = Vec::with_capacity(alloc, steps.len())?;
-        for rule in steps {
+        let mut taken = Vec::with_capacity(alloc, self.steps.len())?;
+        for rule in self.steps.as_slice() {
             taken.push(rule.is_some_and(|rule| self.costs.is_ready(rule as usize)))?;
         }
         let mut reached = Reached::new(alloc, task.domain.predicates.len(), taken)?;

@@ -1,10 +1,9 @@
 //! The objects that an `exists` may mean.
 ghost use Rattle.std.specs.Prelude.{◌≡◌, ◌≤◌, IfOk, IfSome, length, true};
 ghost use Rattle.std.specs.List.{list_all};
-ghost use Rattle.fact_join.specs.Answers.{is_atom_over};
+ghost use Rattle.fact_join.specs.Answers.{is_atom_over, is_pattern_of};
 ghost use Rattle.formula_eval.specs.Readable.{is_readable};
 ghost use Rattle.task_model.specs.Fit.{IsFitDomain};
-ghost use Rattle.relaxed_task.specs.Inner.{is_inner};
 
 use crate::conditions::Scene;
 use crate::inner::Exists;
@@ -58,8 +57,8 @@ fn has_variable(atom: &Pattern) -> bool {
 
 /// The first of the atoms that has a variable.
 fn lead_of(atoms: &[Pattern], width: usize) -> Option<&Pattern>
-    requires { list_all (is_inner width) atoms.now ≡ true }
-    ensures { IfSome result (λ atom. is_inner width atom.now ≡ true) }
+    requires { list_all (is_pattern_of width) atoms.now ≡ true }
+    ensures { IfSome result (λ atom. is_pattern_of width atom.now ≡ true) }
 {
     for atom in atoms {
         if has_variable(atom) {
@@ -79,7 +78,7 @@ fn add_rows<L: Look>(
     rows: &mut Vec<Wide>,
 ) -> Result<(), JoinFault>
     requires narrow { length query.now.sorts.now ≤ 16 }
-    requires lead { IfSome lead (λ atom. is_inner (length query.now.sorts.now) atom.now ≡ true) }
+    requires lead { IfSome lead (λ atom. is_pattern_of (length query.now.sorts.now) atom.now ≡ true) }
     requires atoms { list_all (is_atom_over (length query.now.sorts.now)) atoms.now ≡ true }
     requires few { length rows.old.items ≤ query.now.most }
 {
@@ -102,7 +101,7 @@ fn query_atoms<'a>(
     patterns: &'a [Pattern],
     width: usize,
 ) -> Result<Vec<QueryAtom<'a>>, AllocError>
-    requires { list_all (is_inner width) patterns.now ≡ true }
+    requires { list_all (is_pattern_of width) patterns.now ≡ true }
     ensures { IfOk result (λ atoms. list_all (is_atom_over width) atoms.items ≡ true) }
 {
     let mut atoms = Vec::new(alloc);

@@ -2,7 +2,7 @@
 use Rattle.std.proofs.Common.{◌≡◌, ◌==◌, ◌↔◌, ℕ, ◌<◌, Bool, true, false, not, Some, List, [], ◌∷◌, length, refl, sym, ap, subst, ◌∙◌, arith, Contains, IsTrue}
 use Rattle.std.proofs.lemmas.Bool.{ne_eqb, true≢false}
 use Rattle.std.proofs.lemmas.List.{length-map}
-use Rattle.dream_check.specs.Judged.{IsSolvableWithin}
+use Rattle.best_first.specs.Answer.{IsSolvableWithin}
 use Rattle.lemmas.proofs.Pigeonhole.{pigeons}
 use Rattle.instance_queue.specs.Level.{AreDueInTurn, instances_of}
 use Rattle.instance_queue.specs.declared.due.Due.{Due}

@@ -103,5 +103,6 @@ pub record IsOfReport (limit : ℕ) (task : Task) (bytes : List ℕ) (v : Verdic
 abbrev pub IsNoReport : List ℕ → Verdict → Type 0
 IsNoReport bytes v = (line : ℕ) × (v ≡ Invalid line kind.Text) × IsFirstFault bytes line
 
+-- what may be said of a text
 abbrev pub IsVerdict : ℕ → Task → List ℕ → Verdict → Type 0
 IsVerdict limit task bytes v = IsNoReport bytes v ⊎ IsOfReport limit task bytes v

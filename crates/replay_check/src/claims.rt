@@ -12,14 +12,13 @@ ghost use Rattle.transcript_model.specs.declared.outcome.LimitKind.TheVariants.{
 ghost use Rattle.transcript_model.specs.declared.outcome.Outcome.TheVariants as outcome;
 
 use crate::bounds::Bounds;
-use best_first::exceeds;
-use dream_check::is_solvable_within;
+use best_first::{exceeds, is_solvable_within};
 use learning::{Ledger, dues_of};
 use std::alloc::AllocError;
 use transcript_model::Mode;
 
 /// What is said of a claim.
-#[derive(Clone, Copy, PartialEq, Eq, Debug)]
+#[derive(Clone, Copy, PartialEq, Eq)]
 pub enum Claim {
     /// It is true.
     True,

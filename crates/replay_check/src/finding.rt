@@ -2,7 +2,7 @@
 use crate::verdict::BreachKind;
 
 /// What is found of an entry or of an outcome.
-#[derive(Clone, Copy, PartialEq, Eq, Debug)]
+#[derive(Clone, Copy, PartialEq, Eq)]
 pub enum Finding {
     /// It may stand, and what it says is true.
     Holds,

@@ -21,7 +21,7 @@ mod right_answers;
 mod right_asks;
 mod standing;
 mod turns;
-pub mod verdict;
+mod verdict;
 
 pub use judging::replay;
 pub use verdict::{BreachKind, Verdict};

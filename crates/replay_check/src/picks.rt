@@ -3,6 +3,7 @@ ghost use Rattle.std.specs.Prelude.{◌≡◌, ◌+◌, ◌<◌, ◌↔◌, Some
 ghost use Rattle.replay_check.specs.Standings.{AreBounds};
 ghost use Rattle.replay_check.specs.Turns.{RunsPick};
 ghost use Rattle.replay_check.specs.Walks.{CanTake, IsEntryTaken};
+ghost use Rattle.task_model.specs.declared.limits.TheConstants.{LARGEST_COUNT};
 ghost use Rattle.transcript_model.specs.Turns.{Skeleton};
 ghost use Rattle.transcript_model.specs.declared.entry.Entry.TheVariants as entry;
 
@@ -32,7 +33,7 @@ impl Standing {
         requires bounds { AreBounds bounds.now }
         requires place { (s : Skeleton)
             × (slice_get self.old.course.kept.skeletons skeleton ≡ Some s)
-            × (s.picks < 4294967295) }
+            × (s.picks < LARGEST_COUNT) }
         requires left { length self.old.ledger.asked.items < bounds.now.calls }
         ensures { (s : Skeleton) → slice_get self.old.course.kept.skeletons skeleton ≡ Some s
             → OnOk result (RunsPick bounds.now from skeleton s self.old self.new) }

@@ -25,7 +25,7 @@ pub(crate) struct ShownPlan<'a> {
 }
 
 /// What is said of a plan.
-#[derive(Clone, Copy, PartialEq, Eq, Debug)]
+#[derive(Clone, Copy, PartialEq, Eq)]
 pub enum Planned {
     /// It is right.
     Right,

@@ -118,5 +118,5 @@ pub(crate) fn is_argument(field: &[u8], objects: Objects) -> bool
 pub(crate) fn copied(alloc: Global, field: &[u8]) -> Result<Name, AllocError>
     ensures { IfOk result (λ name. name ≡ field.now) }
 {
-    Ok(Name::new(Vec::from_slice(alloc, field)?))
+    Name::from_slice(alloc, field)
 }

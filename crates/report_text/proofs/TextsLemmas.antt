@@ -14,7 +14,10 @@ use Rattle.gen_lines.specs.Request.{stream_name}
 use Rattle.task_model.specs.declared.task.Task.{Task}
 use Rattle.transcript_model.specs.declared.head.Head.{Head}
 use Rattle.transcript_model.specs.declared.head.Pool.{Pool}
-use Rattle.report_text.specs.Texts.{Line, line, line_text, lines_text, fields_text, mode_word, pool_line, shown_pool, text_of_head, tuples_of}
+use Rattle.transcript_model.specs.declared.head.Mode.{Mode}
+use Rattle.transcript_model.specs.declared.head.PoolLine.{PoolLine}
+use Rattle.report_text.specs.Places.{limits_line}
+use Rattle.report_text.specs.Texts.{Line, line, line_text, lines_text, fields_text, head_lines, mode_word, pool_line, shown_pool, text_of_head, tuples_of}
 
 -- ---- members
 
@@ -93,9 +96,6 @@ line_third word first second third =
 abbrev pub first_line : ℕ → List ℕ → Line
 first_line version mode = line (codes "pddlstream") (decimal version ∷ mode ∷ [])
 
-abbrev pub limits_line : Head → Line
-limits_line head = line (codes "limits") (decimal head.calls ∷ decimal head.states ∷ decimal head.depth ∷ [])
-
 abbrev pub pool_lines : Task → List Pool → List Line
 pool_lines task pools = map (λ pool. pool_line (shown_pool task pool)) pools
 
@@ -106,15 +106,25 @@ pools_shown task pools =
     ∙ flat_map-map (λ shown. line_text (pool_line shown)) (shown_pool task) pools
     ∙ sym (flat_map-map line_text (λ pool. pool_line (shown_pool task pool)) pools)
 
+-- the first lines of a report: the version and the mode, the limits, and the pools
+pub shown_parts : (version : ℕ) (mode : Mode) (word : List ℕ) (calls states depth : ℕ) (pools : List PoolLine)
+    → word ≡ mode_word mode
+    → lines_text (head_lines version mode calls states depth pools)
+    ≡ (line_text (first_line version word) ++ line_text (limits_line calls states depth)) ++ lines_text (map pool_line pools)
+shown_parts version mode word calls states depth pools is =
+    sym (append_assoc (line_text (first_line version (mode_word mode))) (line_text (limits_line calls states depth))
+    (lines_text (map pool_line pools)))
+    ∙ ap (λ w. (line_text (first_line version w) ++ line_text (limits_line calls states depth))
+    ++ lines_text (map pool_line pools)) (sym is)
+
 pub head_parts : (task : Task) (head : Head) (mode : List ℕ) → mode ≡ mode_word head.mode
     → text_of_head task head
-    ≡ (line_text (first_line head.version mode) ++ line_text (limits_line head)) ++ lines_text (pool_lines task head.pools)
+    ≡ (line_text (first_line head.version mode) ++ line_text (limits_line head.calls head.states head.depth))
+    ++ lines_text (pool_lines task head.pools)
 head_parts task head mode is =
-    sym (append_assoc (line_text (first_line head.version (mode_word head.mode))) (line_text (limits_line head))
-    (lines_text (map pool_line (map (shown_pool task) head.pools))))
-    ∙ ap (λ word. (line_text (first_line head.version word) ++ line_text (limits_line head))
-    ++ lines_text (map pool_line (map (shown_pool task) head.pools))) (sym is)
-    ∙ ap (λ t. (line_text (first_line head.version mode) ++ line_text (limits_line head)) ++ t) (pools_shown task head.pools)
+    shown_parts head.version head.mode mode head.calls head.states head.depth (map (shown_pool task) head.pools) is
+    ∙ ap (λ t. (line_text (first_line head.version mode) ++ line_text (limits_line head.calls head.states head.depth)) ++ t)
+    (pools_shown task head.pools)
 
 -- the line of a pool up to its end
 pub pool_parts : (task : Task) (pool : Pool)

@@ -3,7 +3,7 @@ use Rattle.std.specs.Prelude.{◌≡◌, ℕ, ◌*◌, ◌^◌, ◌<◌, ◌≤�
 use Rattle.gen_lines.specs.Reply.{is_value}
 use Rattle.task_model.specs.Dreams.{placeholder}
 use Rattle.task_model.specs.Fit.{is_name}
-use Rattle.task_model.specs.declared.limits.TheConstants.{LARGEST_NUMBER}
+use Rattle.task_model.specs.declared.limits.TheConstants.{LARGEST_COUNT, LARGEST_NUMBER}
 use Rattle.transcript_model.specs.Names.{generated}
 use Rattle.transcript_model.specs.declared.entry.Call.{Call}
 use Rattle.transcript_model.specs.declared.entry.DreamUse.{DreamUse}
@@ -19,7 +19,7 @@ use Rattle.transcript_model.specs.declared.report.Report.{Report}
 
 -- a number of at most 32 bits
 abbrev pub IsNumber : ℕ → Type 0
-IsNumber n = n ≤ 4294967295
+IsNumber n = n ≤ LARGEST_COUNT
 
 -- a number of at most 8 bits
 abbrev pub IsSmall : ℕ → Type 0
@@ -105,6 +105,7 @@ pub record IsFormedPool (pool : PoolLine) : Type 0 where
   pub some : 0 < length pool.streams
   pub streams : All IsName pool.streams
 
+-- a report whose numbers and words have a report's forms
 pub record IsFormed (r : Report) : Type 0 where
   pub version : (r.version ≡ 1) ⊎ (r.version ≡ 2)
   pub calls : IsNumber r.calls

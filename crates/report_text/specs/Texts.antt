@@ -79,6 +79,7 @@ entry_lines entry.Reset = line (codes "reset") [] ∷ []
 entry_lines (entry.Pick number) = line (codes "pick") (decimal number ∷ []) ∷ []
 entry_lines (entry.Retire number) = line (codes "retire") (decimal number ∷ []) ∷ []
 
+-- the lines of an entry
 abbrev pub text_of_entry : Entry → List ℕ
 text_of_entry e = lines_text (entry_lines e)
 
@@ -103,6 +104,7 @@ outcome_lines version (outcome.Plan steps cost from) =
 outcome_lines version outcome.NoPlan = line (codes "no") (codes "plan" ∷ []) ∷ []
 outcome_lines version (outcome.Limit kind) = line (codes "limit") (limit_word kind ∷ []) ∷ []
 
+-- the lines of the outcome
 abbrev pub text_of_outcome : ℕ → Outcome → List ℕ
 text_of_outcome version o = lines_text (outcome_lines version o)
 
@@ -127,6 +129,7 @@ head_lines version mode calls states depth pools =
     line (codes "pddlstream") (decimal version ∷ mode_word mode ∷ [])
     ∷ line (codes "limits") (decimal calls ∷ decimal states ∷ decimal depth ∷ []) ∷ map pool_line pools
 
+-- the lines of the head
 abbrev pub text_of_head : Task → Head → List ℕ
 text_of_head task head =
     lines_text (head_lines head.version head.mode head.calls head.states head.depth (map (shown_pool task) head.pools))
@@ -147,3 +150,7 @@ abbrev pub text_of_report : Report → List ℕ
 text_of_report r =
     lines_text (head_lines r.version r.mode r.calls r.states r.depth r.pools) ++ flat_map text_of_entry r.entries
     ++ text_of_outcome r.version r.outcome ++ line_text done_line
+
+-- the report with another version, and all else as it is
+abbrev pub in_version : ℕ → Report → Report
+in_version version r = record r { version = version }

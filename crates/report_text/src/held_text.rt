@@ -1,14 +1,15 @@
 //! Texts of parts of a report, in memory.
 ghost use Rattle.std.specs.Prelude.{◌≡◌, ◌<◌, [], All, Some, length, IfOk, IsOk};
-ghost use Rattle.report_text.specs.Texts.{text_of_entry, text_of_head, text_of_outcome};
+ghost use Rattle.report_text.specs.Texts.{in_version, text_of_entry, text_of_head, text_of_outcome, text_of_report};
 
 use crate::write_entry::put_entry;
 use crate::write_head::put_head;
 use crate::write_outcome::put_outcome;
+use crate::write_report::put_report;
 use io_world::{FaultCount, Sink, SinkFault};
 use std::alloc::{AllocError, Global};
 use task_model::Task;
-use transcript_model::{Entry, Head, Outcome};
+use transcript_model::{Entry, Head, Outcome, Report};
 
 /// A text that grows by what is written to it. It fails only where memory is wanting.
 #[derive(Drop)]
@@ -86,5 +87,16 @@ pub fn outcome_text(alloc: Global, outcome: &Outcome, version: u8) -> Result<Vec
 {
     let mut text = HeldText::new(alloc);
     let written = put_outcome(&mut text, outcome, version);
+    text.whole(written)
+}
+
+/// The lines of a report in the latest version of reports, which is 2: a report of version 1 with
+/// the tuple of each origin, and a report of version 2 as it is. Fails only where memory is
+/// wanting.
+pub fn migrated(alloc: Global, report: &Report) -> Result<Vec<u8>, AllocError>
+    ensures { IfOk result (λ text. text.items ≡ text_of_report (in_version 2 report.now)) }
+{
+    let mut text = HeldText::new(alloc);
+    let written = put_report(&mut text, report, 2);
     text.whole(written)
 }

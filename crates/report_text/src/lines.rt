@@ -12,7 +12,7 @@ use task_model::Name;
 use transcript_model::Call;
 
 /// Writes these bytes.
-pub(crate) fn put<O: Sink>(out: &mut O, bytes: &[u8]) -> Result<(), SinkFault>
+pub fn put<O: Sink>(out: &mut O, bytes: &[u8]) -> Result<(), SinkFault>
     ensures told { Prints result (O.taken out.old) (O.taken out.new) bytes.now }
     ensures cause { HasCause Failed last_count (O.faults out.old) (O.faults out.new) result }
 {
@@ -20,7 +20,7 @@ pub(crate) fn put<O: Sink>(out: &mut O, bytes: &[u8]) -> Result<(), SinkFault>
 }
 
 /// Writes a space and a field.
-pub(crate) fn put_field<O: Sink>(out: &mut O, field: &[u8]) -> Result<(), SinkFault>
+pub fn put_field<O: Sink>(out: &mut O, field: &[u8]) -> Result<(), SinkFault>
     ensures told { Prints result (O.taken out.old) (O.taken out.new) (32 ∷ field.now) }
     ensures cause { HasCause Failed last_count (O.faults out.old) (O.faults out.new) result }
 {
@@ -29,7 +29,7 @@ pub(crate) fn put_field<O: Sink>(out: &mut O, field: &[u8]) -> Result<(), SinkFa
 }
 
 /// Writes a space and a number.
-pub(crate) fn put_number<O: Sink, N: Integer>(out: &mut O, number: N) -> Result<(), SinkFault>
+pub fn put_number<O: Sink, N: Integer>(out: &mut O, number: N) -> Result<(), SinkFault>
     ensures told { Prints result (O.taken out.old) (O.taken out.new) (32 ∷ N.text number) }
     ensures cause { HasCause Failed last_count (O.faults out.old) (O.faults out.new) result }
 {
@@ -60,11 +60,7 @@ pub(crate) fn put_call<O: Sink>(out: &mut O, call: &Call) -> Result<(), SinkFaul
 }
 
 /// Begins a line with a word and a number.
-pub(crate) fn put_begun<O: Sink, N: Integer>(
-    out: &mut O,
-    word: &[u8],
-    number: N,
-) -> Result<(), SinkFault>
+pub fn put_begun<O: Sink, N: Integer>(out: &mut O, word: &[u8], number: N) -> Result<(), SinkFault>
     ensures told { Prints result (O.taken out.old) (O.taken out.new)
         (word.now ++ 32 ∷ N.text number) }
     ensures cause { HasCause Failed last_count (O.faults out.old) (O.faults out.new) result }
@@ -88,7 +84,7 @@ pub(crate) fn put_numbered<O: Sink, N: Integer>(
 }
 
 /// Writes a line of a word and two numbers.
-pub(crate) fn put_pair<O: Sink, N: Integer>(
+pub fn put_pair<O: Sink, N: Integer>(
     out: &mut O,
     word: &[u8],
     first: N,
@@ -104,7 +100,7 @@ pub(crate) fn put_pair<O: Sink, N: Integer>(
 }
 
 /// Writes a line for each call, with this word first.
-pub(crate) fn put_calls<O: Sink>(out: &mut O, word: &[u8], calls: &[Call]) -> Result<(), SinkFault>
+pub fn put_calls<O: Sink>(out: &mut O, word: &[u8], calls: &[Call]) -> Result<(), SinkFault>
     ensures told { Prints result (O.taken out.old) (O.taken out.new)
         (lines_text (map (λ call. line word.now (call_fields call)) calls.now)) }
     ensures cause { HasCause Failed last_count (O.faults out.old) (O.faults out.new) result }

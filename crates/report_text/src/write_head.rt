@@ -26,12 +26,12 @@ pub fn put_head<O: Sink>(out: &mut O, task: &Task, head: &Head) -> Result<(), Si
     ensures cause { HasCause Failed last_count (O.faults out.old) (O.faults out.new) result }
 {
     put_first(out, head.version, mode_bytes(head.mode))?;
-    put_limits(out, head)?;
+    put_limits(out, head.calls, head.states, head.depth)?;
     put_pools(out, task, head.pools.as_slice())
 }
 
 /// Writes the version and the word of the mode.
-fn put_first<O: Sink>(out: &mut O, version: u8, mode: &[u8]) -> Result<(), SinkFault>
+pub(crate) fn put_first<O: Sink>(out: &mut O, version: u8, mode: &[u8]) -> Result<(), SinkFault>
     ensures told { Prints result (O.taken out.old) (O.taken out.new)
         (line_text (line (codes "pddlstream") (decimal version ∷ mode.now ∷ []))) }
     ensures cause { HasCause Failed last_count (O.faults out.old) (O.faults out.new) result }
@@ -42,15 +42,20 @@ fn put_first<O: Sink>(out: &mut O, version: u8, mode: &[u8]) -> Result<(), SinkF
 }
 
 /// Writes the limits.
-fn put_limits<O: Sink>(out: &mut O, head: &Head) -> Result<(), SinkFault>
+pub(crate) fn put_limits<O: Sink>(
+    out: &mut O,
+    calls: u32,
+    states: u32,
+    depth: u8,
+) -> Result<(), SinkFault>
     ensures told { Prints result (O.taken out.old) (O.taken out.new)
         (line_text (line (codes "limits")
-        (decimal head.now.calls ∷ decimal head.now.states ∷ decimal head.now.depth ∷ []))) }
+        (decimal calls ∷ decimal states ∷ decimal depth ∷ []))) }
     ensures cause { HasCause Failed last_count (O.faults out.old) (O.faults out.new) result }
 {
-    put_begun(out, b"limits", head.calls)?;
-    put_number(out, head.states)?;
-    put_number(out, head.depth)?;
+    put_begun(out, b"limits", calls)?;
+    put_number(out, states)?;
+    put_number(out, depth)?;
     put(out, b"\n")
 }
 
@@ -69,7 +74,7 @@ fn put_pools<O: Sink>(out: &mut O, task: &Task, pools: &[Pool]) -> Result<(), Si
 }
 
 /// The word of a mode.
-fn mode_bytes(mode: Mode) -> &'static [u8]
+pub(crate) fn mode_bytes(mode: Mode) -> &'static [u8]
     ensures { result.now ≡ mode_word mode }
 {
     match mode {

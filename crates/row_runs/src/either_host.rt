@@ -1,6 +1,6 @@
 //! The children of one of two hosts.
 ghost use Rattle.std.proofs.Common.{lit≤};
-ghost use Rattle.std.specs.Prelude.{◌≡◌, ℕ, None, false, if◌then◌else◌};
+ghost use Rattle.std.specs.Prelude.{◌≡◌, ℕ, ⊤, None, false, if◌then◌else◌};
 ghost use Rattle.io_world.specs.Faults.{last_count};
 
 use io_world::{FaultCount, Host, HostFault};
@@ -45,6 +45,14 @@ impl<A: Host, B: Host> Host for EitherHost<A, B> {
     ghost spells = { λ s child runs. tt };
 
     ghost high = { lit≤ tt };
+
+    ghost leads = { λ old new memory. ⊤ };
+
+    ghost stays = { λ s. tt };
+
+    ghost chains = { λ a b c m first second. tt };
+
+    ghost ends = { λ a b c m first second. tt };
 
     fn start(&mut self, child: u8, argv: &[String]) -> Result<(), HostFault> {
         let answer = if self.is_second {

@@ -104,6 +104,14 @@ impl<H: Host> Host for NotingHost<H> {
 
     ghost high = { H.high };
 
+    ghost leads = { λ old new memory. H.leads old.host new.host memory };
+
+    ghost stays = { λ s. H.stays s.host };
+
+    ghost chains = { λ a b c m first second. H.chains a.host b.host c.host m first second };
+
+    ghost ends = { λ a b c m first second. H.ends a.host b.host c.host m first second };
+
     fn start(&mut self, child: u8, argv: &[String]) -> Result<(), HostFault> {
         self.notes.push_start(child, argv);
         self.host.start(child, argv)

@@ -1,7 +1,8 @@
 -- Tokens at the front of bytes.
-use Rattle.std.proofs.Common.{◌≡◌, ℕ, ◌+◌, ◌<◌, ◌≤◌, Bool, true, false, cond, List, [], ◌∷◌, map, length, drop, take, get_or, refl, subst, sym, ◌∙◌, ap, arith}
+use Rattle.std.proofs.Common.{◌≡◌, ℕ, suc, ◌+◌, ◌<◌, ◌≤◌, Bool, true, false, cond, List, [], ◌∷◌, ◌++◌, map, length, drop, take, get_or, refl, subst, sym, ◌∙◌, ap, arith}
 use Rattle.std.specs.List.{take_while, prefix_len}
-use Rattle.std.proofs.lemmas.List.{length-map}
+use Rattle.std.proofs.Math.Seq.{drop-cons}
+use Rattle.std.proofs.lemmas.List.{append_assoc, length-map}
 use Rattle.std.proofs.lemmas.List.Folds.{length-prefix_len}
 use Rattle.std.proofs.lemmas.List.Sums.{take_while-cons, prefix_len-le-length}
 use Rattle.sexpr_text.specs.declared.class.Class.{Class}
@@ -32,6 +33,20 @@ folded_word-cons b bs v e =
     ∙ ap (λ w. map folded (cond w (b ∷ take_while (λ c. is_letter (class_of c)) bs) [])) e
     ∙ (elim v as (λ w. map folded (cond w (b ∷ take_while (λ c. is_letter (class_of c)) bs) []) ≡ cond w (folded b ∷ folded_word bs) [])
     [ true ↦ refl | false ↦ refl ])
+
+-- A letter behind others is the next one of their word.
+pub letter_next : (bs ls ms : List ℕ) (i : ℕ) (v : Bool) → i < length bs
+    → v ≡ is_letter (class_of (get_or bs i 0)) → v ≡ true
+    → folded_word bs ≡ ls ++ folded_word (drop i bs) → ms ≡ ls ++ folded (get_or bs i 0) ∷ []
+    → folded_word bs ≡ ms ++ folded_word (drop (i + 1) bs)
+letter_next bs ls ms i v within e letter so_far more =
+    let next : suc i ≡ i + 1 = omega arith in
+    so_far
+    ∙ ap (λ cs. ls ++ folded_word cs) (drop-cons bs i 0 within)
+    ∙ ap (λ k. ls ++ folded_word (get_or bs i 0 ∷ drop k bs)) next
+    ∙ ap (λ cs. ls ++ cs) (folded_word-cons (get_or bs i 0) (drop (i + 1) bs) true (sym e ∙ letter))
+    ∙ sym (append_assoc ls (folded (get_or bs i 0) ∷ []) (folded_word (drop (i + 1) bs)))
+    ∙ ap (λ cs. cs ++ folded_word (drop (i + 1) bs)) (sym more)
 
 shifted : (b x place : ℕ) (ls bs : List ℕ)
     → tokens false (place + 1 + length ls) (drop (length ls) bs) ≡ tokens false (place + length (x ∷ ls)) (drop (length (x ∷ ls)) (b ∷ bs))

@@ -34,6 +34,14 @@ pub fn class_of(byte: u8) -> Class
     }
 }
 
+/// Whether this byte belongs to a word, outside comments.
+#[tactic(auto, unfolding(crate::specs::Tokens::class_of))]
+pub fn is_letter(byte: u8) -> bool
+    ensures { result ≡ specs.is_letter (specs.class_of byte) }
+{
+    b'!' <= byte && byte <= b'~' && byte != b'(' && byte != b')' && byte != b';'
+}
+
 /// The byte, and in place of `A` to `Z` the letter in lower case.
 #[tactic(auto, unfolding(crate::specs::Tokens::folded))]
 pub fn folded(byte: u8) -> u8

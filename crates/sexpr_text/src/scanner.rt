@@ -4,8 +4,9 @@ ghost use Rattle.std.below.core.specs.declared.int.usize.TheConstants.{MAX};
 ghost use Rattle.sexpr_text.specs.Tokens.{Token, tokens, tokens_of};
 ghost use Rattle.sexpr_text.specs.Scanning.{IsAtToken, BeginsWith, TakesToken, folded_word};
 
-use crate::class::{Class, class_of, folded};
+use crate::class::{Class, class_of, folded, is_letter};
 use crate::text::Text;
+use smallvec::SmallVec;
 use std::alloc::{AllocError, Global};
 use std::marker::Model;
 
@@ -106,9 +107,9 @@ fn first_lexeme(alloc: Global, rest: &[u8]) -> Result<(Lexeme, usize), AllocErro
 {
     match class_of(rest[0]) {
         Class::Letter => {
-            let letters = first_word(alloc, rest)?;
-            let length = letters.len();
-            Ok((Lexeme::Word(Text::new(letters)), length))
+            let word = first_word(alloc, rest)?;
+            let length = word.bytes().len();
+            Ok((Lexeme::Word(word), length))
         }
         Class::Left => Ok((Lexeme::Left, 1)),
         Class::Right => Ok((Lexeme::Right, 1)),
@@ -117,11 +118,15 @@ fn first_lexeme(alloc: Global, rest: &[u8]) -> Result<(Lexeme, usize), AllocErro
 }
 
 /// The letters at the front of these bytes, in lower case.
-fn first_word(alloc: Global, rest: &[u8]) -> Result<Vec<u8>, AllocError>
-    ensures { IfOk result (λ letters. letters.items ≡ folded_word rest.now) }
+fn first_word(alloc: Global, rest: &[u8]) -> Result<Text, AllocError>
+    ensures { IfOk result (λ word. word ≡ folded_word rest.now) }
 {
-    rest.iter()
-        .take_while(|byte| class_of(**byte) == Class::Letter)
-        .map(|byte| folded(*byte))
-        .collect(alloc)
+    let mut letters = SmallVec::new(alloc);
+    for byte in rest {
+        if !is_letter(*byte) {
+            return Ok(Text::new(letters));
+        }
+        letters.push(folded(*byte))?;
+    }
+    Ok(Text::new(letters))
 }

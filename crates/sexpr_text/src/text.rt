@@ -1,12 +1,13 @@
 //! The letters of a word.
 ghost use Rattle.std.specs.Prelude.{◌≡◌, ℕ, List};
 
+use smallvec::SmallVec;
 use std::marker::Model;
 
-/// The letters of a word, which contracts see as a list of bytes.
+/// The letters of a word, which contracts see as a list of bytes. Up to 16 lie in the value itself.
 #[derive(Debug, Drop)]
 pub struct Text {
-    bytes: Vec<u8>,
+    bytes: SmallVec<u8, 16>,
 }
 
 impl Model for Text {
@@ -17,7 +18,7 @@ impl Model for Text {
 
 impl Text {
     /// The word of these letters. It takes no memory.
-    pub fn new(bytes: Vec<u8>) -> Text
+    pub fn new(bytes: SmallVec<u8, 16>) -> Text
         ensures { result ≡ bytes.items }
     {
         Text { bytes }
@@ -27,6 +28,6 @@ impl Text {
     pub fn bytes(&self) -> &[u8]
         ensures { result.now ≡ self.now }
     {
-        &self.bytes
+        self.bytes.as_slice()
     }
 }

@@ -8,9 +8,7 @@ ghost use Rattle.transcript_model.specs.declared.entry.Call.{Call as AnyCall};
 
 use crate::names::Named;
 use crate::naming::step_of;
-use formula_eval::Env;
-use formula_memo::holds_once;
-use plan_check::{StepFault, advance, initial};
+use plan_check::{StepFault, advance, initial, meets_goal};
 use std::alloc::{AllocError, Global};
 use task_model::{Look, State, Task};
 use transcript_model::Call;
@@ -60,8 +58,7 @@ impl Run {
         requires { IsFit task.now }
         ensures { IsTrue result ↔ IsGoal task.now (L.known look.now) self.now.state }
     {
-        let mut env = Env::new(&[]);
-        holds_once(task, look, &self.state, &task.problem.goal, &mut env)
+        meets_goal(task, look, &self.state)
     }
 
     /// Takes one more step, and answers whether it can be taken.

@@ -8,6 +8,7 @@ use Rattle.transcript_model.specs.Turns.{IsPicked, Skeleton}
 abbrev pub skeleton_of : stored.Skeleton → Skeleton
 skeleton_of s = record { entries = s.entries.items; real = s.real; picks = s.picks; retired = s.retired }
 
+-- the dreams that are kept, as the definition of turns has them
 abbrev pub skeletons_in : List stored.Skeleton → List Skeleton
 skeletons_in = map skeleton_of
 

@@ -3,6 +3,6 @@
 
 mod edits;
 mod rows;
-pub mod store;
+mod store;
 
 pub use store::StateStore;

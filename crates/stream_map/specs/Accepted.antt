@@ -23,6 +23,7 @@ pub record IsJson (bytes : List ℕ) (d : Data) : Type 0 where
   pub utf8 : IsUtf8 bytes
   pub value : read bytes ≡ Some d
 
+-- the pools that a map spells
 pub record AcceptedMap (task : Task) (bytes : List ℕ) (pools : List Pool) : Type 0 where
   pub data_of : Data
   pub json : IsJson bytes data_of

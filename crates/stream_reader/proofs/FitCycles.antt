@@ -15,7 +15,7 @@ use Rattle.form_reader.specs.Rows.{tail_of}
 use Rattle.name_tables.specs.Graphs.{HasWay}
 use Rattle.name_tables.specs.Graphs as graphs
 use Rattle.name_tables.specs.declared.vocabulary.Vocabulary.{Vocabulary}
-use Rattle.fit_check.specs.Edges.{streams_within}
+use Rattle.task_model.specs.Edges.{streams_within}
 use Rattle.stream_reader.specs.Cycles.{candidates_of, edges_from, edges_of, is_there, next_streams, next_one}
 use Rattle.name_tables.specs.Cycles.{CycleFaults, no_more, cyclic, free}
 use Rattle.stream_reader.specs.Streams.{item_streams, streams_of}

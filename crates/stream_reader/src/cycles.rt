@@ -5,12 +5,11 @@ ghost use Rattle.stream_reader.specs.Cycles as specs;
 ghost use Rattle.stream_reader.specs.Reading.{AnswersAcyclic};
 
 use crate::tables::kind_of;
-use fit_check::stream_leads;
 use form_reader::{Fault, InputKind, Keyed};
 use name_tables::{Candidate, check_cycles, next, number};
 use sexpr_text::{Front, Tree, front_of};
 use std::alloc::{AllocError, Global};
-use task_model::{Domain, Seq, Stream};
+use task_model::{Domain, Seq, Stream, stream_leads};
 
 /// Adds the number of the second stream if the first leads to it in one step.
 fn add_next(

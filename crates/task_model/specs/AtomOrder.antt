@@ -6,6 +6,7 @@ use Rattle.std.specs.Cmp.Lexicographic.{slice_cmp}
 use Rattle.std.specs.Coded.{Coded, code_by, coded×, coded_ℕ, coded_list}
 use Rattle.task_model.specs.declared.fact.Atom.{Atom}
 
+-- by predicate and then by arguments
 abbrev pub atom_cmp : Atom → Atom → Ordering
 atom_cmp a b = ordering_then (nat_cmp a.pred b.pred) (slice_cmp nat_cmp a.args b.args)
 

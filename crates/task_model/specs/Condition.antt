@@ -3,6 +3,7 @@ use Rattle.std.specs.Prelude.{ℕ, ◌+◌, List, [], ◌∷◌}
 use Rattle.task_model.specs.declared.condition.Term.{Term}
 
 mutual
+  -- an atom, an equation of terms, all of, any of, not, or some objects of given types
   pub data Condition : Type 0 where
     Atom : (pred : ℕ) (args : List Term) → Condition
     Equal : (first second : Term) → Condition
@@ -11,6 +12,7 @@ mutual
     Not : (part : Condition) → Condition
     Exists : (first : ℕ) (sorts : List ℕ) (body : Condition) → Condition
 
+  -- parts, one after another
   pub data Conditions : Type 0 where
     none : Conditions
     more : (part : Condition) (parts : Conditions) → Conditions

@@ -9,6 +9,7 @@ use Rattle.lemmas.specs.Lists.{AreAscending, numbers_from}
 use Rattle.task_model.specs.Plans.{IsValid, IsSolvable, IsReached, MoreThan}
 use Rattle.task_model.specs.Streams.{Note, IsDue, at_stream, instance_cmp, same_instance, certified_by, worth_by, is_reachable}
 use Rattle.task_model.specs.declared.fact.Fact.{Fact}
+use Rattle.task_model.specs.declared.limits.TheConstants.{MOST_SUPPOSED}
 use Rattle.task_model.specs.declared.stream.Instance.{Instance}
 use Rattle.task_model.specs.declared.task.GroundAction.{GroundAction}
 use Rattle.task_model.specs.declared.task.Task.{Task}
@@ -66,6 +67,7 @@ supposing task known list entries =
 
 -- ---- the list of entries
 
+-- the instances that entries suppose
 abbrev pub instances_of : List Entry → List Instance
 instances_of entries = map (λ (e : Entry). e.instance) entries
 
@@ -116,7 +118,7 @@ module _ (task : Task) (known : Known) (list : List Entry) where
   -- Some entries of the list, in its order, and a plan over what is known with them: each entry has
   -- support, and with any one left out the plan isn't valid.
   pub record IsDream (entries : List Entry) (steps : List GroundAction) : Type 0 where
-    pub few : length list ≤ 20000
+    pub few : length list ≤ MOST_SUPPOSED
     pub some : 0 < length entries
     pub places : List ℕ
     pub ascend : AreAscending nat_cmp places
@@ -132,4 +134,4 @@ module _ (task : Task) (known : Known) (list : List Entry) where
   abbrev pub HasNoDream : ℕ → Type 0
   HasNoDream most =
       (¬ (IsSolvable task (supposing task known list list)))
-      ⊎ ((20000 < length list) ⊎ MoreThan most (IsReached task (supposing task known list list)))
+      ⊎ ((MOST_SUPPOSED < length list) ⊎ MoreThan most (IsReached task (supposing task known list list)))

@@ -120,6 +120,7 @@ pricing = record {
 abbrev pub call : ℕ → Instance
 call input = record { stream = 0; inputs = input ∷ [] }
 
+-- each computed from the definitions
 pub record WorkedExamples : Type 0 where
   -- an atom that is both deleted and added is there afterwards
   pub kept : contains (effect_of flick [] empty) (record { pred = 0; args = [] }) ≡ true

@@ -23,7 +23,7 @@ use Rattle.task_model.specs.declared.domain.Sort as sorts
 use Rattle.task_model.specs.declared.fact.Fact.{Fact}
 use Rattle.task_model.specs.declared.fact.Kind.{Kind}
 use Rattle.task_model.specs.declared.fact.Kind.TheVariants.{Predicate, Sort}
-use Rattle.task_model.specs.declared.limits.TheConstants.{LARGEST_NUMBER}
+use Rattle.task_model.specs.declared.limits.TheConstants.{LARGEST_NUMBER, SLOTS}
 use Rattle.task_model.specs.declared.stream.Stream.{Stream}
 use Rattle.task_model.specs.declared.stream.Worth.{Worth}
 use Rattle.task_model.specs.declared.task.Task.{Task}
@@ -32,9 +32,11 @@ use Rattle.task_model.specs.Streams.{is_empty}
 
 -- ---- names and lists
 
+-- a letter in lower case
 abbrev pub is_letter : ℕ → Bool
 is_letter byte = nat_le 97 byte && nat_le byte 122
 
+-- a decimal digit
 abbrev pub is_digit : ℕ → Bool
 is_digit byte = nat_le 48 byte && nat_le byte 57
 
@@ -47,6 +49,7 @@ abbrev pub is_name : List ℕ → Bool
 is_name [] = false
 is_name (byte ∷ bytes) = is_letter byte && list_all is_name_byte bytes && nat_lt (length bytes) 255
 
+-- names, each once
 pub record AreNames (names : List (List ℕ)) : Type 0 where
   pub each : list_all is_name names ≡ true
   pub distinct : AreDistinct names
@@ -61,6 +64,7 @@ are_places size numbers = is_short numbers && list_all (λ n. nat_lt n size) num
 
 -- ---- terms and atoms, where `filled` are the slots with a value and `objects` how many objects there are
 
+-- an object of the task, or a slot that has a value
 abbrev pub is_fit_term : ℕ → List ℕ → Term → Bool
 is_fit_term objects filled (Slot n) = list_any (λ slot. slot == n) filled
 is_fit_term objects filled (Object o) = nat_lt o objects
@@ -73,14 +77,17 @@ has_arity signatures place n = is (slice_get signatures place)
     is (Some s) = s.arity == n
     is None = false
 
+-- of a predicate or function that is there, with its number of arguments
 abbrev pub is_fit_application : List Signature → ℕ → List ℕ → ℕ → List Term → Bool
 is_fit_application signatures objects filled place args =
     has_arity signatures place (length args) && list_all (is_fit_term objects filled) args
 
+-- an atom of a predicate that is there
 abbrev pub is_fit_pattern : Domain → ℕ → List ℕ → Pattern → Bool
 is_fit_pattern domain objects filled p =
     is_fit_application domain.predicates objects filled p.pred p.args
 
+-- each of them is
 abbrev pub are_fit_patterns : Domain → ℕ → List ℕ → List Pattern → Bool
 are_fit_patterns domain objects filled patterns =
     is_short patterns && list_all (is_fit_pattern domain objects filled) patterns
@@ -117,7 +124,7 @@ module _ (domain : Domain) (objects : ℕ) where
     is_sound (Any parts) filled = nat_le (count_of parts) 8388608 && are_sound parts filled
     is_sound (Not part) filled = is_sound part filled
     is_sound (Exists first sorts body) filled =
-        nat_le (first + length sorts) 16 && are_places (length domain.sorts) sorts
+        nat_le (first + length sorts) SLOTS && are_places (length domain.sorts) sorts
         && is_sound body (numbers_from first (length sorts) ++ filled)
 
     pub are_sound : Conditions → List ℕ → Bool
@@ -148,11 +155,13 @@ abbrev pub depends : Domain → ℕ → ℕ → Bool
 depends domain head pred =
     list_any (λ (d : rule.Derived). (d.pred == head) && mentions pred d.body) domain.derived
 
+-- a derived predicate's
 abbrev pub is_derived_role : Role → Bool
 is_derived_role Derived = true
 is_derived_role Static = false
 is_derived_role Fluent = false
 
+-- a static predicate's
 abbrev pub is_static_role : Role → Bool
 is_static_role Static = true
 is_static_role Fluent = false
@@ -160,6 +169,7 @@ is_static_role Derived = false
 
 -- ---- domains
 
+-- the types, the first of which is `object`
 pub record AreFitSorts (all : List sorts.Sort) : Type 0 where
   pub names : AreNames (map (λ (s : sorts.Sort). s.name) all)
   pub first : slice_get all 0 ≡ Some (record { name = codes "object"; above = [] })
@@ -171,25 +181,29 @@ pub record AreFitSorts (all : List sorts.Sort) : Type 0 where
       → list_any (λ n. n == a) s.above ≡ true
       → slice_get all a ≡ Some t → list_any (λ n. n == b) t.above ≡ true → list_any (λ n. n == b) s.above ≡ true
 
+-- the signatures of predicates or functions
 pub record AreFitSignatures (all : List Signature) : Type 0 where
   pub names : AreNames (map (λ (s : Signature). s.name) all)
   pub arities : list_all (λ (s : Signature). nat_le s.arity 8) all ≡ true
   pub short : is_short all ≡ true
 
+-- the declared objects
 pub record AreFitObjects (domain : Domain) (all : List Declared) : Type 0 where
   pub names : AreNames (map (λ (d : Declared). d.name) all)
   pub types : list_all (λ (d : Declared). are_places (length domain.sorts) d.sorts) all ≡ true
   pub short : is_short all ≡ true
 
--- the parameters of an action or an item: at most 16, of types that are there
+-- the parameters of an action or an item: few, of types that are there
 abbrev pub are_fit_params : Domain → List ℕ → Bool
-are_fit_params domain params = nat_le (length params) 16 && are_places (length domain.sorts) params
+are_fit_params domain params = nat_le (length params) SLOTS && are_places (length domain.sorts) params
 
+-- an item that defines a derived predicate
 abbrev pub is_fit_item : Domain → rule.Derived → Bool
 is_fit_item domain d =
     are_fit_params domain d.params && has_arity domain.predicates d.pred (length d.params)
     && is_fit_condition domain (length domain.constants) (numbers_from 0 (length d.params)) d.body
 
+-- a term of an action's cost
 abbrev pub is_fit_cost : Domain → List ℕ → CostTerm → Bool
 is_fit_cost domain filled (Number n) = nat_le n LARGEST_NUMBER
 is_fit_cost domain filled (Value func args) =
@@ -205,12 +219,14 @@ are_fit_effects domain filled patterns =
 abbrev pub param_slots : Action → List ℕ
 param_slots a = numbers_from 0 (length a.params)
 
+-- an action
 abbrev pub is_fit_action : Domain → Action → Bool
 is_fit_action domain a =
     are_fit_params domain a.params && is_fit_condition domain (length domain.constants) (param_slots a) a.condition
     && are_fit_effects domain (param_slots a) a.adds && are_fit_effects domain (param_slots a) a.deletes
     && nat_le (length a.costs) 262144 && list_all (is_fit_cost domain (param_slots a)) a.costs
 
+-- a domain as the reader gives it
 pub record IsFitDomain (domain : Domain) : Type 0 where
   pub name : is_name domain.name ≡ true
   pub types : AreFitSorts domain.sorts
@@ -226,20 +242,24 @@ pub record IsFitDomain (domain : Domain) : Type 0 where
 
 -- ---- problems
 
+-- whether a fact is an atom of a predicate
 abbrev pub is_predicate : Kind → Bool
 is_predicate Predicate = true
 is_predicate Sort = false
 
+-- a fact of `:init`
 abbrev pub is_fit_fact : Domain → ℕ → Fact → Bool
 is_fit_fact domain objects fact =
     is_predicate fact.kind && has_arity domain.predicates fact.name (length fact.args)
     && list_all (λ o. nat_lt o objects) fact.args && not (is_derived_role (role_of domain fact.name))
 
+-- a value of `:init`
 abbrev pub is_fit_value : Domain → ℕ → Valued → Bool
 is_fit_value domain objects v =
     has_arity domain.functions v.func (length v.args) && list_all (λ o. nat_lt o objects) v.args
     && nat_le v.value LARGEST_NUMBER
 
+-- a problem as the reader gives it
 pub record IsFitProblem (task : Task) : Type 0 where
   pub name : is_name task.problem.name ≡ true
   pub objects : AreFitObjects task.domain task.problem.objects
@@ -257,6 +277,7 @@ pub record IsFitProblem (task : Task) : Type 0 where
 
 -- ---- streams
 
+-- atoms of static predicates
 abbrev pub are_static_patterns : Domain → List Pattern → Bool
 are_static_patterns domain patterns =
     list_all (λ (p : Pattern). is_static_role (role_of domain p.pred)) patterns
@@ -272,6 +293,7 @@ is_fit_worth domain s = of s.worth
         && is_fit_application domain.functions (length domain.constants)
         (numbers_from 0 (length s.inputs)) worth.func worth.args
 
+-- a stream as the reader gives it
 abbrev pub is_fit_stream : Domain → Stream → Bool
 is_fit_stream domain s =
     nat_le (length s.inputs) 8 && nat_le (length s.outputs) 8 && are_places (length domain.sorts) s.inputs
@@ -286,11 +308,15 @@ is_fit_stream domain s =
 abbrev pub is_used : ℕ → List Pattern → Bool
 is_used slot patterns = list_any (λ (p : Pattern). list_any (is_slot slot) p.args) patterns
 
+-- what has the second type has the first
+abbrev pub is_type_of : Domain → ℕ → ℕ → Bool
+is_type_of domain input output = list_any (λ s. s == input) (sorts_with domain output)
+
 -- an output of this type may be an input of that type; the type `object` counts only for an input in no domain atom
 abbrev pub is_fed : Domain → Stream → ℕ → List ℕ → ℕ → Bool
 is_fed domain second slot [] output = false
 is_fed domain second slot (input ∷ inputs) output =
-    (list_any (λ s. s == input) (sorts_with domain output) && (not (input == 0) || not (is_used slot second.domain)))
+    (is_type_of domain input output && (not (input == 0) || not (is_used slot second.domain)))
     || is_fed domain second (slot + 1) inputs output
 
 -- what the first certifies may be what the second asks for
@@ -299,6 +325,7 @@ stream_leads domain first second =
     list_any (λ (p : Pattern). list_any (λ (q : Pattern). q.pred == p.pred) second.domain) first.certified
     || list_any (is_fed domain second 0 second.inputs) first.outputs
 
+-- a stream certifies an atom of a predicate that the other's domain has
 abbrev pub leads : Task → ℕ → ℕ → Bool
 leads task from to = of (slice_get task.streams from) (slice_get task.streams to)
   where
@@ -307,6 +334,7 @@ leads task from to = of (slice_get task.streams from) (slice_get task.streams to
     of None second = false
     of (Some first) None = false
 
+-- streams, none of which leads to itself
 pub record AreFitStreams (task : Task) : Type 0 where
   pub names : AreNames (map (λ (s : Stream). s.name) task.streams)
   pub each : (is_short task.streams && list_all (is_fit_stream task.domain) task.streams) ≡ true
@@ -314,6 +342,7 @@ pub record AreFitStreams (task : Task) : Type 0 where
 
 -- ---- tasks
 
+-- a task as the readers give it
 pub record IsFit (task : Task) : Type 0 where
   pub domain : IsFitDomain task.domain
   pub problem : IsFitProblem task

@@ -34,6 +34,7 @@ declared_types domain object (d ∷ ds) =
 
 -- ---- atoms in `:init`
 
+-- whether a member of `:init` is a fact: a type fact, or an atom of a static predicate
 abbrev pub is_static_by : Kind → Role → Bool
 is_static_by Predicate Static = true
 is_static_by Predicate Fluent = false
@@ -44,6 +45,7 @@ is_static_by Sort role = false
 abbrev pub is_static : Domain → Fact → Bool
 is_static domain fact = is_static_by fact.kind (role_of domain fact.name)
 
+-- an atom of `:init` that is one of the state
 abbrev pub fluent_by : Fact → Kind → Role → Option Atom
 fluent_by fact Predicate Fluent = Some (record { pred = fact.name; args = fact.args })
 fluent_by fact Predicate Static = None
@@ -62,9 +64,11 @@ initial_facts task =
     with_facts []
     (declared_types task.domain 0 task.problem.objects ++ filter (is_static task.domain) task.problem.init)
 
+-- the names of the declared objects, in the task's order
 abbrev pub declared_names : Task → List (List ℕ)
 declared_names task = map (λ (d : Declared). d.name) task.problem.objects
 
+-- what is known before any stream has answered
 abbrev pub initial_known : Task → Known
 initial_known task =
     record { names = declared_names task; facts = initial_facts task; values = with_values [] task.problem.values }

@@ -35,9 +35,11 @@ same_kind Sort Sort = true
 same_kind Predicate Sort = false
 same_kind Sort Predicate = false
 
+-- whether two facts are one
 abbrev pub same_fact : Fact → Fact → Bool
 same_fact a b = same_kind a.kind b.kind && (a.name == b.name) && same_numbers a.args b.args
 
+-- whether a list has the fact
 abbrev pub is_fact : List Fact → Fact → Bool
 is_fact facts fact = list_any (same_fact fact) facts
 
@@ -85,6 +87,7 @@ matches_of facts pred place object = filter (is_match pred place object) facts
 
 -- ---- values of functions
 
+-- whether two values are one: of one term, and as great
 abbrev pub same_value : Valued → Valued → Bool
 same_value a b = (a.func == b.func) && same_numbers a.args b.args && (a.value == b.value)
 
@@ -118,6 +121,7 @@ value_of values func args =
 
 -- ---- what holds of all that is known
 
+-- the object has a name here
 abbrev pub IsIn : List (List ℕ) → ℕ → Type 0
 IsIn names object = IsSome (slice_get names object)
 

@@ -83,6 +83,7 @@ pub record MoreThanFewer (task : Task) (known : Known) (fewer most : ℕ) : Type
   pub within : (steps : ℕ) → MoreThan most (IsReachedWithin task known steps)
       → MoreThan fewer (IsReachedWithin task known steps)
 
+-- Where more than some number of states are reached, more than any smaller number are.
 abbrev pub MoreIsMoreThanFewer : Type 0
 MoreIsMoreThanFewer =
     (task : Task) (known : Known) (fewer most : ℕ) → fewer ≤ most → MoreThanFewer task known fewer most
@@ -99,5 +100,6 @@ pub record AddsFacts (facts more after : List Fact) : Type 0 where
   pub members : (fact : Fact) → Contains after fact ↔ Contains (facts ++ more) fact
   pub distinct : AreDistinct facts → AreDistinct after
 
+-- Facts that are put behind others, each once, stay distinct, and nothing else is there.
 abbrev pub FactsStayDistinct : Type 0
 FactsStayDistinct = (facts more : List Fact) → AddsFacts facts more (with_facts facts more)

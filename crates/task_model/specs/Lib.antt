@@ -1,6 +1,7 @@
 pub mod AtomOrder
 pub mod Condition
 pub mod Dreams
+pub mod Edges
 pub mod Examples
 pub mod Falls
 pub mod Fit

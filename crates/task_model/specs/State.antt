@@ -7,6 +7,7 @@ use Rattle.task_model.specs.AtomOrder.{atom_cmp, atom_code}
 use Rattle.task_model.specs.declared.fact.Atom.{Atom}
 use base.Stored.{coded_unit}
 
+-- a finite set of atoms
 abbrev pub Atoms : Type 0
 Atoms = map.FinMap atom_cmp (Unit {0})
 
@@ -36,10 +37,12 @@ abbrev pub from_list : List Atom → Atoms
 from_list [] = empty
 from_list (atom ∷ atoms) = insert (from_list atoms) atom
 
+-- the state without these atoms
 abbrev pub without_atoms : Atoms → List Atom → Atoms
 without_atoms state [] = state
 without_atoms state (atom ∷ more) = without_atoms (remove state atom) more
 
+-- the state with these atoms
 abbrev pub with_atoms : Atoms → List Atom → Atoms
 with_atoms state [] = state
 with_atoms state (atom ∷ more) = with_atoms (insert state atom) more

@@ -25,6 +25,7 @@ effect_of action args state =
 
 -- ---- what it costs
 
+-- a number, or the value of a function at these objects, where it has one
 abbrev pub term_cost : Known → List ℕ → CostTerm → Option ℕ
 term_cost known slots (Number n) = Some n
 term_cost known slots (Value func terms) = value_of known.values func (objects_at slots terms)

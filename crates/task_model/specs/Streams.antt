@@ -51,13 +51,16 @@ pub data Note : Type 0 where
   Yielded : (instance : Instance) → Note
   Ended : (instance : Instance) → Note
 
+-- whether two instances are one
 abbrev pub same_instance : Instance → Instance → Bool
 same_instance a b = (a.stream == b.stream) && same_numbers a.inputs b.inputs
 
+-- whether the note says that the instance yielded
 abbrev pub is_yield_of : Instance → Note → Bool
 is_yield_of instance (Yielded other) = same_instance instance other
 is_yield_of instance (Ended other) = false
 
+-- whether the note says that the instance ended
 abbrev pub is_end_of : Instance → Note → Bool
 is_end_of instance (Ended other) = same_instance instance other
 is_end_of instance (Yielded other) = false
@@ -112,6 +115,7 @@ pub record IsDue (task : Task) (known : Known) (notes : List Note) (instance : I
   pub reachable : is_reachable stream known instance ≡ true
   pub unfinished : is_finished stream notes instance ≡ false
 
+-- the name of an object, by its place
 abbrev pub name_at : List (List ℕ) → ℕ → List ℕ
 name_at names object = unwrap_or (slice_get names object) []
 

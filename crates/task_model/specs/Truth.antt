@@ -11,12 +11,13 @@ use Rattle.task_model.specs.declared.domain.Domain.{Domain}
 use Rattle.task_model.specs.declared.domain.Derived.{Derived}
 use Rattle.task_model.specs.declared.domain.Role.{Role}
 use Rattle.task_model.specs.declared.domain.Role.TheVariants as role
+use Rattle.task_model.specs.declared.limits.TheConstants.{SLOTS}
 
 -- ---- slots
 
--- sixteen slots, the first of which have these objects; the others have the object 0
+-- all slots, the first of which have these objects; the others have the object 0
 abbrev pub slots_of : List ℕ → List ℕ
-slots_of args = args ++ replicate (16 - length args) 0
+slots_of args = args ++ replicate (SLOTS - length args) 0
 
 -- the term is this slot
 abbrev pub is_slot : ℕ → Term → Bool
@@ -28,6 +29,7 @@ abbrev pub object_of : List ℕ → Term → ℕ
 object_of slots (Slot n) = slice_index slots n
 object_of slots (Object o) = o
 
+-- the objects that the terms stand for: that in a slot, or the one that is named
 abbrev pub objects_at : List ℕ → List Term → List ℕ
 objects_at slots terms = map (object_of slots) terms
 
@@ -59,6 +61,7 @@ module _ (atom : ℕ → List ℕ → Bool) (objects : ℕ → List ℕ) where
 
 -- ---- types
 
+-- the object has the type: that is a known fact
 abbrev pub has_type : Known → ℕ → ℕ → Bool
 has_type known object sort = is_fact known.facts (type_fact sort object)
 
@@ -86,6 +89,8 @@ module _ (domain : Domain) (known : Known) (state : Atoms) where
       && truth (λ p objects. atom_as depth (role_of domain p) p objects)
       (objects_of known.facts) d.body (slots_of args)) domain.derived
 
+  -- A static atom is a known fact, a fluent's atom is in the state, and a derived atom follows by an item, resting on
+  -- derived atoms of less depth.
   abbrev pub atom_at : ℕ → ℕ → List ℕ → Bool
   atom_at depth pred args = atom_as depth (role_of domain pred) pred args
 

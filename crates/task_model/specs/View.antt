@@ -7,6 +7,7 @@ use Rattle.task_model.specs.Condition as plain
 use Rattle.task_model.specs.declared.condition.FormulaNode.{FormulaNode}
 use Rattle.task_model.specs.declared.condition.FormulaNode.TheVariants as node
 
+-- what contracts see of a formula of the program
 abbrev pub view_of : FormulaNode → Condition
 view_of (node.Atom pred args) = plain.Atom pred args
 view_of (node.Equal s t) = plain.Equal s t

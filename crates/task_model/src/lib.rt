@@ -2,26 +2,28 @@
 //! over what is known, and in `specs/` the meaning of conditions, steps, plans, streams and dreams.
 #![tactic(auto)]
 
-pub mod condition;
-pub mod domain;
-pub mod fact;
+mod condition;
+mod domain;
+mod fact;
+mod feeding;
 pub mod laws;
-pub mod limits;
-pub mod look;
-pub mod name;
-pub mod number;
-pub mod object;
-pub mod seq;
-pub mod state;
-pub mod stream;
-pub mod task;
+mod limits;
+mod look;
+mod name;
+mod number;
+mod object;
+mod seq;
+mod state;
+mod stream;
+mod task;
 
 pub use condition::{Formula, FormulaNode, Term};
 pub use domain::{Action, CostTerm, Declared, Derived, Domain, Pattern, Role, Signature, Sort};
 pub use fact::{Atom, Fact, Kind};
-pub use limits::{LARGEST_NUMBER, MOST_DUE, MOST_STATES};
+pub use feeding::{has_atom_of, stream_leads, supertypes};
+pub use limits::{LARGEST_COUNT, LARGEST_NUMBER, MOST_DUE, MOST_STATES, MOST_SUPPOSED, SLOTS};
 pub use look::Look;
-pub use name::Name;
+pub use name::{Name, is_name};
 pub use number::{are_digits, is_number, number_of};
 pub use object::{Obj, Objects, Row, Wide};
 pub use seq::Seq;

@@ -1,9 +1,14 @@
 //! Names.
 ghost use Rattle.std.specs.Prelude.{◌≡◌, IfOk, length, ◌≤◌, IsOk};
+ghost use Rattle.std.specs.List.{list_all};
+ghost use Rattle.task_model.specs.Fit as fit;
 
 use smallvec::SmallVec;
 use std::alloc::{AllocError, Global};
 use std::marker::Model;
+
+/// The longest name of a task, in bytes.
+const NAME_BYTES: usize = 255;
 
 /// A name, which contracts see as a list of bytes. The bytes are free: a task's names are words in
 /// lower case, and a generated object's name is `#` and the value that a generator gave.
@@ -55,4 +60,35 @@ impl Name {
     {
         Name::from_slice(alloc, self.bytes())
     }
+}
+
+/// Whether the word is a name in lower case: a letter and then letters, digits, `-` and `_`, at
+/// most 255 bytes (PDDL 2.1; the length is this project's).
+pub fn is_name(word: &[u8]) -> bool
+    ensures { result ≡ fit.is_name word.now }
+{
+    match word {
+        [] => false,
+        [first, rest @ ..] => {
+            is_letter(*first) && are_name_bytes(rest) && rest.len() < NAME_BYTES
+        }
+    }
+}
+
+fn are_name_bytes(bytes: &[u8]) -> bool
+    ensures { result ≡ list_all fit.is_name_byte bytes.now }
+{
+    bytes.iter().all(|b| is_name_byte(*b))
+}
+
+fn is_name_byte(byte: u8) -> bool
+    ensures { result ≡ fit.is_name_byte byte }
+{
+    is_letter(byte) || byte.is_ascii_digit() || byte == b'-' || byte == b'_'
+}
+
+fn is_letter(byte: u8) -> bool
+    ensures { result ≡ fit.is_letter byte }
+{
+    byte.is_ascii_lowercase()
 }

@@ -18,6 +18,7 @@ input_word input.Number = codes "number"
 input_word input.TooMany = codes "too-many"
 input_word input.StreamCycle = codes "stream-cycle"
 
+-- how a kind of fault is printed
 abbrev pub kind_word : FaultKind → List ℕ
 kind_word BadByte = codes "bad-byte"
 kind_word Unclosed = codes "unclosed"

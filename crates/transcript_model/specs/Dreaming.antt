@@ -7,6 +7,7 @@ use Rattle.task_model.specs.Dreams.{AreSupposed, IsDream, HasNoDream, supposing,
 use Rattle.task_model.specs.Known.{Known}
 use Rattle.lemmas.specs.Lists.{AreDistinct}
 use Rattle.task_model.specs.Streams.{Note, IsDue, is_due, same_instance}
+use Rattle.task_model.specs.declared.limits.TheConstants.{MOST_SUPPOSED}
 use Rattle.task_model.specs.declared.stream.Instance.{Instance}
 use Rattle.task_model.specs.declared.task.GroundAction.{GroundAction}
 use Rattle.task_model.specs.declared.task.Task.{Task}
@@ -45,7 +46,7 @@ module _ (limits : Limits) (task : Task) (before : List Entry) (tried : List Ins
   -- no plan rests on what is supposed after the transcript
   abbrev pub HasNoDreamAfter : Type 0
   HasNoDreamAfter =
-      MoreAreSupposed 20000 task (known_of task before) (notes_of task before) tried limits.depth
+      MoreAreSupposed MOST_SUPPOSED task (known_of task before) (notes_of task before) tried limits.depth
       ⊎ ((list : List dreams.Entry) × AreSupposedAfter list
       × HasNoDream task (known_of task before) list limits.states)
 

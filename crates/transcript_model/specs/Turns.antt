@@ -222,6 +222,7 @@ pub data Stage : Type 0 where
 -- whose last batch is cut is the last, and the last may stop at any entry.
 module _ {Carried : Type 0} (limits : Limits)
     (task : Task) (turn : Carried → List Entry → List Entry → Carried → Bool → Type 0) where
+  -- the turns of the mode, one after another
   pub data AreTurns : Carried → List Entry → List Entry → Stage → Type 0 where
     none_left : {carried : Carried} {before : List Entry} → AreTurns carried before [] between
     whole : {carried : Carried} (next : Carried) {before now rest : List Entry} {stage : Stage}

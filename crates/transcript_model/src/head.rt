@@ -40,6 +40,8 @@ pub struct Head {
     pub states: u32,
     /// How deep entries are supposed, 1 to 8.
     pub depth: u8,
+    /// Whether the cheapest plan is asked for; incremental mode alone.
+    pub optimal: bool,
     /// The pools.
     pub pools: Seq<Pool>,
 }

@@ -4,7 +4,7 @@
 mod entry;
 mod head;
 pub mod laws;
-pub mod limits;
+mod limits;
 mod naming;
 mod outcome;
 mod report;

@@ -104,6 +104,25 @@ fn a_start_plays_the_script_from_its_beginning(rt: HostRuntime) -> Result<(), Fa
 }
 
 #[test]
+fn each_start_plays_the_next_script(rt: HostRuntime) -> Result<(), Fail> {
+    let alloc = rt.alloc();
+    let argv = words(alloc)?;
+    let first = script(alloc, b"end\n", &[])?;
+    let second = script(alloc, b"yield left\n", &[])?;
+    let scripts = vec![in alloc; vec![in alloc; first, second]?]?;
+    let mut host = ScriptHost::again(alloc, scripts, Vec::new(alloc));
+    begin(&rt, &mut host, 0, &argv);
+    hear(&rt, &mut host, 0, b"end\n");
+    assert_eq!(rt; host.stop(0), Ok(()));
+    begin(&rt, &mut host, 0, &argv);
+    hear(&rt, &mut host, 0, b"yield left\n");
+    assert_eq!(rt; host.stop(0), Ok(()));
+    assert_eq!(rt; host.start(0, &argv), Err(HostFault::Failed));
+    assert_eq!(rt; host.faults(), 1);
+    Ok(())
+}
+
+#[test]
 fn a_child_without_a_script_does_not_start(rt: HostRuntime) -> Result<(), Fail> {
     let alloc = rt.alloc();
     let argv = words(alloc)?;

@@ -22,8 +22,8 @@ returns-then-meets_goal g c =
     subst (λ ss. IsMet scene.task.now known true scene.limit ss tree.links.items) (sym c.in_ok-tree.ensures.states)
     (subst (IsMet scene.task.now known true scene.limit (initial_state scene.task.now ∷ [])) (sym c.in_ok-tree.ensures.links) met)
 
-pub loop-from-init : goal.loop-from-init
-loop-from-init g c =
+pub turns-init : goal.turns-init
+turns-init g c =
     let scene = c.args.scene.now in
     let known = g.L.Look.known scene.look.now in
     let tree = c.in_ok-tree.tree in
@@ -37,14 +37,14 @@ loop-from-init g c =
 pub expand-requires-clause-frontier : goal.expand-requires-clause-frontier
 expand-requires-clause-frontier g c =
     let scene = c.args.scene.now in
-    let before = c.loop-from.frontier in
+    let before = c.turns.frontier in
     frontier_permuted scene.task.now (g.L.Look.known scene.look.now) scene.limit before.tree.store before.tree.links.items
     (heap_items before.queue) (in_heap c.in-Some.field-0.0 ∷ heap_items c.pop.new.self) c.in-Some.ensures.permutation
-    c.loop-from.invariant
+    c.turns.invariant
 
-pub returns : goal.returns
-returns g c =
+pub returns-in_default : goal.returns-in_default
+returns-in_default g c =
     let scene = c.args.scene.now in
-    let last = c.loop-from.frontier in
+    let last = c.turns.frontier in
     frontier_closed scene.task.now (g.L.Look.known scene.look.now) scene.limit last.tree.store last.tree.links.items
-    (heap_items last.queue) (omega (arith, c.in_default.ensures.none, last.queue.data.ok.0)) c.loop-from.invariant
+    (heap_items last.queue) (omega (arith, c.in_default.ensures.none, last.queue.data.ok.0)) c.turns.invariant

@@ -35,7 +35,7 @@ few_args task known before after step cost fit is =
 
 pub cost-requires-clause-action : goal.cost-requires-clause-action
 cost-requires-clause-action g c =
-    let domain = c.args.scene.now.task.now.domain in
+    let domain = c.args.task.now.domain in
     let step = c.args.step.now in
     let is = c.requires.can.2 in
     let found =
@@ -45,15 +45,15 @@ cost-requires-clause-action g c =
 
 pub cost-requires-clause-few : goal.cost-requires-clause-few
 cost-requires-clause-few g c =
-    let known = g.L.Look.known c.args.scene.now.look.now in
+    let known = g.L.Look.known c.args.look.now in
     subst (λ xs. length xs ≤ 16) (sym c.as_slice-args.ensures)
-    (few_args c.args.scene.now.task.now known c.args.state.now c.requires.can.0 c.args.step.now c.requires.can.1 c.requires.fit.domain
+    (few_args c.args.task.now known c.args.state.now c.requires.can.0 c.args.step.now c.requires.can.1 c.requires.fit.domain
     c.requires.can.2)
 
 pub unreachable-requires : goal.unreachable-requires
 unreachable-requires g c =
-    let task = c.args.scene.now.task.now in
-    let known = g.L.Look.known c.args.scene.now.look.now in
+    let task = c.args.task.now in
+    let known = g.L.Look.known c.args.look.now in
     let step = c.args.step.now in
     let is = c.requires.can.2 in
     let found =
@@ -64,9 +64,9 @@ unreachable-requires g c =
 
 pub changes_of-requires-clause-few : goal.changes_of-requires-clause-few
 changes_of-requires-clause-few g c =
-    let known = g.L.Look.known c.args.scene.now.look.now in
+    let known = g.L.Look.known c.args.look.now in
     subst (λ xs. length xs ≤ 16) (sym c.as_slice-args.ensures)
-    (few_args c.args.scene.now.task.now known c.args.state.now c.requires.can.0 c.args.step.now c.requires.can.1 c.requires.fit.domain
+    (few_args c.args.task.now known c.args.state.now c.requires.can.0 c.args.step.now c.requires.can.1 c.requires.fit.domain
     c.requires.can.2)
 
 readable : (task : Task) (known : Known) (before after : Atoms) (step : GroundAction) (cost : ℕ) (listed : List Action) (found : Action)
@@ -79,20 +79,20 @@ readable task known before after step cost listed found fit is same at =
 
 pub changes_of-requires-clause-adds : goal.changes_of-requires-clause-adds
 changes_of-requires-clause-adds g c =
-    let known = g.L.Look.known c.args.scene.now.look.now in
-    (readable c.args.scene.now.task.now known c.args.state.now c.requires.can.0 c.args.step.now c.requires.can.1 c.as_slice.result.now
+    let known = g.L.Look.known c.args.look.now in
+    (readable c.args.task.now known c.args.state.now c.requires.can.0 c.args.step.now c.requires.can.1 c.as_slice.result.now
     c.index-as_slice-step.result c.requires.fit.domain c.requires.can.2 c.as_slice.ensures c.index-as_slice-step.is).adds
 
 pub changes_of-requires-clause-deletes : goal.changes_of-requires-clause-deletes
 changes_of-requires-clause-deletes g c =
-    let known = g.L.Look.known c.args.scene.now.look.now in
-    (readable c.args.scene.now.task.now known c.args.state.now c.requires.can.0 c.args.step.now c.requires.can.1 c.as_slice.result.now
+    let known = g.L.Look.known c.args.look.now in
+    (readable c.args.task.now known c.args.state.now c.requires.can.0 c.args.step.now c.requires.can.1 c.as_slice.result.now
     c.index-as_slice-step.result c.requires.fit.domain c.requires.can.2 c.as_slice.ensures c.index-as_slice-step.is).deletes
 
 pub returns-clause-step : goal.returns-clause-step
 returns-clause-step g c =
-    let task = c.args.scene.now.task.now in
-    let known = g.L.Look.known c.args.scene.now.look.now in
+    let task = c.args.task.now in
+    let known = g.L.Look.known c.args.look.now in
     let step = c.args.step.now in
     let is = c.requires.can.2 in
     let found =
@@ -107,6 +107,6 @@ returns-clause-step g c =
           sym (λ i. cost_of task known (found i) (c.as_slice-args.ensures i))
           ∙ sym c.cost.ensures.value ∙ c.in-Some.is;
       leads =
-          c.in_ok-changes.ensures c.args.state.now
+          c.in_ok-changes.ensures.effect c.args.state.now
           ∙ (λ i. effect_of (found i) (c.as_slice-args.ensures i) c.args.state.now);
     }

@@ -1,6 +1,6 @@
 use Rattle.std.proofs.Common.{subst}
 use Rattle.dream_check.proofs.NoneLemmas.{decided_by, open_below, past_states}
-use Rattle.dream_check.specs.Judged.{IsSolvableWithin}
+use Rattle.best_first.specs.Answer.{IsSolvableWithin}
 use Rattle.dream_check.proofs.none.judge_list.Goals as goal
 
 pub returns-in-Some : goal.returns-in-Some

@@ -16,6 +16,7 @@ loop-filled-preserved g c =
       spoken = hears_more _ _ _ _ _ _ _ more before.spoken c.in-Ok.ensures.spoken;
       log = given_more _ _ _ _ _ _ _ _ _ more (quiet _ _ _ _ before.above before.kept (sym c.has_line.ensures ∙ c.if-not-has_line.true))
           before.log c.in-Ok.ensures.log;
+      leads = g.met.H.Host.chains _ _ _ _ before.leads c.in-Ok.ensures.leads;
       later = omega (arith, c.in-Ok.ensures.cause.later);
     }
 

@@ -1,4 +1,4 @@
-use Rattle.std.proofs.Common.{◌≡◌, ◌-◌, ◌≤◌, length, take, drop}
+use Rattle.std.proofs.Common.{◌≡◌, ◌-◌, ◌≤◌, false, length, take, drop}
 use Rattle.io_world.specs.Talks.{Same, Hears, LogsGiven}
 use Rattle.io_world.proofs.conversation.hear_line.Given as goal
 
@@ -11,6 +11,7 @@ invariant-loop-filled g l = record {
   spoken : Hears l.child (drop l.held (take l.filled l.room)) (g.H.Host.spoken l.initial.host) (g.H.Host.spoken l.host);
   log : LogsGiven l.child (take l.held l.initial.room) (drop l.held (take l.filled l.room))
       (g.H.Host.log l.initial.host) (g.H.Host.log l.host);
+  leads : g.H.Host.leads l.initial.host l.host false;
   later : g.H.Host.faults l.initial.host ≤ g.H.Host.faults l.host;
 }
 

@@ -10,5 +10,6 @@ loop-done-preserved g c = record {
   spoken = writes_more _ _ _ _ _ _ _ (piece_more _ _ _) c.loop-done.invariant.spoken c.in_ok-done.ensures.spoken;
   log = taken_more _ _ _ _ _ _ _ _ (piece_more _ _ _) c.in_ok-done.ensures.count.0 c.in_ok-done.ensures.count.1 c.loop-done.invariant.log
       c.in_ok-done.ensures.log;
+  leads = g.met.H.Host.chains _ _ _ _ c.loop-done.invariant.leads c.in_ok-done.ensures.leads;
   later = omega (arith, c.in_ok-done.ensures.cause.later);
 }

@@ -1,6 +1,6 @@
 use Rattle.std.proofs.Common.{◌∙◌, sym, subst}
 use Rattle.std.proofs.lemmas.Bool.{false≢true}
-use Rattle.dream_check.specs.Judged.{IsSolvableWithin}
+use Rattle.best_first.specs.Answer.{IsSolvableWithin}
 use Rattle.transcript_model.specs.declared.outcome.Outcome.TheVariants as outcome
 use Rattle.replay_check.proofs.ClaimsLemmas.{no_plan_open, no_plan_said}
 use Rattle.replay_check.specs.Claims.{IsJudged}

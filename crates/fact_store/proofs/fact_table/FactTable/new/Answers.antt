@@ -5,8 +5,8 @@ use Rattle.fact_store.proofs.fact_table.FactTable.new.Goals as goal
 
 pub invariant_of-result : goal.invariant_of-result
 invariant_of-result c = record {
-  objects = c.new-2.ensures Objects c.new.result.keys;
-  atoms = c.new-3.ensures Atoms c.new.result.keys;
-  atoms_at = subst (CoverPlaces c.new.result.keys)
+  objects = c.new-2.ensures Objects c.with_hasher.result.keys;
+  atoms = c.new-3.ensures Atoms c.with_hasher.result.keys;
+  atoms_at = subst (CoverPlaces c.with_hasher.result.keys)
       (sym c.new-4.ensures.items) (λ place table at. let none : None ≡ Some table = at in absurd (cc));
 }

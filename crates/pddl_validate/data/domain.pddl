@@ -1,0 +1,13 @@
+; blocks with a hand, each put by one move
+(define (domain blocks)
+  (:requirements :typing :negative-preconditions :action-costs)
+  (:types block)
+  (:predicates (on ?x ?y - block) (table ?x - block) (held ?x - block) (empty) (clear ?x - block))
+  (:functions (total-cost) (weight ?x - block))
+  (:derived (clear ?x - block) (and (not (held ?x)) (not (exists (?y - block) (on ?y ?x)))))
+  (:action lift :parameters (?x - block)
+    :precondition (and (empty) (table ?x) (clear ?x))
+    :effect (and (held ?x) (not (table ?x)) (not (empty)) (increase (total-cost) (weight ?x))))
+  (:action stack :parameters (?x ?y - block)
+    :precondition (and (held ?x) (clear ?y))
+    :effect (and (on ?x ?y) (empty) (not (held ?x)) (increase (total-cost) 1))))

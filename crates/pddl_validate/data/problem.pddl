@@ -1,0 +1,5 @@
+(define (problem three) (:domain blocks)
+  (:objects a b c - block)
+  (:init (table a) (table b) (table c) (empty) (= (weight a) 2) (= (weight b) 3) (= (total-cost) 0))
+  (:goal (and (on a b) (on b c)))
+  (:metric minimize (total-cost)))

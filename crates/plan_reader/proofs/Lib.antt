@@ -1,0 +1,4 @@
+pub mod ClaimsLemmas
+pub mod LinesLemmas
+pub mod PlansLemmas
+pub mod StepsLemmas

@@ -1,0 +1,88 @@
+-- The step that a line spells.
+use Rattle.std.specs.Prelude.{◌≡◌, ℕ, List, [], ◌∷◌, ◌++◌, Option, Some, None, Result, Ok, Err, if◌then◌else◌, ⊤}
+use Rattle.form_reader.specs.declared.fault.InputKind.TheVariants as input
+use Rattle.sexpr_text.specs.Reading.{reading}
+use Rattle.sexpr_text.specs.Trees.{Trees, nothing, word, list}
+use Rattle.sexpr_text.specs.declared.fault.TextFault.{TextFault}
+use Rattle.sexpr_text.specs.declared.fault.TextFault.TheVariants as text
+use Rattle.task_reader.specs.declared.refusal.FaultKind.{FaultKind}
+use Rattle.task_reader.specs.declared.refusal.FaultKind.TheVariants.{BadByte, Unclosed, Extra, TooDeep, Input}
+use Rattle.transcript_model.specs.declared.entry.Call.{Call}
+use Rattle.plan_reader.specs.Lines.{is_idle, step_bytes}
+use Rattle.plan_reader.specs.declared.fault.LineFault.{LineFault}
+use Rattle.plan_reader.specs.declared.fault.LineFault.TheVariants.{Wrong, Memory}
+
+-- ---- answers
+
+-- What failed so fails by the definition too. Want of memory says nothing.
+abbrev pub Fails : {Y : Type 0} → LineFault → Result Y FaultKind → Type 0
+Fails (Wrong kind) read = read ≡ Err kind
+Fails Memory read = ⊤
+
+-- what was answered is what the definition gives
+abbrev pub Gives : {X Y : Type 0} → (X → Y) → Result X LineFault → Result Y FaultKind → Type 0
+Gives view (Ok x) read = read ≡ Ok (view x)
+Gives view (Err fault) read = Fails fault read
+
+-- ---- steps
+
+-- words, and then those that were read
+abbrev pub behind_words : List (List ℕ) → Result (List (List ℕ)) FaultKind → Result (List (List ℕ)) FaultKind
+behind_words words (Ok more) = Ok (words ++ more)
+behind_words words (Err kind) = Err kind
+
+-- the words of a row of nothing else
+abbrev pub words_in : Trees → Result (List (List ℕ)) FaultKind
+words_in nothing = Ok []
+words_in (word text place rest) = behind_words (text ∷ []) (words_in rest)
+words_in (list items place rest) = Err (Input input.Shape)
+
+-- a step of this action, with the words behind its name
+abbrev pub call_with : List ℕ → Result (List (List ℕ)) FaultKind → Result Call FaultKind
+call_with name (Ok args) = Ok (record { name = name; args = args })
+call_with name (Err kind) = Err kind
+
+-- the step in a list: the name of an action, and those of objects
+abbrev pub call_in : Trees → Result Call FaultKind
+call_in (word name place rest) = call_with name (words_in rest)
+call_in nothing = Err (Input input.Shape)
+call_in (list items place rest) = Err (Input input.Shape)
+
+-- the step that a tree is
+abbrev pub call_of : Trees → Result Call FaultKind
+call_of (list items place rest) = call_in items
+call_of nothing = Err (Input input.Shape)
+call_of (word text place rest) = Err (Input input.Shape)
+
+-- the kind of a fault; no bytes are refused for the last
+abbrev pub kind_of : TextFault → FaultKind
+kind_of (text.BadByte place) = BadByte
+kind_of (text.Unclosed place) = Unclosed
+kind_of (text.Extra place) = Extra
+kind_of (text.TooDeep place) = TooDeep
+kind_of text.Memory = Input input.Shape
+
+-- a line whose step has this fault is told so
+abbrev pub IsFaultFor : TextFault → LineFault → Type 0
+IsFaultFor text.Memory fault = fault ≡ Memory
+IsFaultFor why fault = fault ≡ Wrong (kind_of why)
+
+-- the step that was read as a tree
+abbrev pub call_read : Result Trees TextFault → Result Call FaultKind
+call_read (Ok tree) = call_of tree
+call_read (Err fault) = Err (kind_of fault)
+
+-- the step that the bytes spell, or the kind of their fault
+abbrev pub call_spelled : List ℕ → Result Call FaultKind
+call_spelled bytes = call_read (reading bytes)
+
+-- ---- lines
+
+-- a step is said
+abbrev pub one_said : Result Call FaultKind → Result (Option Call) FaultKind
+one_said (Ok call) = Ok (Some call)
+one_said (Err kind) = Err kind
+
+-- what a line says: nothing, a step, or what is no step
+abbrev pub said_by : List ℕ → Result (Option Call) FaultKind
+said_by line = if is_idle line then Ok None else one_said (call_spelled (step_bytes line))

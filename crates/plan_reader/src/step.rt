@@ -1,0 +1,94 @@
+//! The step that a line spells.
+ghost use Rattle.std.specs.Prelude.{◌≡◌};
+ghost use Rattle.sexpr_text.specs.Trees.{tree, trees};
+ghost use Rattle.plan_reader.specs.Steps as specs;
+ghost use Rattle.plan_reader.specs.Steps.{Fails, Gives};
+
+use crate::fault::LineFault;
+use crate::line::{is_idle, step_bytes};
+use form_reader::InputKind;
+use sexpr_text::{Front, TextFault, Tree, alone, front_of, read_tree};
+use std::alloc::Global;
+use task_model::{Name, Seq};
+use task_reader::FaultKind;
+use transcript_model::Call;
+
+/// A word or a list that may not stand there, or one that is missing.
+const MISSHAPED: LineFault = LineFault::Wrong(FaultKind::Input(InputKind::Shape));
+
+/// The words of a row of nothing else.
+fn words_in(alloc: Global, items: &[Tree]) -> Result<Vec<Name>, LineFault>
+    ensures { Gives (λ words. words.items) result (specs.words_in (trees items.now)) }
+{
+    let mut words = Vec::new(alloc);
+    let mut left = items;
+    'words: loop {
+        match front_of(left) {
+            Front::End => return Ok(words),
+            Front::Word { text, rest, .. } => {
+                words.push(Name::from_slice(alloc, text)?)?;
+                left = rest;
+            }
+            Front::List { .. } => return Err(MISSHAPED),
+        }
+    }
+}
+
+/// The step in a list: the name of an action, and those of objects.
+fn call_in(alloc: Global, items: &[Tree]) -> Result<Call, LineFault>
+    ensures { Gives (λ call. call) result (specs.call_in (trees items.now)) }
+{
+    let Front::Word { text, rest, .. } = front_of(items) else {
+        return Err(MISSHAPED);
+    };
+    let name = Name::from_slice(alloc, text)?;
+    let args = words_in(alloc, rest)?;
+    Ok(Call {
+        name,
+        args: Seq::from_vec(args),
+    })
+}
+
+/// The step that a tree is.
+fn call_of(alloc: Global, whole: &Tree) -> Result<Call, LineFault>
+    ensures { Gives (λ call. call) result (specs.call_of (tree whole.now)) }
+{
+    match alone(whole) {
+        Front::List { items, .. } => call_in(alloc, items),
+        Front::End | Front::Word { .. } => Err(MISSHAPED),
+    }
+}
+
+/// The fault of a line whose step has this one.
+fn line_fault(fault: TextFault) -> LineFault
+    ensures { specs.IsFaultFor fault result }
+{
+    match fault {
+        TextFault::BadByte(_) => LineFault::Wrong(FaultKind::BadByte),
+        TextFault::Unclosed(_) => LineFault::Wrong(FaultKind::Unclosed),
+        TextFault::Extra(_) => LineFault::Wrong(FaultKind::Extra),
+        TextFault::TooDeep(_) => LineFault::Wrong(FaultKind::TooDeep),
+        TextFault::Memory => LineFault::Memory,
+    }
+}
+
+/// The step that the bytes spell.
+fn call_spelled(alloc: Global, bytes: &[u8]) -> Result<Call, LineFault>
+    ensures { Gives (λ call. call) result (specs.call_spelled bytes.now) }
+{
+    match read_tree(alloc, bytes) {
+        Ok(tree) => call_of(alloc, &tree),
+        Err(fault) => Err(line_fault(fault)),
+    }
+}
+
+/// What a line says: nothing, or a step.
+pub(crate) fn said_by(alloc: Global, line: &[u8]) -> Result<Option<Call>, LineFault>
+    ensures { Gives (λ said. said) result (specs.said_by line.now) }
+{
+    if is_idle(line) {
+        return Ok(None);
+    }
+    let call = call_spelled(alloc, step_bytes(line))?;
+    Ok(Some(call))
+}

@@ -1,0 +1,131 @@
+//! What guides a search for a plan.
+ghost use Rattle.std.specs.Prelude.{◌≡◌, IfOk};
+ghost use Rattle.task_model.specs.Fit.{IsFit};
+ghost use Rattle.relaxed_task.specs.Room.{HasRoom};
+
+use crate::lists::number;
+use crate::plan::RelaxedSteps;
+use crate::seen::Seen;
+use crate::task::{Ahead, MOST_ROWS, RelaxedTask};
+use grounder::Candidates;
+use std::alloc::{AllocError, Global};
+use task_model::{Atom, GroundAction, Look, State, Task};
+
+/// What is said of a state.
+#[derive(Clone, Copy, PartialEq, Eq, Debug)]
+pub enum Sight {
+    /// Nothing can be said.
+    Unknown,
+    /// The goal is out of reach.
+    Hopeless,
+    /// So many steps are left, and whether the state is new.
+    Left { steps: u32, is_new: bool },
+}
+
+/// Relaxed plans of a task, and which states are new. It takes all its room when it is made.
+#[derive(Drop)]
+pub struct Guide {
+    relaxed: RelaxedTask,
+    /// The arguments of each action's steps, in their order.
+    candidates: Candidates,
+    /// Which place among all steps the first of each action has.
+    firsts: Vec<u32>,
+    plan: RelaxedSteps,
+    seen: Seen,
+    /// Whether a relaxed plan stands.
+    has_plan: bool,
+}
+
+impl Guide {
+    /// The guide for the task over what is known, with the room of a `RelaxedTask`. Fails only where
+    /// memory is wanting.
+    pub fn new<L: Look>(alloc: Global, task: &Task, look: &L) -> Result<Guide, AllocError>
+        requires { IsFit task.now }
+        ensures { IfOk result (λ guide. HasRoom guide.relaxed) }
+    {
+        let candidates = Candidates::new(alloc, task, look, MOST_ROWS)?;
+        let relaxed = RelaxedTask::with_candidates(alloc, task, look, &candidates)?;
+        Guide::over(alloc, relaxed, candidates)
+    }
+
+    /// The guide over a relaxed task. Fails only where memory is wanting.
+    fn over(
+        alloc: Global,
+        relaxed: RelaxedTask,
+        candidates: Candidates,
+    ) -> Result<Guide, AllocError>
+        ensures { IfOk result (λ guide. guide.relaxed ≡ relaxed) }
+    {
+        let firsts = firsts_of(alloc, &candidates)?;
+        let costs = relaxed.costs();
+        let plan = RelaxedSteps::new(alloc, costs.rule_count(), costs.fact_count())?;
+        let seen = Seen::new(alloc, relaxed.atom_count(), costs.rule_count())?;
+        Ok(Guide {
+            relaxed,
+            candidates,
+            firsts,
+            plan,
+            seen,
+            has_plan: false,
+        })
+    }
+
+    /// Looks from the state for a relaxed plan, which stands until the next look, and says how many
+    /// steps it has.
+    pub fn look(&mut self, state: &State) -> Sight {
+        self.plan.clear();
+        self.has_plan = false;
+        match self.relaxed.look_from(state) {
+            Ahead::Here => Sight::Unknown,
+            Ahead::Never => Sight::Hopeless,
+            Ahead::Goal { goal, .. } => {
+                let steps = self.plan.find(self.relaxed.costs(), goal);
+                let is_new = self.seen.put(steps, self.relaxed.held());
+                self.has_plan = true;
+                Sight::Left { steps, is_new }
+            }
+        }
+    }
+
+    /// The fluent atoms that are reached where deletes are ignored and of conditions the atoms at the
+    /// top count alone, or None where there was no room to find them. Fails only where memory is
+    /// wanting.
+    pub fn reached(&self, alloc: Global) -> Result<Option<Vec<Atom>>, AllocError> {
+        let Some(reached) = self.relaxed.all_reached() else {
+            return Ok(None);
+        };
+        let mut atoms = Vec::new(alloc);
+        for atom in reached.atoms() {
+            atoms.push(atom.copy()?)?;
+        }
+        Ok(Some(atoms))
+    }
+
+    /// Whether a step is worth taking early from the state that was looked at last: one of its
+    /// relaxed plan that can be taken at once, or any where there is no such plan.
+    pub fn wants(&self, step: &GroundAction) -> bool {
+        !self.has_plan || self.rule_of(step).is_some_and(|rule| self.plan.wants(rule))
+    }
+
+    /// The rule of the step, if it has one.
+    fn rule_of(&self, step: &GroundAction) -> Option<u32> {
+        let action = step.action as usize;
+        let first = self.firsts.get(action).copied()?;
+        let rows = self.candidates.actions.as_slice().get(action)?.as_ref()?;
+        let row = rows.as_slice().binary_search(&step.args).ok()?;
+        self.relaxed.rule((first as usize).saturating_add(row))
+    }
+}
+
+/// Which place among all steps the first of each action has. Fails only where memory is wanting.
+fn firsts_of(alloc: Global, candidates: &Candidates) -> Result<Vec<u32>, AllocError> {
+    let mut firsts = Vec::new(alloc);
+    let mut steps: usize = 0;
+    for rows in candidates.actions.as_slice() {
+        firsts.push(number(steps))?;
+        if let Some(rows) = rows {
+            steps = steps.saturating_add(rows.len());
+        }
+    }
+    Ok(firsts)
+}

@@ -1,0 +1,75 @@
+-- How a run ends that comes to an outcome.
+use Rattle.std.proofs.Common.{◌≡◌, ◌⊎◌, ℕ, List, refl, sym, ◌∙◌, subst, Option, Some, inl, inr}
+use Rattle.io_world.specs.FileMap.{FileMap}
+use Rattle.task_model.specs.Initial.{initial_known}
+use Rattle.task_model.specs.Known.{Known}
+use Rattle.task_model.specs.declared.task.Task.{Task}
+use Rattle.transcript_model.specs.declared.entry.Call.{Call}
+use Rattle.validate_app.specs.Files.{FilesSeen}
+use Rattle.validate_app.specs.Inputs.{IsPlanOf, IsTaskOf, StopsAt}
+use Rattle.validate_app.specs.Verdicts.{IsVerdict}
+use Rattle.validate_app.specs.Words.{ValidateWords, words_of}
+use Rattle.validate_app.specs.declared.verdict.Verdict.{Verdict}
+use Rattle.validate_app.specs.Outcomes.{Ends, HasStopped, IsJudged, IsOutcome, Tells}
+use Rattle.validate_app.specs.Told.{status_of, text_of}
+use Rattle.validate_app.specs.declared.outcome.Outcome.{Outcome}
+use Rattle.validate_app.specs.declared.outcome.Outcome.TheVariants.{Judged, Stopped}
+use Rattle.validate_app.specs.declared.status.Status.{Status}
+use Rattle.validate_app.specs.declared.status.Status.TheVariants.{WriteFault}
+use Rattle.validate_app.specs.declared.stop.Stop.{Stop}
+use Rattle.validate_app.specs.declared.stop.Stop.TheVariants as stop
+use Rattle.validate_app.specs.declared.verdict.Verdict.TheVariants as verdict
+
+-- its text was told
+pub ends_told : (words : List (List ℕ)) (files : FilesSeen) (before after : Option (List ℕ)) (end : Status) (o : Outcome)
+    → IsOutcome words files o → (text : List ℕ) → text ≡ text_of o → (status : Status) → status ≡ status_of o
+    → Tells text status before after end → Ends words files before after end
+ends_told words files before after end o cause text is status so told = record {
+  outcome = o;
+  cause = cause;
+  told = subst (λ s. Tells (text_of o) s before after end) so (subst (λ t. Tells t status before after end) is told);
+}
+
+-- no outcome is a fault of the sink
+no_fault : (o : Outcome) → status_of o ≡ WriteFault → ⊥
+no_fault (Judged (verdict.Valid cost) claimed) e = absurd (cc)
+no_fault (Judged (verdict.Step number why) claimed) e = absurd (cc)
+no_fault (Judged (verdict.Goal part) claimed) e = absurd (cc)
+no_fault (Stopped stop.Usage) e = absurd (cc)
+no_fault (Stopped (stop.Refused which kind place)) e = absurd (cc)
+no_fault (Stopped (stop.Failed which)) e = absurd (cc)
+no_fault (Stopped (stop.TooLong which)) e = absurd (cc)
+no_fault (Stopped stop.Memory) e = absurd (cc)
+
+-- so a fault of the sink has its cause there
+pub sink_failed : {Cause : Type 0} (o : Outcome) (status end : Status) → status ≡ status_of o
+    → (end ≡ status) ⊎ Cause → end ≡ WriteFault
+    → Cause
+sink_failed o status end so (inl same) fault = absurd (no_fault o (sym so ∙ sym same ∙ fault))
+sink_failed o status end so (inr cause) fault = cause
+
+-- ---- words
+
+-- why there is no verdict for words with these paths
+pub has_stopped : (words : List (List ℕ)) (files : FilesSeen) (w : ValidateWords) → words_of words ≡ Some w → (why : Stop)
+    → StopsAt files w why → HasStopped words files why
+has_stopped words files w meant stop.Usage n = absurd n
+has_stopped words files w meant (stop.Refused which kind place) n = (w, meant, n)
+has_stopped words files w meant (stop.Failed which) n = (w, meant, n)
+has_stopped words files w meant (stop.TooLong which) n = (w, meant, n)
+has_stopped words files w meant stop.Memory n = tt
+
+-- ---- verdicts
+
+-- what is said over what is known at first is said of the files
+pub is_judged : (told : Option FileMap) (w : ValidateWords) (task : Task) → IsTaskOf told w task
+    → (later : Option FileMap) → later ≡ told → (calls : List Call) (claimed : Option ℕ) → IsPlanOf later w calls claimed → (known : Known)
+    → known ≡ initial_known task → (slice : List Call) → slice ≡ calls → (v : Verdict) → IsVerdict task known slice v
+    → IsJudged told w v claimed
+is_judged told w task spelled later same calls claimed plan known first slice is v said = record {
+  task = task;
+  spelled = spelled;
+  calls = calls;
+  plan = subst (λ t. IsPlanOf t w calls claimed) same plan;
+  said = subst (λ k. IsVerdict task k calls v) first (subst (λ cs. IsVerdict task known cs v) is said);
+}

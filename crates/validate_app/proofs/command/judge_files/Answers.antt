@@ -1,0 +1,25 @@
+use Rattle.std.proofs.Common.{sym, subst}
+use Rattle.validate_app.proofs.InputsLemmas.{stops_since}
+use Rattle.validate_app.proofs.OutcomesLemmas.{is_judged}
+use Rattle.validate_app.specs.Held.{held}
+use Rattle.validate_app.specs.Inputs.{IsTaskOf}
+use Rattle.validate_app.proofs.command.judge_files.Goals as goal
+
+pub read_plan-requires : goal.read_plan-requires
+read_plan-requires g c =
+    record {
+      task = subst (λ told. IsTaskOf told (held c.args.paths.now) c.in-Ok.task) (sym c.read_task.ensures.same)
+          c.in-Ok.ensures.task;
+    }
+
+pub returns-in-Err-read_plan-clause-stop : goal.returns-in-Err-read_plan-clause-stop
+returns-in-Err-read_plan-clause-stop g c =
+    stops_since _ _ _ _ c.read_task.ensures.later _ _ c.read_task.ensures.same c.in-Err-read_plan.stop
+    c.in-Err-read_plan.ensures.stop
+
+pub returns-in-Ok-judge-clause-said : goal.returns-in-Ok-judge-clause-said
+returns-in-Ok-judge-clause-said g c =
+    is_judged _ (held c.args.paths.now) c.in-Ok.task c.in-Ok.ensures.task _ c.read_task.ensures.same
+    c.in-Ok-read_plan.plan.calls.items c.in-Ok-read_plan.plan.claimed c.in-Ok-read_plan.ensures.plan
+    c.in-Ok-new.facts.known c.in-Ok-new.ensures
+    c.as_slice.result.now c.as_slice.ensures.value c.in-Ok-judge.verdict c.in-Ok-judge.ensures

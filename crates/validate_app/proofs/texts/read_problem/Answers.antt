@@ -1,0 +1,29 @@
+use Rattle.std.proofs.Common.{subst, sym}
+use Rattle.task_reader.specs.Fitness.{IsShort}
+use Rattle.task_reader.specs.Texts.{SpellsProblem}
+use Rattle.validate_app.proofs.InputsLemmas.{problem_refused, stops_there}
+use Rattle.validate_app.specs.declared.stop.FileRole.TheVariants.{Problem}
+use Rattle.validate_app.proofs.texts.read_problem.Goals as goal
+
+pub returns-in-Err-clause-stop : goal.returns-in-Err-clause-stop
+returns-in-Err-clause-stop g c =
+    stops_there _ _ Problem (c.args.domain.now, c.requires.domain) c.in-Err.stop c.in-Err.ensures.stop
+
+pub returns-clause-stop : goal.returns-clause-stop
+returns-clause-stop g c =
+    problem_refused _ _ c.args.domain.now c.requires.domain c.in-Ok.bytes.items c.in-Ok.ensures.bytes c.as_slice.result.now
+    c.as_slice.ensures.value c.in-Err-problem_in.refusal c.in-Err-problem_in.ensures.refused _ c.stop_of.ensures
+
+pub returns-in-Ok-problem_in-clause-problem : goal.returns-in-Ok-problem_in-clause-problem
+returns-in-Ok-problem_in-clause-problem g c = record {
+  bytes = c.in-Ok.bytes.items;
+  has = c.in-Ok.ensures.bytes;
+  so = subst (λ text. SpellsProblem c.args.domain.now text c.in-Ok-problem_in.problem) c.as_slice.ensures.value
+      c.in-Ok-problem_in.ensures.read;
+}
+
+pub returns-in-Ok-problem_in-clause-fit : goal.returns-in-Ok-problem_in-clause-fit
+returns-in-Ok-problem_in-clause-fit g c =
+    c.in-Ok-problem_in.ensures.fit
+    (record { bytes = c.requires.domain.bytes; short = c.requires.domain.has.short; spelled = c.requires.domain.so })
+    (subst IsShort (sym c.as_slice.ensures.value) c.in-Ok.ensures.bytes.short)

@@ -1,0 +1,10 @@
+pub mod Codes
+pub mod Files
+pub mod Held
+pub mod Inputs
+pub mod Outcomes
+pub mod Parts
+pub mod Steps
+pub mod Told
+pub mod Verdicts
+pub mod Words

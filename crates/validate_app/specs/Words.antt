@@ -1,0 +1,33 @@
+-- What words mean.
+use Rattle.std.specs.Prelude.{ℕ, List, Option, Some, codes}
+use Rattle.clap.specs.Words.{App, Row, Text, first_of, new_app, with_rule}
+use Rattle.command_line.specs.Apps.{positional}
+use Rattle.command_line.specs.Words.{given, read_by}
+
+-- the paths of a domain, a problem and a plan
+pub record ValidateWords : Type 0 where
+  pub domain : Text
+  pub problem : Text
+  pub plan : Text
+
+-- pddl_validate DOMAIN PROBLEM PLAN
+unfoldable pub validate_app : App
+validate_app =
+    with_rule (with_rule (with_rule (new_app (codes "pddl_validate")) (positional (codes "domain")))
+    (positional (codes "problem"))) (positional (codes "plan"))
+
+-- the paths in the rows that clap makes of the words
+abbrev pub words_in : List Row → Option ValidateWords
+words_in rows =
+    given (first_of (codes "domain") rows) (λ domain.
+    given (first_of (codes "problem") rows) (λ problem.
+    given (first_of (codes "plan") rows) (λ plan.
+    Some (record { domain = domain; problem = problem; plan = plan }))))
+
+-- what the words mean, of which the first is the program's name; none where they aren't the program's
+abbrev pub words_of : List Text → Option ValidateWords
+words_of = read_by validate_app words_in
+
+-- the usage text, a line
+abbrev pub usage_text : List ℕ
+usage_text = codes "usage: pddl_validate DOMAIN PROBLEM PLAN\n"

@@ -1,0 +1,72 @@
+//! Why a run has no verdict.
+ghost use Rattle.std.specs.Prelude.{◌≡◌};
+ghost use Rattle.task_reader.specs.Refusals.{Refuses};
+ghost use Rattle.validate_app.specs.Files.{most_of};
+ghost use Rattle.validate_app.specs.Told.{role_word};
+ghost use Rattle.validate_app.specs.Inputs.{stop_for};
+
+use plan_reader::PLAN_BYTES;
+use task_reader::{FaultKind, InputRefusal, TEXT_BYTES};
+
+/// What a file is read for.
+#[derive(Clone, Copy)]
+pub(crate) enum FileRole {
+    /// The domain.
+    Domain,
+    /// The problem.
+    Problem,
+    /// The plan.
+    Plan,
+}
+
+impl FileRole {
+    /// The most bytes of such a file.
+    pub(crate) fn most(self) -> usize
+        ensures { result ≡ most_of self }
+    {
+        match self {
+            FileRole::Domain | FileRole::Problem => TEXT_BYTES,
+            FileRole::Plan => PLAN_BYTES,
+        }
+    }
+
+    /// The word that stands for the file.
+    pub(crate) fn word(self) -> &'static [u8]
+        ensures { result.now ≡ role_word self }
+    {
+        match self {
+            FileRole::Domain => b"domain",
+            FileRole::Problem => b"problem",
+            FileRole::Plan => b"plan",
+        }
+    }
+}
+
+/// Why a run has no verdict.
+#[derive(Clone, Copy)]
+pub(crate) enum Stop {
+    /// The words are none of the program's.
+    Usage,
+    /// The text was refused for this fault at this place, in bytes from its beginning.
+    Refused {
+        role: FileRole,
+        kind: FaultKind,
+        place: usize,
+    },
+    /// The file could not be read.
+    Failed(FileRole),
+    /// The file is too long.
+    TooLong(FileRole),
+    /// Memory is wanting.
+    Memory,
+}
+
+/// Why the run stops whose text is refused so.
+pub(crate) fn stop_of(role: FileRole, refusal: InputRefusal) -> Stop
+    ensures { result ≡ stop_for role refusal }
+{
+    match refusal {
+        InputRefusal::At { kind, place } => Stop::Refused { role, kind, place },
+        InputRefusal::Memory => Stop::Memory,
+    }
+}

@@ -1,0 +1,147 @@
+//! The files of the words, each read after the texts before it were accepted.
+ghost use Rattle.std.specs.Prelude.{◌≡◌, ◌≤◌, [], IfOk, IfErr, length};
+ghost use Rattle.task_model.specs.Fit.{IsFit, IsFitDomain};
+ghost use Rattle.problem_reader.specs.Fitness.{IsFitOver};
+ghost use Rattle.validate_app.specs.Files.{EndsAt, HasBytes, seen_of};
+ghost use Rattle.validate_app.specs.Held.{held};
+ghost use Rattle.validate_app.specs.Inputs.{IsDomainOf, IsPlanOf, IsProblemOf, IsTaskOf, StopsAt};
+
+use crate::stop::{FileRole, Stop, stop_of};
+use crate::words::Paths;
+use io_world::{FileFault, Files};
+use plan_reader::{claimed_cost, plan_in};
+use std::alloc::Global;
+use task_model::{Domain, Problem, Seq, Stream, Task};
+use task_reader::{domain_in, problem_in};
+use transcript_model::Call;
+
+/// Reads the file of this path.
+fn read_file<F: Files>(files: &mut F, role: FileRole, path: &str) -> Result<Vec<u8>, Stop>
+    ensures bytes { IfOk result (λ bytes. HasBytes (F.told files.old) role path.now bytes.items) }
+    ensures stop { IfErr result (EndsAt (seen_of F.told F.faults files.old files.new) role path.now) }
+    ensures same { F.told files.new ≡ F.told files.old }
+    ensures later { F.faults files.old ≤ F.faults files.new }
+{
+    match files.read(path, role.most()) {
+        Ok(bytes) => Ok(bytes),
+        Err(FileFault::Failed) => Err(Stop::Failed(role)),
+        Err(FileFault::TooLong) => Err(Stop::TooLong(role)),
+        Err(FileFault::Memory) => Err(Stop::Memory),
+    }
+}
+
+/// Reads the domain.
+fn read_domain<F: Files>(alloc: Global, files: &mut F, paths: &Paths<'_>) -> Result<Domain, Stop>
+    ensures domain { IfOk result (IsDomainOf (F.told files.old) (held paths.now)) }
+    ensures fit { IfOk result (λ domain. IsFitDomain domain) }
+    ensures stop { IfErr result (StopsAt (seen_of F.told F.faults files.old files.new)
+        (held paths.now)) }
+    ensures same { F.told files.new ≡ F.told files.old }
+    ensures later { F.faults files.old ≤ F.faults files.new }
+{
+    let bytes = match read_file(files, FileRole::Domain, paths.domain) {
+        Ok(bytes) => bytes,
+        Err(stop) => return Err(stop),
+    };
+    match domain_in(alloc, bytes.as_slice()) {
+        Ok(domain) => Ok(domain),
+        Err(refusal) => Err(stop_of(FileRole::Domain, refusal)),
+    }
+}
+
+/// Reads the problem over the domain that was read.
+fn read_problem<F: Files>(
+    alloc: Global,
+    files: &mut F,
+    paths: &Paths<'_>,
+    domain: &Domain,
+) -> Result<Problem, Stop>
+    requires domain { IsDomainOf (F.told files.old) (held paths.now) domain.now }
+    ensures problem { IfOk result (IsProblemOf (F.told files.old) (held paths.now) domain.now) }
+    ensures fit { IfOk result (IsFitOver domain.now) }
+    ensures stop { IfErr result (StopsAt (seen_of F.told F.faults files.old files.new)
+        (held paths.now)) }
+    ensures same { F.told files.new ≡ F.told files.old }
+    ensures later { F.faults files.old ≤ F.faults files.new }
+{
+    let bytes = match read_file(files, FileRole::Problem, paths.problem) {
+        Ok(bytes) => bytes,
+        Err(stop) => return Err(stop),
+    };
+    match problem_in(alloc, bytes.as_slice(), domain) {
+        Ok(problem) => Ok(problem),
+        Err(refusal) => Err(stop_of(FileRole::Problem, refusal)),
+    }
+}
+
+/// No streams.
+fn no_streams(alloc: Global) -> Seq<Stream>
+    ensures { result ≡ [] }
+{
+    Seq::from_vec(Vec::new(alloc))
+}
+
+/// Reads the task, which has no streams. It is fit.
+pub(crate) fn read_task<F: Files>(
+    alloc: Global,
+    files: &mut F,
+    paths: &Paths<'_>,
+) -> Result<Task, Stop>
+    ensures task { IfOk result (IsTaskOf (F.told files.old) (held paths.now)) }
+    ensures fit { IfOk result (λ task. IsFit task) }
+    ensures stop { IfErr result (StopsAt (seen_of F.told F.faults files.old files.new)
+        (held paths.now)) }
+    ensures same { F.told files.new ≡ F.told files.old }
+    ensures later { F.faults files.old ≤ F.faults files.new }
+{
+    let domain = match read_domain(alloc, files, paths) {
+        Ok(domain) => domain,
+        Err(stop) => return Err(stop),
+    };
+    let problem = match read_problem(alloc, files, paths, &domain) {
+        Ok(problem) => problem,
+        Err(stop) => return Err(stop),
+    };
+    Ok(Task {
+        domain,
+        problem,
+        streams: no_streams(alloc),
+    })
+}
+
+/// A plan that was read.
+#[derive(Drop)]
+pub(crate) struct ReadPlan {
+    /// Its steps.
+    pub(crate) calls: Vec<Call>,
+    /// The cost that it claims.
+    pub(crate) claimed: Option<u64>,
+}
+
+/// Reads the plan, behind the task that was read.
+pub(crate) fn read_plan<F: Files>(
+    alloc: Global,
+    files: &mut F,
+    paths: &Paths<'_>,
+    task: &Task,
+) -> Result<ReadPlan, Stop>
+    requires task { IsTaskOf (F.told files.old) (held paths.now) task.now }
+    ensures plan { IfOk result (λ plan. IsPlanOf (F.told files.old) (held paths.now)
+        plan.calls.items plan.claimed) }
+    ensures few { IfOk result (λ plan. length plan.calls.items ≤ 33554433) }
+    ensures stop { IfErr result (StopsAt (seen_of F.told F.faults files.old files.new)
+        (held paths.now)) }
+    ensures later { F.faults files.old ≤ F.faults files.new }
+{
+    let bytes = match read_file(files, FileRole::Plan, paths.plan) {
+        Ok(bytes) => bytes,
+        Err(stop) => return Err(stop),
+    };
+    match plan_in(alloc, bytes.as_slice()) {
+        Ok(calls) => Ok(ReadPlan {
+            calls,
+            claimed: claimed_cost(bytes.as_slice()),
+        }),
+        Err(refusal) => Err(stop_of(FileRole::Plan, refusal)),
+    }
+}

@@ -1,0 +1,116 @@
+//! The words after the program's name.
+ghost use Rattle.std.specs.Prelude.{◌≡◌, ◌≢◌, IfOk, IfErr, None, Some, map, option_map, string_bytes, true, false};
+ghost use Rattle.clap.specs.Words.{app_of, first_of, found_of, is_simple_and_free, kind_of, matches_of, rows_of, rule_of};
+ghost use Rattle.command_line.specs.Apps.{is_taken, positional};
+ghost use Rattle.command_line.specs.declared.fault.WordsFault.TheVariants.{Usage};
+ghost use Rattle.validate_app.specs.Words.{usage_text, validate_app, words_in, words_of};
+ghost use Rattle.validate_app.specs.Held.{held, shown};
+
+use clap::error::ErrorKind;
+use clap::{Arg, ArgMatches, Command, Error};
+use command_line::WordsFault;
+use std::alloc::{AllocError, Global};
+
+/// The paths that the words name.
+#[derive(Clone, Copy)]
+pub(crate) struct Paths<'a> {
+    /// The domain's.
+    pub(crate) domain: &'a str,
+    /// The problem's.
+    pub(crate) problem: &'a str,
+    /// The plan's.
+    pub(crate) plan: &'a str,
+}
+
+/// A word that has to stand, in its place.
+fn positional(alloc: Global, name: &'static str) -> Arg<'static>
+    ensures rule { rule_of result ≡ positional name.entry.now }
+    ensures local { result.global ≡ false }
+{
+    Arg::new(alloc, name).required(true)
+}
+
+/// The words that the program takes.
+fn validate_command<'a>(alloc: Global) -> Result<Command<'a>, AllocError>
+    ensures { IfOk result (λ c. app_of c ≡ validate_app) }
+{
+    Command::new(alloc, "pddl_validate")
+        .arg(positional(alloc, "domain"))?
+        .arg(positional(alloc, "problem"))?
+        .arg(positional(alloc, "plan"))
+}
+
+/// Want of memory stays, and all else is a fault of the words.
+fn why_of(error: &Error) -> WordsFault
+    ensures { result ≡ Usage → kind_of error.now ≢ ErrorKind.OutOfMemory }
+{
+    match error.kind() {
+        ErrorKind::OutOfMemory => WordsFault::Memory,
+        _ => WordsFault::Usage,
+    }
+}
+
+/// The words as the command takes them.
+fn matches_of_words<'a>(
+    command: Command<'a>,
+    words: &'a [String],
+) -> Result<ArgMatches<'a>, WordsFault>
+    requires { is_simple_and_free (app_of command) ≡ true }
+    ensures taken { IfOk result (λ m.
+        is_taken (app_of command.entry) (map string_bytes words.entry.now) ≡ true) }
+    ensures rows { IfOk result (λ m.
+        rows_of (found_of m)
+        ≡ matches_of (app_of command.entry) (map string_bytes words.entry.now)) }
+    ensures usage { IfErr result (λ why. why ≡ Usage
+        → is_taken (app_of command.entry) (map string_bytes words.entry.now) ≡ false) }
+{
+    match command.try_get_matches_from(words) {
+        Ok(matches) => Ok(matches),
+        Err(error) => Err(why_of(&error)),
+    }
+}
+
+/// The value of a word.
+fn text_in<'a>(matches: &ArgMatches<'a>, name: &str) -> Option<&'a str>
+    ensures { option_map (λ s. s.now) result
+        ≡ first_of name.now (rows_of (found_of matches.now)) }
+{
+    matches.get_str(name)
+}
+
+/// The paths in what the command took.
+fn paths_in<'a>(matches: &ArgMatches<'a>) -> Option<Paths<'a>>
+    ensures { shown result ≡ words_in (rows_of (found_of matches.now)) }
+{
+    let domain = text_in(matches, "domain")?;
+    let problem = text_in(matches, "problem")?;
+    let plan = text_in(matches, "plan")?;
+    Some(Paths {
+        domain,
+        problem,
+        plan,
+    })
+}
+
+/// The paths that the words name, of which the first is the program's own name.
+pub(crate) fn read_words<'a>(alloc: Global, words: &'a [String]) -> Result<Paths<'a>, WordsFault>
+    ensures meant { IfOk result (λ paths.
+        words_of (map string_bytes words.entry.now) ≡ Some (held paths)) }
+    ensures usage { IfErr result (λ why. why ≡ Usage
+        → words_of (map string_bytes words.entry.now) ≡ None) }
+{
+    let command = validate_command(alloc)?;
+    let matches = matches_of_words(command, words)?;
+    match paths_in(&matches) {
+        Some(paths) => Ok(paths),
+        None => Err(WordsFault::Usage),
+    }
+}
+
+/// The usage text, a line.
+pub(crate) fn usage_text() -> &'static str
+    ensures { result.now ≡ usage_text }
+{
+    "usage: pddl_validate DOMAIN PROBLEM PLAN
+"
+}
