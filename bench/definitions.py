@@ -125,7 +125,7 @@ def dead_words(page, words):
             if fenced or line.startswith("    "):
                 continue
             for quoted in re.findall(r"`([^`]+)`", line):
-                for word in re.findall(r"(?<![\w.-])(?:[A-Z][a-z]+[A-Z]\w*|[a-z]+_\w+)(?![\w-])", quoted):
+                for word in re.findall(r"(?<![\w.-])(?:[A-Z][a-z]+[A-Z]\w*|[a-z]+_\w+)(?![\w=-])", quoted):
                     if word not in words:
                         yield at, word
 

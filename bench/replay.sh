@@ -64,6 +64,8 @@ for shape in one_level levels; do
             if [ -z "$best" ] || [ "$took" -lt "$best" ]; then best=$took; fi
         done
         memory=$( { /usr/bin/time -f %M "$program" replay "$work/domain" "$work/problem" "$work/streams" "$work/report" > "$work/out"; } 2>&1 | tail -1)
-        printf '| %s | %s | %s | %s.%s ms | %s MiB |\n' "${shape/_/ }" "$count" "$(stat -c %s "$work/report")" $((best / 1000)) $((best / 100 % 10)) $((memory / 1024))
+        bytes=$(stat -c %s "$work/report")
+        time=$((best / 1000)).$((best / 100 % 10))
+        printf '| %s | %s | %s | %s ms | %s MiB |\n' "${shape/_/ }" "$count" "$bytes" "$time" $((memory / 1024))
     done
 done

@@ -2,7 +2,8 @@
 
 usage: python3 examples/pages.py PROGRAM [PAGES]
 
-PROGRAM is a built pddlstream. A command is an indented line `$ COMMAND` of a page, and its output are the indented
+PROGRAM is a built pddlstream; the validator is the one that lies beside it, or in the crate's own out/, and where there is
+none its commands are skipped. A command is an indented line `$ COMMAND` of a page, and its output are the indented
 lines below it. It is run in the folder that the page named last, in backticks, or in the one above, whichever has its files;
 in a copy of the repository without its code, one for each page, so that nothing is written here. It ends with 1
 where one differs.
@@ -15,7 +16,8 @@ import sys
 import tempfile
 
 PAGES = ["docs/TUTORIAL.md", "docs/GENERATORS.md", "docs/USING.md", "docs/RUNNING.md", "docs/REPORT.md",
-         "docs/FROM_PDDLSTREAM.md", "examples/README.md", "tools/README.md", "SECURITY.md"]
+         "docs/FROM_PDDLSTREAM.md", "docs/VALIDATING.md", "examples/README.md", "tools/README.md", "SECURITY.md"]
+VALIDATOR = "pddl_validate"
 
 
 def commands(page):
@@ -60,6 +62,9 @@ def check(page, programs, copy):
     shutil.copytree(".", copy, ignore=shutil.ignore_patterns("out", ".git", "__pycache__", "src", "specs", "proofs"))
     for folder, command, output in commands(page):
         there = place(folder, command)
+        if command.startswith(VALIDATOR) and not os.path.exists(os.path.join(programs, VALIDATOR)):
+            print(f"skipped: {page}, in {there}: {command}: no {VALIDATOR} is built", flush=True)
+            continue
         got = run(programs, os.path.join(copy, there), command)
         print("same:" if got == output else "differs:", f"{page}, in {there}: {command}", flush=True)
         if got != output:
@@ -67,6 +72,16 @@ def check(page, programs, copy):
             well = False
     shutil.rmtree(copy)
     return well
+
+
+def link_programs(programs, program):
+    """Puts the program into a folder, and the validator where one is built."""
+    os.symlink(program, os.path.join(programs, "pddlstream"))
+    for folder in (os.path.dirname(program), f"crates/{VALIDATOR}/out"):
+        found = os.path.abspath(os.path.join(folder, VALIDATOR))
+        if os.path.isfile(found) and os.access(found, os.X_OK):
+            os.symlink(found, os.path.join(programs, VALIDATOR))
+            return
 
 
 def main():
@@ -77,7 +92,7 @@ def main():
     with tempfile.TemporaryDirectory() as work:
         programs = os.path.join(work, "bin")
         os.mkdir(programs)
-        os.symlink(program, os.path.join(programs, "pddlstream"))
+        link_programs(programs, program)
         well = [check(page, programs, os.path.join(work, str(number))) for number, page in enumerate(pages)]
     sys.exit(0 if all(well) else 1)
 

@@ -6,7 +6,7 @@ from dataclasses import dataclass, field
 from common.tasks import ROOT, keys_of, typed
 from common.texts import Group, Source, TextFault, Tree, Word, read_tree, spelled
 from common.trees import conjunction, group, printed, word
-from .book import Book, Either, NUMBER, with_plain_names
+from .book import Book, Either, with_plain_names
 from .conditions import Conditions, Signs, in_safe_terms
 from .effects import MOST_CONDITIONS, Effects, Objects, cases, simplified
 from .streams import StreamFile, StreamItems, cost_of, names_of, test_of

@@ -1,9 +1,7 @@
 """How runs ended, in words."""
-import json
-import os
 import unittest
 
-from support import FETCH, GRID, MODES, ROOT, SHELF, TRAY, Folder, needs_program, solve, task, tool
+from support import FETCH, MODES, SHELF, TRAY, Folder, needs_program, solve, task, tool
 import explain
 
 HEAD = "pddlstream 1 incremental\nlimits 10000 100000 3\npool 1 grip\nlevel\nask 1 0 grip cup\n"

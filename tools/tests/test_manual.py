@@ -37,12 +37,22 @@ class Manual(unittest.TestCase):
         for number, meaning in statuses:
             self.assertIn((number, meaning), re.findall(r"^\| (\d+) \| (.*?) \|", self.report, re.M))
 
+    def test_statuses_and_kinds_of_the_validator_are_those_of_its_page(self):
+        page, manual = read("docs", "VALIDATING.md"), read("tools", "pddl_validate.1")
+        listed = {status for status in re.findall(r"^\| [^|]* \| (\d+) \|", page, re.M)}
+        self.assertEqual(set(re.findall(r"^(\d+)\t", manual, re.M)), listed)
+        kinds = re.findall(r"^\| `(\w+)` \| [^|]* \|$", page, re.M)
+        steps, reports = ["action", "args", "object", "type", "condition", "cost"], ["text", "ask", "answer"]
+        self.assertEqual(kinds, steps + reports)
+        self.assertEqual(re.findall(r"^\.BR? (\w+)", manual[manual.index("Step N"):], re.M)[:6], steps)
+        self.assertEqual(re.findall(r"^\.RB \( (\w+) \)", manual, re.M), reports)
+
     @unittest.skipUnless(shutil.which("man"), "there is no man")
-    def test_the_page_is_set_without_a_warning(self):
-        done = subprocess.run(["man", "--warnings", "-l", os.path.join(TOOLS, "pddlstream.1")], capture_output=True,
-                              text=True,
-                              env={**os.environ, "MANPAGER": "cat", "LC_ALL": "C.UTF-8"})
-        self.assertEqual((done.returncode, done.stderr), (0, ""))
+    def test_the_pages_are_set_without_a_warning(self):
+        for page in ("pddlstream.1", "pddl_validate.1"):
+            done = subprocess.run(["man", "--warnings", "-l", os.path.join(TOOLS, page)], capture_output=True, text=True,
+                                  env={**os.environ, "MANPAGER": "cat", "LC_ALL": "C.UTF-8"})
+            self.assertEqual((page, done.returncode, done.stderr), (page, 0, ""))
 
 
 class Completions(unittest.TestCase):

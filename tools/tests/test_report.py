@@ -1,12 +1,11 @@
 """Reports as data, counts, JSON, graphs and pages."""
 import json
-import os
 import re
 import unittest
 
 from support import GRID, MODES, SHELF, TRAY, Folder, needs_program, solve, task, tool
 import report
-from common.reports import Got, ReportFault, parse
+from common.reports import ReportFault, parse
 from views.dreams import fate, stories
 from views.page import page
 

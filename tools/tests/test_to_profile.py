@@ -66,7 +66,10 @@ REFUSED = {
     "constraints": ("(:constraints (always (done)))", "3:3: `:constraints`"),
     "fractions": ("(:action a :effect (increase (total-cost) 0.5))", "3:22: the cost 0.5: whole numbers"),
     "sums": ("(:action a :effect (increase (total-cost) (+ 1 2)))", "3:22: a sum or product as a cost"),
-    "too many conditions": ("(:action a :parameters (?r - room) :effect (and %s))" % " ".join(f"(when (lit ?r{n}) (done))" for n in range(7)), "3:3: 7 conditional effects, so 128 actions"),
+    "too many conditions": (
+        "(:action a :parameters (?r - room) :effect (and %s))" % " ".join(f"(when (lit ?r{n}) (done))" for n in range(7)),
+        "3:3: 7 conditional effects, so 128 actions",
+    ),
 }
 
 

@@ -4,7 +4,7 @@ from __future__ import annotations
 from collections import Counter
 from dataclasses import dataclass, field
 
-from common.reports import Ask, Dream, End, Got, Mark, Report, Value
+from common.reports import Dream, End, Got, Mark, Report, Value
 
 TURNS = ("level", "dream", "none", "reset", "pick", "retire")
 

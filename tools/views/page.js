@@ -212,8 +212,10 @@ function drawLanes() {
     svg.append(draw("text", { x: 8, y: TOP + place * LANE + LANE / 2 + 4 }, short));
   });
   svg.append(draw("rect", { x: -99, y: TOP, width: 1, height: bottom - TOP, class: "cursor", id: "cursor" }));
-  svg.append(draw("text", { x: GUTTER, y: bottom + 16, class: "soft" }, `round ${(Math.floor(view.from) + 1).toLocaleString("en")}`));
-  svg.append(draw("text", { x: Math.min(width() - 8, across(data.rounds)), y: bottom + 16, class: "soft", "text-anchor": "end" }, `round ${Math.min(Math.ceil(view.to), data.rounds).toLocaleString("en")}`));
+  const ofRound = (round) => `round ${round.toLocaleString("en")}`;
+  const end = { x: Math.min(width() - 8, across(data.rounds)), y: bottom + 16, class: "soft", "text-anchor": "end" };
+  svg.append(draw("text", { x: GUTTER, y: bottom + 16, class: "soft" }, ofRound(Math.floor(view.from) + 1)));
+  svg.append(draw("text", end, ofRound(Math.min(Math.ceil(view.to), data.rounds))));
 }
 
 /** Zooms so that a round stays where it is. */

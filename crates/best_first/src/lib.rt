@@ -8,7 +8,9 @@ mod expand;
 mod explore;
 mod found;
 mod plans;
+mod reach;
 mod relaxed_plan;
+mod steady;
 mod tree;
 mod way;
 
@@ -18,6 +20,7 @@ pub use expand::{Taken, take_step};
 pub use explore::MOST_CANDIDATES;
 pub use found::Found;
 pub use plans::{exceeds, is_solvable_within, search};
+pub use reach::out_of_reach;
 pub use relaxed_plan::RelaxedPlan;
 pub use tree::Link;
 pub use way::path;

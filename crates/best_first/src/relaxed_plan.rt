@@ -44,6 +44,16 @@ impl RelaxedPlan {
         let guide = Guide::new(alloc, task, look)?;
         Ok(RelaxedPlan { guide })
     }
+
+    /// The atoms of fluents that are reached where deletes are ignored and of conditions the fluent
+    /// atoms at the top count alone, or None where there was no room to find them. Nothing is claimed
+    /// of them. Fails only where memory is wanting.
+    pub(crate) fn reached(&self, alloc: Global) -> Result<Option<State>, AllocError> {
+        match self.guide.reached(alloc)? {
+            Some(atoms) => Ok(Some(State::from_atoms(atoms))),
+            None => Ok(None),
+        }
+    }
 }
 
 impl Estimate for RelaxedPlan {

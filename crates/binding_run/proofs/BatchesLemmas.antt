@@ -1,5 +1,5 @@
 -- A dream's batches, one after another, and what would go on as such.
-use Rattle.std.proofs.Common.{◌≡◌, Contains, ℕ, ◌+◌, ◌-◌, ◌<◌, ◌≤◌, arith, Bool, true, false, All, map, List, [], ◌++◌, length, drop, take, Option, Some, refl, sym, subst, ap, ◌∙◌, append_assoc}
+use Rattle.std.proofs.Common.{◌≡◌, Contains, ℕ, ◌+◌, ◌<◌, ◌≤◌, arith, Bool, true, false, All, map, List, [], ◌++◌, length, drop, take, Option, Some, refl, sym, subst, ap, ◌∙◌, append_assoc}
 use Rattle.std.proofs.lemmas.List.{append-nil, length-map, map-append}
 use Rattle.std.proofs.lemmas.List.Prefix.{front_rest}
 use Rattle.binding_run.specs.Batching.{Called, HasProgress, IsFrontOfBatches, RanBatches, RanSome, nexts}

@@ -8,7 +8,8 @@ use Rattle.focused_run.proofs.DreamtLemmas.{idle_one}
 use Rattle.focused_run.proofs.FocusingLemmas.{Dreamt}
 use Rattle.focused_run.specs.Focusing.{HasRoom, RanFocused, carried, idle_of}
 use Rattle.level_run.specs.Advancing.{Fits, IsFrontOfTurn}
-use Rattle.level_run.specs.Turns.{cut_by, opens_requests}
+use Rattle.level_run.specs.Turns.{cut_by}
+use Rattle.round_run.specs.TurnLines.{opens_requests}
 use Rattle.level_run.specs.declared.turns.Turned.{Turned}
 use Rattle.level_run.specs.declared.turns.Turned.TheVariants as turned
 use Rattle.mode_turns.proofs.BatchesLemmas.{batches_ask}

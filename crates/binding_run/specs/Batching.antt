@@ -1,12 +1,17 @@
 -- The batches of a dream, one after another.
-use Rattle.std.specs.Prelude.{◌≡◌, ℕ, ◌+◌, ◌<◌, ◌≤◌, List, [], ◌∷◌, ◌++◌, length, Bool, true, Option, None, Some}
+use Rattle.std.specs.Prelude.{◌≡◌, ℕ, ◌+◌, ◌<◌, ◌≤◌, List, [], ◌∷◌, ◌++◌, length, Bool, true, Option, None, Some, Result}
 use Rattle.dream_asks.specs.Progress.{IsProgress, Progress}
 use Rattle.io_world.specs.Talks.{Event}
-use Rattle.level_run.specs.Turns.{IsSure, cut_by, opens_requests}
+use Rattle.level_run.specs.Turns.{IsSure, cut_by}
+use Rattle.round_run.specs.TurnLines.{opens_requests}
+use Rattle.round_run.specs.Breaking.{RunBreaks}
 use Rattle.round_run.specs.Calls.{Runs}
+use Rattle.round_run.specs.Desk.{AtDesk, HasDone, RestsAt}
 use Rattle.round_run.specs.Rolling.{IsFrontPart}
+use Rattle.round_run.specs.Told.{Stretch}
 use Rattle.round_run.specs.declared.ending.Batch.{Batch}
 use Rattle.round_run.specs.declared.ending.Batch.TheVariants.{CallsSpent, Done}
+use Rattle.round_run.specs.declared.fault.RunFault.{RunFault}
 use Rattle.session_core.specs.State.{State}
 use Rattle.task_model.specs.Dreams as dreams
 use Rattle.task_model.specs.declared.stream.Instance.{Instance}
@@ -72,6 +77,18 @@ Called head task old new was now (Some CallsSpent) =
     (length old.asked ≤ length new.asked) × (length old.asked < head.calls → length old.asked < length new.asked)
     × IsSure head task new.entries (outcome.Limit Calls)
 
+-- The next batch was run, whichever requests were made of the dream before.
+pub record RanNextBatch (head : Head) (task : Task) (entries : List dreams.Entry) (old new : State) (p later : Progress)
+    (tried joined : List Instance) (was now : Option (List Event)) (b : Option Batch) : Type 0 where
+  pub ran : (sent : List Sent) → IsProgress task old.entries p sent
+      → RanNext head task p.real entries old new later tried joined sent b
+  pub asks : Called head task old new was now b
+
+-- the first entries of what would be the rest of the dream's batches, whichever these were
+abbrev pub IsFrontOfNext : Head → Task → List dreams.Entry → Progress → List Entry → List Entry → Type 0
+IsFrontOfNext head task entries p before es =
+    (sent : List Sent) → IsProgress task before p sent → IsFrontOfBatches head task p.real entries sent before es
+
 -- ---- all batches
 
 -- All batches of a dream were run, nothing of which was asked before, as far as calls were left. What was asked joined
@@ -89,6 +106,13 @@ pub record RanBatches (head : Head) (task : Task) (real : ℕ) (entries : List d
 pub record RunsOn (task : Task) (head : Head) (before after : List Entry) (was now : Option (List Event)) : Type 0 where
   pub runs : Runs task head before after was now
   pub still : asks_of after ≡ asks_of before → now ≡ was
+
+-- a stretch of batches that entries came by so
+abbrev pub OnBatches : {T : Type 0} → AtDesk → AtDesk → Stretch → (T → Type 0) → (List Entry → Type 0)
+    → Result T RunFault → Type 0
+OnBatches old new c What Front result =
+    HasDone old.task old.head old new c RestsAt (RunsOn old.task old.head) (RunBreaks old.task old.head) What Front
+    result
 
 -- ---- behind a line
 

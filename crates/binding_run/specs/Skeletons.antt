@@ -1,7 +1,7 @@
 -- The skeletons of adaptive mode, and what its turns have done.
 use Rattle.std.specs.Prelude.{◌≡◌, ℕ, ◌+◌, ◌*◌, ◌<◌, ◌≤◌, All, List, [], ◌∷◌, ◌++◌, length, count_by, Bool, true, false, not}
 use Rattle.focused_run.specs.Focusing.{idle_of}
-use Rattle.level_run.specs.Turns.{IsRunnableIn, IsSure}
+use Rattle.level_run.specs.Turns.{IsSure}
 use Rattle.level_run.specs.declared.turns.Turned.{Turned}
 use Rattle.level_run.specs.declared.turns.Turned.TheVariants as turned
 use Rattle.round_run.specs.Rolling.{IsFrontPart}
@@ -35,9 +35,9 @@ pub record AreFewKept (skeletons : List Skeleton) (asked : ℕ) : Type 0 where
   pub few : length skeletons ≤ asked
   pub picked : All (λ (s : Skeleton). s.retired ≡ false → (1 ≤ s.picks) × (s.picks ≤ asked)) skeletons
 
--- Adaptive mode can be run, and these are kept.
-pub record KeepsOn (head : Head) (task : Task) (skeletons : List Skeleton) (s : State) : Type 0 where
-  pub runnable : IsRunnableIn Adaptive task head
+-- The mode is adaptive, and these are kept.
+pub record KeepsOn (head : Head) (skeletons : List Skeleton) (s : State) : Type 0 where
+  pub mode : head.mode ≡ Adaptive
   pub kept : AreFewKept skeletons (length s.asked)
 
 -- How many turns may ask nothing: each gives up a skeleton, or forgets what was tried.

@@ -1,143 +1,106 @@
 //! Adaptive mode.
-ghost use Rattle.std.specs.Prelude.{◌≡◌, ℕ, false, IfOk, IfErr, OnOk};
 ghost use Rattle.binding_run.specs.Adaptive.{RanAdaptive};
 ghost use Rattle.binding_run.specs.Skeletons.{AreFewKept, KeepsOn, idle_with, kept_of};
 ghost use Rattle.focused_run.specs.Focusing.{Begins, HasRoom, IsDreamLine};
-ghost use Rattle.io_world.specs.Faults.{last_count, HasCause};
-ghost use Rattle.io_world.specs.Talks.{Same};
-ghost use Rattle.level_run.specs.Advancing.{Advances, IsFrontOfTurn, TurnBreaks};
-ghost use Rattle.level_run.specs.Reports.{IsBroken, IsReported};
-ghost use Rattle.level_run.specs.Turns.{IsRunnableIn};
-ghost use Rattle.round_run.specs.Dialogue.{workers_in};
-ghost use Rattle.round_run.specs.Held.{is_child_running};
-ghost use Rattle.round_run.specs.Resting.{AreCaused, GoesInOrder, Rests};
-ghost use Rattle.round_run.specs.Rolling.{Stopped};
-ghost use Rattle.round_run.specs.declared.fault.RunFault.TheVariants.{Generator, Write};
+ghost use Rattle.level_run.specs.Advancing.{IsFrontOfTurn};
+ghost use Rattle.level_run.specs.Reporting.{EndsRun, MayRun};
+ghost use Rattle.round_run.specs.Desk.{OnTurn, RestsAt};
+ghost use Rattle.round_run.specs.Told.{stretch, host_told};
 ghost use Rattle.skeletons.specs.Skeletons.{skeletons_in};
-ghost use Rattle.task_model.specs.Fit.{IsFit};
 ghost use Rattle.transcript_model.specs.Dreaming.{HasNoDreamAfter};
 ghost use Rattle.transcript_model.specs.Rounds.{limits_of};
-ghost use Rattle.transcript_model.specs.declared.head.Mode.TheVariants as mode;
+ghost use Rattle.transcript_model.specs.declared.head.Mode.TheVariants.{Adaptive};
 
-use crate::picks::pick_behind;
-use dreaming::{Dreamt, dream};
-use focused_run::without_dream;
+use best_first::Found;
+use fact_store::Facts;
+use focused_run::{LinedDream, NextDream, next_dream, without_dream};
 use instance_queue::Due;
 use io_world::{Host, Sink};
-use level_run::{Lines, Ran, RunFault, Turned, Turns, known_plan, run_mode};
-use optimistic_set::{OptEntry, Tried};
-use session_core::Session;
+use level_run::{Desk, PlanSearch, Ran, RunFault, Turned, Turns, by_estimate, run_mode};
+use optimistic_set::Tried;
 use skeletons::{Skeleton, keep, pick_of};
-use std::alloc::Global;
+use std::alloc::{AllocError, Global};
 use task_model::Task;
 use transcript_model::{Entry, Head};
-
-/// Keeps the dream as the last skeleton, says what was dreamt, and takes it up.
-fn with_new<H: Host, O: Sink>(
-    alloc: Global,
-    task: &Task,
-    head: &Head,
-    session: &mut Session,
-    lines: &mut Lines,
-    host: &mut H,
-    out: &mut O,
-    tried: &mut Tried,
-    skeletons: &mut Vec<Skeleton>,
-    line: Entry,
-    entries: Vec<OptEntry>,
-) -> Result<Turned, RunFault>
-    requires keeps { KeepsOn head.now task.now (skeletons_in skeletons.old.items) session.old }
-    requires rests { Rests task.now head.now session.old lines.old (H.running host.old)
-        (H.spoken host.old) }
-    requires room { HasRoom head.now session.old }
-    requires dream { IsDreamLine (limits_of head.now) task.now session.old.entries tried.old line
-        entries.items }
-    ensures rests { OnOk result (Rests task.now head.now session.new lines.new (H.running host.new)
-        (H.spoken host.new)) }
-    ensures ran { IfOk result (RanAdaptive task.now head.now skeletons.old.items tried.old
-        skeletons.new.items tried.new session.old session.new) }
-    ensures adds { OnOk result (GoesInOrder session.old.entries session.new.entries
-        (O.taken out.old) (O.taken out.new) (Advances task.now head.now session.old.entries
-        session.new.entries (H.log host.old) (H.log host.new))) }
-    ensures stopped { IfErr result (λ fault. Stopped head.now.version task.now (workers_in head.now)
-        (IsFrontOfTurn task.now head.now (kept_of skeletons.old.items tried.old)
-        session.old.entries) session.old.entries fault (O.taken out.old) (O.taken out.new)
-        (H.spoken host.new) (TurnBreaks task.now head.now session.old.entries fault
-        (H.log host.old) (H.log host.new))) }
-    ensures state { Same (H.running host.new) (is_child_running lines.new) }
-    ensures causes { AreCaused H.last (H.faults host.old) (H.faults host.new) (O.faults out.old)
-        (O.faults out.new) result }
-{
-    let real = session.facts().name_count();
-    let place = skeletons.len();
-    keep(skeletons, entries, real)?;
-    pick_behind(
-        alloc, task, head, session, lines, host, out, tried, skeletons, line, place,
-    )
-}
-
-/// Says that nothing was dreamt, and takes up a skeleton; where all are given up it falls back.
-fn without_new<H: Host, O: Sink>(
-    alloc: Global,
-    task: &Task,
-    head: &Head,
-    session: &mut Session,
-    lines: &mut Lines,
-    host: &mut H,
-    out: &mut O,
-    tried: &mut Tried,
-    skeletons: &mut Vec<Skeleton>,
-    dues: &[Due],
-) -> Result<Turned, RunFault>
-    requires keeps { KeepsOn head.now task.now (skeletons_in skeletons.old.items) session.old }
-    requires rests { Rests task.now head.now session.old lines.old (H.running host.old)
-        (H.spoken host.old) }
-    requires begins { Begins task.now head.now session.old dues.now }
-    requires none { HasNoDreamAfter (limits_of head.now) task.now session.old.entries tried.old }
-    ensures rests { OnOk result (Rests task.now head.now session.new lines.new (H.running host.new)
-        (H.spoken host.new)) }
-    ensures ran { IfOk result (RanAdaptive task.now head.now skeletons.old.items tried.old
-        skeletons.new.items tried.new session.old session.new) }
-    ensures adds { OnOk result (GoesInOrder session.old.entries session.new.entries
-        (O.taken out.old) (O.taken out.new) (Advances task.now head.now session.old.entries
-        session.new.entries (H.log host.old) (H.log host.new))) }
-    ensures stopped { IfErr result (λ fault. Stopped head.now.version task.now (workers_in head.now)
-        (IsFrontOfTurn task.now head.now (kept_of skeletons.old.items tried.old)
-        session.old.entries) session.old.entries fault (O.taken out.old) (O.taken out.new)
-        (H.spoken host.new) (TurnBreaks task.now head.now session.old.entries fault
-        (H.log host.old) (H.log host.new))) }
-    ensures state { Same (H.running host.new) (is_child_running lines.new) }
-    ensures causes { AreCaused H.last (H.faults host.old) (H.faults host.new) (O.faults out.old)
-        (O.faults out.new) result }
-{
-    match pick_of(skeletons.as_slice()) {
-        Some(place) => pick_behind(
-            alloc,
-            task,
-            head,
-            session,
-            lines,
-            host,
-            out,
-            tried,
-            skeletons,
-            Entry::Nothing,
-            place,
-        ),
-        None => without_dream(task, head, session, lines, host, out, tried, dues),
-    }
-}
 
 /// Adaptive mode: each dream is kept, and turns go by how often each was picked. What was asked is
 /// carried on until it is forgotten.
 #[derive(Drop)]
-struct Dreams {
-    tried: Tried,
-    skeletons: Vec<Skeleton>,
+pub(crate) struct AdaptiveTurns {
+    pub(crate) tried: Tried,
+    pub(crate) skeletons: Vec<Skeleton>,
 }
 
-impl Turns for Dreams {
-    ghost mode = { mode.Adaptive };
+impl AdaptiveTurns {
+    /// Keeps the dream as the last skeleton, says what was dreamt, and takes it up.
+    fn with_new<H: Host, O: Sink>(
+        &mut self,
+        desk: &mut Desk<'_>,
+        host: &mut H,
+        out: &mut O,
+        dream: LinedDream,
+    ) -> Result<Turned, RunFault>
+        requires keeps { KeepsOn desk.old.head (skeletons_in self.old.skeletons.items)
+            desk.old.state }
+        requires rests { RestsAt desk.old (host_told H.running H.spoken H.log H.faults host.old) }
+        requires room { HasRoom desk.old.head desk.old.state }
+        requires dream { IsDreamLine (limits_of desk.old.head) desk.old.task
+            desk.old.state.entries self.old.tried dream.line dream.entries.items }
+        ensures goes { OnTurn desk.old desk.new (stretch H.last H.running H.spoken H.log H.faults
+            O.taken O.faults host.old host.new out.old out.new)
+            (RanAdaptive desk.old.task desk.old.head self.old.skeletons.items self.old.tried
+            self.new.skeletons.items self.new.tried desk.old.state desk.new.state)
+            (IsFrontOfTurn desk.old.task desk.old.head
+            (kept_of self.old.skeletons.items self.old.tried) desk.old.state.entries) result }
+    {
+        let real = desk.session().facts().name_count();
+        let place = self.skeletons.len();
+        keep(&mut self.skeletons, dream.entries, real)?;
+        self.pick_behind(desk, host, out, dream.line, place)
+    }
+
+    /// Says that nothing was dreamt, and takes up a skeleton; where all are given up it falls back.
+    fn without_new<H: Host, O: Sink>(
+        &mut self,
+        desk: &mut Desk<'_>,
+        host: &mut H,
+        out: &mut O,
+        dues: &[Due],
+    ) -> Result<Turned, RunFault>
+        requires keeps { KeepsOn desk.old.head (skeletons_in self.old.skeletons.items)
+            desk.old.state }
+        requires rests { RestsAt desk.old (host_told H.running H.spoken H.log H.faults host.old) }
+        requires begins { Begins desk.old.task desk.old.head desk.old.state dues.now }
+        requires none { HasNoDreamAfter (limits_of desk.old.head) desk.old.task
+            desk.old.state.entries self.old.tried }
+        ensures goes { OnTurn desk.old desk.new (stretch H.last H.running H.spoken H.log H.faults
+            O.taken O.faults host.old host.new out.old out.new)
+            (RanAdaptive desk.old.task desk.old.head self.old.skeletons.items self.old.tried
+            self.new.skeletons.items self.new.tried desk.old.state desk.new.state)
+            (IsFrontOfTurn desk.old.task desk.old.head
+            (kept_of self.old.skeletons.items self.old.tried) desk.old.state.entries) result }
+    {
+        match pick_of(self.skeletons.as_slice()) {
+            Some(place) => self.pick_behind(desk, host, out, Entry::Nothing, place),
+            None => without_dream(desk, host, out, &mut self.tried, dues),
+        }
+    }
+}
+
+impl PlanSearch for AdaptiveTurns {
+    fn find(
+        &self,
+        alloc: Global,
+        task: &Task,
+        head: &Head,
+        facts: &Facts,
+    ) -> Result<Option<Found>, AllocError> {
+        by_estimate(alloc, task, head, facts)
+    }
+}
+
+impl Turns for AdaptiveTurns {
+    ghost mode = { Adaptive };
 
     ghost kept = { λ m. kept_of m.skeletons.items m.tried };
 
@@ -147,42 +110,16 @@ impl Turns for Dreams {
 
     fn turn<H: Host, O: Sink>(
         &mut self,
-        alloc: Global,
-        task: &Task,
-        head: &Head,
-        session: &mut Session,
-        lines: &mut Lines,
+        desk: &mut Desk<'_>,
         host: &mut H,
         out: &mut O,
         dues: &[Due],
     ) -> Result<Turned, RunFault> {
-        let dreamt = dream(alloc, task, session, &self.tried, head.depth, head.states)?;
+        let dreamt = next_dream(desk, &self.tried)?;
         match dreamt {
-            Dreamt::Empty => {
-                let tried = &mut self.tried;
-                let skeletons = &mut self.skeletons;
-                without_new(
-                    alloc, task, head, session, lines, host, out, tried, skeletons, dues,
-                )
-            }
-            Dreamt::Dream {
-                uses,
-                steps,
-                entries,
-                plan,
-                cost,
-            } => {
-                if uses.as_slice().is_empty() {
-                    let outcome = known_plan(alloc, task, head, session, &plan, cost)?;
-                    return Ok(Turned::Known(outcome));
-                }
-                let tried = &mut self.tried;
-                let skeletons = &mut self.skeletons;
-                let line = Entry::Dream { uses, steps };
-                with_new(
-                    alloc, task, head, session, lines, host, out, tried, skeletons, line, entries,
-                )
-            }
+            NextDream::Known(outcome) => Ok(Turned::Known(outcome)),
+            NextDream::Lined(dream) => self.with_new(desk, host, out, dream),
+            NextDream::Empty => self.without_new(desk, host, out, dues),
         }
     }
 }
@@ -206,20 +143,11 @@ pub fn adaptive<H: Host, O: Sink>(
     host: &mut H,
     out: &mut O,
 ) -> Result<Ran, RunFault>
-    requires fit { IsFit task.now }
-    requires runnable { IsRunnableIn mode.Adaptive task.now head.now }
-    requires idle { (k : ℕ) → H.running host.old k ≡ false }
-    ensures reported { IfOk result (IsReported task.now head.now (H.spoken host.new)
-        (H.log host.old) (H.log host.new) (O.taken out.old) (O.taken out.new)) }
-    ensures broken { IfErr result (IsBroken task.now head.now (H.spoken host.new) (H.log host.old)
-        (H.log host.new) (O.taken out.old) (O.taken out.new)) }
-    // Where nothing is asked no call is made on a child, so none is started without need.
-    ensures unneeded { IfOk result (λ ran. ran.asks ≡ 0 → H.log host.new ≡ H.log host.old) }
-    ensures idle { (k : ℕ) → H.running host.new k ≡ false }
-    ensures host { HasCause Generator H.last (H.faults host.old) (H.faults host.new) result }
-    ensures sink { HasCause Write last_count (O.faults out.old) (O.faults out.new) result }
+    requires may { MayRun Adaptive task.now head.now (H.running host.old) }
+    ensures ran { EndsRun task.now head.now (stretch H.last H.running H.spoken H.log H.faults
+        O.taken O.faults host.old host.new out.old out.new) result }
 {
-    let mut mode = Dreams {
+    let mut mode = AdaptiveTurns {
         tried: Tried::new(alloc),
         skeletons: Vec::new(alloc),
     };

@@ -1,110 +1,76 @@
 //! The batches of a dream, one after another.
-ghost use Rattle.std.specs.Prelude.{◌≡◌, ◌<◌, ◌≤◌, ◌++◌, [], List, drop, length, IfOk, IfErr, OnOk};
-ghost use Rattle.binding_run.specs.Batching.{Called, IsFrontOfBatches, MayGoOn, RanBatches, RanNext, RunsOn};
+ghost use Rattle.std.specs.Prelude.{◌≡◌, ◌<◌, ◌≤◌, [], drop, length, OnOk};
+ghost use Rattle.binding_run.specs.Batching.{IsFrontOfBatches, IsFrontOfNext, MayGoOn, OnBatches, RanBatches, RanNextBatch};
 ghost use Rattle.dream_asks.specs.Noting.{NotesAnswers};
-ghost use Rattle.dream_asks.specs.Progress.{IsProgress};
-ghost use Rattle.instance_queue.specs.Level.{instances_of};
-ghost use Rattle.io_world.specs.Talks.{Same};
-ghost use Rattle.round_run.specs.Batches.{IsRunnable};
-ghost use Rattle.round_run.specs.Breaking.{RunBreaks};
-ghost use Rattle.round_run.specs.Calls.{Runs};
-ghost use Rattle.round_run.specs.Dialogue.{workers_in};
-ghost use Rattle.round_run.specs.Held.{is_child_running};
-ghost use Rattle.round_run.specs.Resting.{AreCaused, GoesInOrder, Rests};
-ghost use Rattle.round_run.specs.Rolling.{Stopped};
-ghost use Rattle.transcript_model.specs.Dreaming.{Sent as AnySent};
+ghost use Rattle.round_run.specs.Desk.{OnBatch, RestsAt};
+ghost use Rattle.round_run.specs.Told.{stretch, host_told};
 
 use dream_asks::{DreamAsk, Gone, dues_of};
-use focused_run::join;
-use instance_queue::Due;
 use io_world::{Host, Sink};
-use level_run::{Batch, Lines, RunFault, batch};
+use level_run::{Batch, Desk, RunFault};
 use optimistic_set::{OptEntry, Tried};
 use session_core::Session;
-use std::alloc::{AllocError, Global};
-use task_model::Task;
-use transcript_model::Head;
+use std::alloc::AllocError;
+
+/// What a dream needs.
+#[derive(Clone, Copy)]
+pub(crate) struct Needs<'a> {
+    /// Its entries.
+    pub(crate) entries: &'a [OptEntry],
+    /// How many objects had names without it.
+    pub(crate) real: u32,
+}
 
 /// Notes what came for the asks, which were made with numbers from `first` on, behind so many
-/// entries; their instances, which have these turns, were tried then. Fails only where memory is
-/// wanting.
+/// entries. Fails only where memory is wanting.
 fn note(
     session: &Session,
     gone: &mut Gone,
-    tried: &mut Tried,
     from: usize,
     first: u32,
     asks: &[DreamAsk],
-    dues: &[Due],
 ) -> Result<(), AllocError>
     requires { from ≤ length session.now.entries }
     ensures noted { OnOk result (NotesAnswers session.now.known.names
         (drop from session.now.entries) first asks.now gone.old gone.new) }
-    ensures joined { OnOk result (tried.new ≡ tried.old ++ instances_of dues.now) }
     ensures real { gone.new.real ≡ gone.old.real }
 {
-    gone.note(session.facts(), &session.entries()[from..], first, asks)?;
-    join(tried, dues)
+    gone.note(session.facts(), &session.entries()[from..], first, asks)
 }
 
 /// Runs the next batch of the dream, as far as calls are left, or answers None where nothing is
 /// left to ask.
 fn next_batch<H: Host, O: Sink>(
-    alloc: Global,
-    task: &Task,
-    head: &Head,
-    session: &mut Session,
-    lines: &mut Lines,
+    desk: &mut Desk<'_>,
     host: &mut H,
     out: &mut O,
     gone: &mut Gone,
     tried: &mut Tried,
     entries: &[OptEntry],
 ) -> Result<Option<Batch>, RunFault>
-    requires runnable { IsRunnable task.now head.now }
-    requires rests { Rests task.now head.now session.old lines.old (H.running host.old)
-        (H.spoken host.old) }
-    requires may { MayGoOn head.now task.now gone.old session.old }
-    ensures rests { OnOk result (Rests task.now head.now session.new lines.new (H.running host.new)
-        (H.spoken host.new)) }
-    ensures ran { IfOk result (λ b. (sent : List AnySent)
-        → IsProgress task.now session.old.entries gone.old sent
-        → RanNext head.now task.now gone.old.real entries.now session.old session.new gone.new
-        tried.old tried.new sent b) }
-    ensures asks { IfOk result (Called head.now task.now session.old session.new (H.log host.old)
-        (H.log host.new)) }
-    ensures adds { OnOk result (GoesInOrder session.old.entries session.new.entries
-        (O.taken out.old) (O.taken out.new) (Runs task.now head.now session.old.entries
-        session.new.entries (H.log host.old) (H.log host.new))) }
-    ensures stopped { IfErr result (λ fault. (sent : List AnySent)
-        → IsProgress task.now session.old.entries gone.old sent
-        → Stopped head.now.version task.now (workers_in head.now)
-        (IsFrontOfBatches head.now task.now gone.old.real entries.now sent session.old.entries)
-        session.old.entries fault (O.taken out.old) (O.taken out.new) (H.spoken host.new)
-        (RunBreaks task.now head.now session.old.entries fault (H.log host.old) (H.log host.new))) }
-    ensures state { Same (H.running host.new) (is_child_running lines.new) }
-    ensures causes { AreCaused H.last (H.faults host.old) (H.faults host.new) (O.faults out.old)
-        (O.faults out.new) result }
+    requires rests { RestsAt desk.old (host_told H.running H.spoken H.log H.faults host.old) }
+    requires may { MayGoOn desk.old.head desk.old.task gone.old desk.old.state }
+    ensures goes { OnBatch desk.old desk.new (stretch H.last H.running H.spoken H.log H.faults
+        O.taken O.faults host.old host.new out.old out.new)
+        (RanNextBatch desk.old.head desk.old.task entries.now desk.old.state desk.new.state
+        gone.old gone.new tried.old tried.new (H.log host.old) (H.log host.new))
+        (IsFrontOfNext desk.old.head desk.old.task entries.now gone.old desk.old.state.entries)
+        result }
 {
-    let asks = gone.next_asks(task, session.facts(), session.queue(), entries)?;
+    let facts = desk.session().facts();
+    let queue = desk.session().queue();
+    let asks = gone.next_asks(desk.task(), facts, queue, entries)?;
     if asks.as_slice().is_empty() {
         return Ok(None);
     }
-    let dues = dues_of(alloc, session.queue(), asks.as_slice())?;
-    let first = session.asks() + 1;
-    let from = session.entries().len();
-    match batch(task, head, session, lines, host, out, dues.as_slice())? {
+    let dues = dues_of(desk.alloc(), queue, asks.as_slice())?;
+    let first = desk.session().asks() + 1;
+    let from = desk.session().entries().len();
+    match desk.batch(host, out, dues.as_slice())? {
         Batch::CallsSpent => Ok(Some(Batch::CallsSpent)),
         Batch::Done => {
-            note(
-                session,
-                gone,
-                tried,
-                from,
-                first,
-                asks.as_slice(),
-                dues.as_slice(),
-            )?;
+            note(desk.session(), gone, from, first, asks.as_slice())?;
+            tried.join(dues.as_slice())?;
             Ok(Some(Batch::Done))
         }
     }
@@ -113,41 +79,24 @@ fn next_batch<H: Host, O: Sink>(
 /// Runs all batches of a dream of which nothing was asked, as far as calls are left. What is asked
 /// was tried then.
 pub(crate) fn run_batches<H: Host, O: Sink>(
-    alloc: Global,
-    task: &Task,
-    head: &Head,
-    session: &mut Session,
-    lines: &mut Lines,
+    desk: &mut Desk<'_>,
     host: &mut H,
     out: &mut O,
     tried: &mut Tried,
-    entries: &[OptEntry],
-    real: u32,
+    needs: &Needs<'_>,
 ) -> Result<Batch, RunFault>
-    requires runnable { IsRunnable task.now head.now }
-    requires rests { Rests task.now head.now session.old lines.old (H.running host.old)
-        (H.spoken host.old) }
-    requires left { length session.old.asked < head.now.calls }
-    ensures rests { OnOk result (Rests task.now head.now session.new lines.new (H.running host.new)
-        (H.spoken host.new)) }
-    ensures ran { IfOk result (RanBatches head.now task.now real entries.now session.old
-        session.new tried.old tried.new) }
-    ensures adds { OnOk result (GoesInOrder session.old.entries session.new.entries
-        (O.taken out.old) (O.taken out.new) (RunsOn task.now head.now session.old.entries
-        session.new.entries (H.log host.old) (H.log host.new))) }
-    ensures stopped { IfErr result (λ fault. Stopped head.now.version task.now (workers_in head.now)
-        (IsFrontOfBatches head.now task.now real entries.now [] session.old.entries)
-        session.old.entries fault (O.taken out.old) (O.taken out.new) (H.spoken host.new)
-        (RunBreaks task.now head.now session.old.entries fault (H.log host.old) (H.log host.new))) }
-    ensures state { Same (H.running host.new) (is_child_running lines.new) }
-    ensures causes { AreCaused H.last (H.faults host.old) (H.faults host.new) (O.faults out.old)
-        (O.faults out.new) result }
+    requires rests { RestsAt desk.old (host_told H.running H.spoken H.log H.faults host.old) }
+    requires left { length desk.old.state.asked < desk.old.head.calls }
+    ensures goes { OnBatches desk.old desk.new (stretch H.last H.running H.spoken H.log H.faults
+        O.taken O.faults host.old host.new out.old out.new)
+        (RanBatches desk.old.head desk.old.task needs.now.real needs.now.entries.now
+        desk.old.state desk.new.state tried.old tried.new)
+        (IsFrontOfBatches desk.old.head desk.old.task needs.now.real needs.now.entries.now []
+        desk.old.state.entries) result }
 {
-    let mut gone = Gone::new(alloc, real);
+    let mut gone = Gone::new(desk.alloc(), needs.real);
     'batches: loop {
-        let ran = next_batch(
-            alloc, task, head, session, lines, host, out, &mut gone, tried, entries,
-        )?;
+        let ran = next_batch(desk, host, out, &mut gone, tried, needs.entries)?;
         match ran {
             None => return Ok(Batch::Done),
             Some(ended) => match ended {

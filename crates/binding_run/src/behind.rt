@@ -1,60 +1,33 @@
 //! Batches of a dream behind a line that has them.
-ghost use Rattle.std.specs.Prelude.{IfOk, IfErr, OnOk};
 ghost use Rattle.binding_run.specs.Batching.{IsFrontBehindLine, MayRunBehind, RanBehindLine};
-ghost use Rattle.io_world.specs.Talks.{Same};
-ghost use Rattle.level_run.specs.Advancing.{Advances, TurnBreaks};
-ghost use Rattle.round_run.specs.Batches.{IsRunnable};
-ghost use Rattle.round_run.specs.Dialogue.{workers_in};
-ghost use Rattle.round_run.specs.Held.{is_child_running};
-ghost use Rattle.round_run.specs.Resting.{AreCaused, GoesInOrder, Rests};
-ghost use Rattle.round_run.specs.Rolling.{Stopped};
+ghost use Rattle.round_run.specs.Desk.{OnTurn, RestsAt};
+ghost use Rattle.round_run.specs.Told.{stretch, host_told};
 
-use crate::batches::run_batches;
+use crate::batches::{Needs, run_batches};
 use io_world::{Host, Sink};
-use level_run::{Batch, Lines, RunFault, mark};
-use optimistic_set::{OptEntry, Tried};
-use session_core::Session;
-use std::alloc::Global;
-use task_model::Task;
-use transcript_model::{Entry, Head};
+use level_run::{Batch, Desk, RunFault};
+use optimistic_set::Tried;
+use transcript_model::Entry;
 
 /// Puts an entry behind the transcript that batches may follow, and runs all batches of a dream
 /// behind it, as far as calls are left.
 pub(crate) fn run_behind<H: Host, O: Sink>(
-    alloc: Global,
-    task: &Task,
-    head: &Head,
-    session: &mut Session,
-    lines: &mut Lines,
+    desk: &mut Desk<'_>,
     host: &mut H,
     out: &mut O,
     tried: &mut Tried,
     line: Entry,
-    entries: &[OptEntry],
-    real: u32,
+    needs: &Needs<'_>,
 ) -> Result<Batch, RunFault>
-    requires runnable { IsRunnable task.now head.now }
-    requires rests { Rests task.now head.now session.old lines.old (H.running host.old)
-        (H.spoken host.old) }
-    requires may { MayRunBehind head.now line session.old }
-    ensures rests { OnOk result (Rests task.now head.now session.new lines.new (H.running host.new)
-        (H.spoken host.new)) }
-    ensures ran { IfOk result (RanBehindLine head.now task.now real entries.now line
-        session.old session.new tried.old tried.new) }
-    ensures adds { OnOk result (GoesInOrder session.old.entries session.new.entries
-        (O.taken out.old) (O.taken out.new) (Advances task.now head.now session.old.entries
-        session.new.entries (H.log host.old) (H.log host.new))) }
-    ensures stopped { IfErr result (λ fault. Stopped head.now.version task.now (workers_in head.now)
-        (IsFrontBehindLine head.now task.now real entries.now session.old.entries line)
-        session.old.entries fault (O.taken out.old) (O.taken out.new) (H.spoken host.new)
-        (TurnBreaks task.now head.now session.old.entries fault (H.log host.old)
-        (H.log host.new))) }
-    ensures state { Same (H.running host.new) (is_child_running lines.new) }
-    ensures causes { AreCaused H.last (H.faults host.old) (H.faults host.new) (O.faults out.old)
-        (O.faults out.new) result }
+    requires rests { RestsAt desk.old (host_told H.running H.spoken H.log H.faults host.old) }
+    requires may { MayRunBehind desk.old.head line desk.old.state }
+    ensures goes { OnTurn desk.old desk.new (stretch H.last H.running H.spoken H.log H.faults
+        O.taken O.faults host.old host.new out.old out.new)
+        (RanBehindLine desk.old.head desk.old.task needs.now.real needs.now.entries.now line
+        desk.old.state desk.new.state tried.old tried.new)
+        (IsFrontBehindLine desk.old.head desk.old.task needs.now.real needs.now.entries.now
+        desk.old.state.entries line) result }
 {
-    mark(session, out, line)?;
-    run_batches(
-        alloc, task, head, session, lines, host, out, tried, entries, real,
-    )
+    desk.mark(out, line)?;
+    run_batches(desk, host, out, tried, needs)
 }

@@ -3,10 +3,10 @@
 #![tactic(auto)]
 
 mod adaptive_mode;
+mod all_batches;
 mod batches;
 mod behind;
 mod binding_mode;
-mod dreamt;
 mod picks;
 
 pub use adaptive_mode::adaptive;

@@ -14,7 +14,7 @@ use crate::taken::Listing;
 use crate::thin::thin;
 use crate::trial::{Kept, Trial, kept_of};
 use crate::wanted::{Wanted, places_named};
-use best_first::{Found, RelaxedPlan, search};
+use best_first::{Found, RelaxedPlan, out_of_reach, search};
 use optimistic_set::{OptEntry, OptimisticFault, Supposed, Tried, optimistic};
 use session_core::Session;
 use shown_plan::name_steps;
@@ -147,6 +147,9 @@ fn dream_over(
 {
     let look = supposed.look();
     let mut estimate = Box::new(alloc, RelaxedPlan::new(alloc, task, &look)?)?;
+    if out_of_reach(alloc, task, &look, &*estimate)? {
+        return Ok(Dreamt::Empty);
+    }
     match search(alloc, task, &look, states, &mut *estimate)? {
         Found::Plan(plan, cost) => thinned(alloc, task, supposed, plan, cost),
         Found::Nothing => Ok(Dreamt::Empty),

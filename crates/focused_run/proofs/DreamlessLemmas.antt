@@ -13,7 +13,8 @@ use Rattle.level_run.proofs.TurnsFrontLemmas.{front_fallback, front_level, front
 use Rattle.level_run.proofs.TurnsLevelLemmas.{batch_asks, turn_marked}
 use Rattle.level_run.proofs.TurnsOutcomeLemmas.{spent_sure}
 use Rattle.level_run.specs.Advancing.{Falls, Fits, IsFrontOfTurn}
-use Rattle.level_run.specs.Turns.{IsFrontOfFallback, IsMarked, RanFallback, cut_by}
+use Rattle.level_run.specs.Turns.{IsFrontOfFallback, RanFallback, cut_by}
+use Rattle.round_run.specs.TurnLines.{IsMarked}
 use Rattle.level_run.specs.declared.turns.Turned.{Turned}
 use Rattle.level_run.specs.declared.turns.Turned.TheVariants as turned
 use Rattle.mode_turns.specs.Modes.{TurnOf}

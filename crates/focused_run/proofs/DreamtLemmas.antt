@@ -12,34 +12,26 @@ use Rattle.focused_run.proofs.FocusingLemmas.{Dreamt, dream_front, dream_turn, j
 use Rattle.focused_run.specs.Focusing.{HasRoom, RanFocused, carried, idle_of}
 use Rattle.instance_queue.specs.Level.{instances_of}
 use Rattle.instance_queue.specs.declared.due.Due.{Due}
-use Rattle.io_world.specs.Talks.{Event, Talk}
+use Rattle.io_world.specs.Talks.{Talk}
 use Rattle.lemmas.proofs.Ascending.{contains_cases, contains_here, contains_later, contains_none}
 use Rattle.lemmas.proofs.Bools.{cond_le_one}
 use Rattle.lemmas.proofs.Distinct.{distinct_cons, distinct_tail, head_is_new}
 use Rattle.lemmas.proofs.Members.{distinct_nil}
 use Rattle.lemmas.specs.Lists.{AreDistinct}
-use Rattle.level_run.proofs.AdvancingLemmas.{quiet_turn}
 use Rattle.level_run.proofs.ReportsCountLemmas.{asked_counts}
 use Rattle.level_run.proofs.TurnsLevelLemmas.{batch_cut}
 use Rattle.level_run.proofs.TurnsOutcomeLemmas.{all_known, names_known, notes_are, spent_sure}
-use Rattle.level_run.specs.Advancing.{Fits, IsFrontOfTurn, TurnBreaks}
+use Rattle.level_run.specs.Advancing.{Fits, IsFrontOfTurn}
+use Rattle.round_run.specs.TurnLines.{opens_requests}
 use Rattle.level_run.specs.Asking.{IsAskedBehind, IsFrontBehind, MayAskBehind, RanBehind}
-use Rattle.level_run.specs.Turns.{cut_by, opens_requests}
+use Rattle.level_run.specs.Turns.{cut_by}
 use Rattle.level_run.specs.declared.turns.Turned.{Turned}
 use Rattle.level_run.specs.declared.turns.Turned.TheVariants as turned
 use Rattle.mode_turns.specs.Modes.{TurnOf}
-use Rattle.round_run.proofs.BreakingLemmas.{tells_memory}
-use Rattle.round_run.proofs.StoppedLemmas.{stopped_memory}
-use Rattle.round_run.proofs.TalkingLemmas.{dialogue_told, told_of}
-use Rattle.round_run.specs.Batches.{AreStarted}
-use Rattle.round_run.specs.Dialogue.{workers_in}
 use Rattle.round_run.specs.Held.{Held}
 use Rattle.round_run.specs.Resting.{Rests}
-use Rattle.round_run.specs.Rolling.{Stopped}
-use Rattle.round_run.specs.Talking.{held_of}
 use Rattle.round_run.specs.declared.ending.Batch.{Batch}
 use Rattle.round_run.specs.declared.ending.Batch.TheVariants.{Done, CallsSpent}
-use Rattle.round_run.specs.declared.fault.RunFault.TheVariants.{Memory}
 use Rattle.lemmas.proofs.Counts.{count_joined}
 use Rattle.session_core.specs.Session.{IsLearnt, IsSession}
 use Rattle.session_core.specs.State.{State}
@@ -54,10 +46,10 @@ use Rattle.transcript_model.proofs.LegalNumberLemmas.{asks_marked}
 use Rattle.transcript_model.proofs.LegalStepLemmas.{mark_adds}
 use Rattle.transcript_model.specs.Dreaming.{Sent, next_sent, sent_instances}
 use Rattle.transcript_model.specs.Laws.{AddsMark}
-use Rattle.transcript_model.specs.Legal.{HasNoneOpen, IsLegal, asks_of, is_level, is_mark}
+use Rattle.transcript_model.specs.Legal.{IsLegal, asks_of, is_level, is_mark}
 use Rattle.transcript_model.specs.Rounds.{calls_left, limits_of}
 use Rattle.transcript_model.specs.Transcript.{known_of, names_of, notes_of}
-use Rattle.transcript_model.specs.Turns.{Kept, is_cut}
+use Rattle.transcript_model.specs.Turns.{is_cut}
 use Rattle.transcript_model.specs.declared.entry.Entry.{Entry}
 use Rattle.transcript_model.specs.declared.entry.Entry.TheVariants as entry
 use Rattle.transcript_model.specs.declared.head.Head.{Head}
@@ -90,39 +82,26 @@ kept_distinct p (y ∷ ys) distinct = by (p y) (kept_distinct p ys (distinct_tai
 pub idle_one : (tried : List Instance) → idle_of tried ≤ 1
 idle_one tried = cond_le_one (nat_lt 0 (length tried))
 
--- ---- before anything is done
-
--- memory is wanting
-pub memory_stops : (head : Head) (task : Task) (kept : Kept) (s : State) (held : Held) (running : ℕ → Bool)
-    (spoken : ℕ → Option Talk) (sink : Option (List ℕ)) (log : Option (List Event)) → Rests task head s held running spoken
-    → Stopped head.version task (workers_in head) (IsFrontOfTurn task head kept s.entries) s.entries Memory sink sink spoken
-    (TurnBreaks task head s.entries Memory log log)
-memory_stops head task kept s held running spoken sink log rests =
-    let works = rests.works in
-    let session = works.listens.session in
-    let front = IsFrontOfTurn task head kept s.entries in
-    stopped_memory head.version task (workers_in head) spoken front s.entries Memory sink
-    (TurnBreaks task head s.entries Memory log log) (subst (λ v. IsLegal v task s.entries) works.of.version session.legal) (inl refl)
-    (dialogue_told task head.version (workers_in head) s.entries (length s.asked) running (held_of held) spoken session.counted
-    (subst (λ ps. AreStarted ps (length s.asked) running) works.of.pools rests.started)
-    (told_of head s works.of task s.entries running (held_of held) spoken works.listens.told))
-    (quiet_turn task head front entry.Level refl s.entries Memory log
-    (tells_memory (HasNoneOpen s.entries) Memory session.none_open refl) [] (inl refl)) refl
+-- ---- what is asked of a dream
 
 -- what is asked first is that after the session's transcript
-pub firsts_after : (task : Task) (s : State) → s.failed ≡ false → IsLearnt s → IsSession task s → (known counted : Known)
-    (notes : List Note) (real : ℕ) (entries : List dreams.Entry) (dues slice : List Due) → known ≡ s.known → counted ≡ s.known
-    → notes ≡ s.notes → real ≡ length counted.names → slice ≡ dues → AreFirstAsks task known notes real entries dues
+pub firsts_after : (task : Task) (s : State) → s.failed ≡ false → IsLearnt s → IsSession task s → (x y : State) (at : Task)
+    (known : Known) (notes : List Note) (real : ℕ) (list entries : List dreams.Entry) (dues slice : List Due)
+    → known ≡ x.known → x ≡ s → notes ≡ y.notes → y ≡ s → at ≡ task → real ≡ length known.names → list ≡ entries → slice ≡ dues
+    → AreFirstAsks at known notes real list dues
     → AreFirstAsks task (known_of task s.entries) (notes_of task s.entries) (length (names_of task s.entries)) entries slice
-firsts_after task s works learnt h known counted notes real entries dues slice known_is counted_is notes_is real_is slice_is asks =
-    let names = real_is ∙ ap length (names_known task s works learnt h counted counted_is) in
+firsts_after task s works learnt h x y at known notes real list entries dues slice known_is first notes_is second same real_is needs is
+    asks =
+    let facts = known_is ∙ ap (λ (z : State). z.known) first in
+    let names = real_is ∙ ap length (names_known task s works learnt h known facts) in
     subst (λ ds. AreFirstAsks task (known_of task s.entries) (notes_of task s.entries) (length (names_of task s.entries)) entries ds)
-    (sym slice_is)
+    (sym is)
     (subst (λ n. AreFirstAsks task (known_of task s.entries) (notes_of task s.entries) n entries dues) names
-    (subst (λ ns. AreFirstAsks task (known_of task s.entries) ns real entries dues) (notes_is ∙ notes_are task s works learnt h)
-    (subst (λ k. AreFirstAsks task k notes real entries dues) (all_known task s works learnt h known known_is) asks)))
-
--- ---- what is asked of a dream
+    (subst (λ ns. AreFirstAsks task (known_of task s.entries) ns real entries dues)
+    (notes_is ∙ ap (λ (z : State). z.notes) second ∙ notes_are task s works learnt h)
+    (subst (λ k. AreFirstAsks task k notes real entries dues) (all_known task s works learnt h known facts)
+    (subst (λ es. AreFirstAsks task known notes real es dues) needs
+    (subst (λ t. AreFirstAsks t known notes real list dues) same asks)))))
 
 module _ (head : Head) (task : Task) (fit : IsFit task) (is : head.mode ≡ Focused) (tried : List Instance) (line : Entry)
     (entries : List dreams.Entry) (old : State) (legal : IsLegal head.version task old.entries)

@@ -1,11 +1,12 @@
 -- Turns of focused mode, and what would go on as one.
-use Rattle.std.proofs.Common.{arith, ℕ, zero, suc, ◌<◌, ◌≡◌, ◌+◌, nat_lt, Bool, true, false, List, [], ◌∷◌, ◌++◌, length, take, refl, sym, ap, subst, ◌∙◌, append_assoc, inl, inr}
+use Rattle.std.proofs.Common.{◌≡◌, ◌+◌, nat_lt, Bool, true, false, List, [], ◌∷◌, ◌++◌, length, take, refl, sym, ap, subst, ◌∙◌, append_assoc, inl, inr}
 use Rattle.std.proofs.lemmas.Bool.{ltb-false}
 use Rattle.std.proofs.lemmas.List.{take_all}
 use Rattle.focused_run.specs.Focusing.{IsDreamLine, MayFallBack, carried, carrying}
 use Rattle.level_run.specs.Advancing.{IsFrontOfTurn}
 use Rattle.level_run.specs.Asking.{IsAskedBehind, IsFrontBehind}
-use Rattle.level_run.specs.Turns.{IsFrontOfFallback, opens_requests}
+use Rattle.level_run.specs.Turns.{IsFrontOfFallback}
+use Rattle.round_run.specs.TurnLines.{opens_requests}
 use Rattle.mode_turns.specs.Modes.{TurnOf}
 use Rattle.task_model.specs.Dreams as dreams
 use Rattle.task_model.specs.declared.stream.Instance.{Instance}
@@ -23,11 +24,7 @@ use Rattle.transcript_model.specs.declared.head.Head.{Head}
 use Rattle.transcript_model.specs.declared.head.Mode.{Mode}
 use Rattle.transcript_model.specs.declared.head.Mode.TheVariants.{Incremental, Focused, Binding, Adaptive}
 
--- ---- no dream, and the line of one
-
-pub some_from : (n : ℕ) → (n ≡ 0 → ⊥) → 0 < n
-some_from zero not = absurd (not refl)
-some_from (suc n) not = omega arith
+-- ---- the line of a dream
 
 -- a dream whose line this is
 pub record Dreamt (limits : Limits) (task : Task) (before : List Entry) (tried : List Instance) (line : Entry)

@@ -1,3 +1,4 @@
 pub mod DreamlessLemmas
 pub mod DreamtLemmas
 pub mod FocusingLemmas
+pub mod PartLemmas

@@ -2,7 +2,7 @@
 use Rattle.std.specs.Prelude.{◌≡◌, ℕ, ◌<◌, ◌≤◌, ⊤, List, [], length, nat_lt, true, cond, count_by}
 use Rattle.std.specs.List.{list_all}
 use Rattle.instance_queue.specs.declared.due.Due.{Due}
-use Rattle.level_run.specs.Advancing.{RanTurn}
+use Rattle.level_run.specs.Advancing.{IsFrontOfTurn, RanTurn}
 use Rattle.level_run.specs.Turns.{IsTurn}
 use Rattle.level_run.specs.declared.turns.Turned.{Turned}
 use Rattle.session_core.specs.State.{State}
@@ -66,3 +66,14 @@ MayFallBack Incremental skeletons = ⊥
 MayFallBack Focused skeletons = Unit {0}
 MayFallBack Binding skeletons = Unit {0}
 MayFallBack Adaptive skeletons = list_all (λ (s : Skeleton). s.retired) skeletons ≡ true
+
+-- the same of a turn that found no dream, whatever skeletons the mode keeps
+abbrev pub RanDreamless : Task → Head → List Instance → List Instance → State → State → Turned → Type 0
+RanDreamless task head tried next old new t =
+    (skeletons : List Skeleton) → MayFallBack head.mode skeletons → RanDreaming task head skeletons tried next old new t
+
+-- the first entries of what would be that
+abbrev pub IsFrontOfDreamless : Task → Head → List Instance → List Entry → List Entry → Type 0
+IsFrontOfDreamless task head tried before es =
+    (skeletons : List Skeleton) → MayFallBack head.mode skeletons
+    → IsFrontOfTurn task head (carrying skeletons tried) before es

@@ -1,81 +1,78 @@
-//! Turns with a dream.
-ghost use Rattle.std.specs.Prelude.{◌≡◌, ◌++◌, IfOk, IfErr, OnOk};
-ghost use Rattle.focused_run.specs.Focusing.{HasRoom, IsDreamLine, RanFocused, carried};
-ghost use Rattle.instance_queue.specs.Level.{instances_of};
-ghost use Rattle.io_world.specs.Talks.{Same};
-ghost use Rattle.level_run.specs.Advancing.{Advances, IsFrontOfTurn, TurnBreaks};
-ghost use Rattle.level_run.specs.Turns.{IsRunnableIn};
-ghost use Rattle.round_run.specs.Dialogue.{workers_in};
-ghost use Rattle.round_run.specs.Held.{is_child_running};
-ghost use Rattle.round_run.specs.Resting.{AreCaused, GoesInOrder, Rests};
-ghost use Rattle.round_run.specs.Rolling.{Stopped};
-ghost use Rattle.transcript_model.specs.Rounds.{limits_of};
-ghost use Rattle.transcript_model.specs.declared.head.Mode.TheVariants.{Focused};
+//! What is dreamt in a turn.
+ghost use Rattle.std.specs.Prelude.{IfOk};
+ghost use Rattle.focused_run.specs.NextDreams.{IsNextDream};
+ghost use Rattle.level_run.specs.Deciding.{MayDecide, MayDecideAt};
 
-use crate::dreamless::turned;
-use dream_asks::first_asks;
-use instance_queue::Due;
-use io_world::{Host, Sink};
-use level_run::{Lines, RunFault, Turned, ask_behind};
+use dreaming::{Dreamt, dream};
+use level_run::{Desk, known_plan};
 use optimistic_set::{OptEntry, Tried};
 use session_core::Session;
 use std::alloc::{AllocError, Global};
 use task_model::Task;
-use transcript_model::{Entry, Head};
+use transcript_model::{Entry, Head, Outcome};
 
-/// Puts the instances behind those that were tried.
-///
-/// # Errors
-/// Only where memory is wanting.
-pub fn join(tried: &mut Tried, asks: &[Due]) -> Result<(), AllocError>
-    ensures { OnOk result (tried.new ≡ tried.old ++ instances_of asks.now) }
-{
-    for ask in asks {
-        tried.add(&ask.instance)?;
-    }
-    Ok(())
+/// A dream as it is told.
+#[derive(Drop)]
+pub struct LinedDream {
+    /// Its line.
+    pub line: Entry,
+    /// The entries that it needs.
+    pub entries: Vec<OptEntry>,
 }
 
-/// Says what was dreamt, and asks what it needs first, as long as calls are left; what is asked was
-/// tried then.
-pub(crate) fn with_dream<H: Host, O: Sink>(
+/// What is dreamt over all that may be supposed.
+#[derive(Drop)]
+pub enum NextDream {
+    /// A plan that needs none of it: the run ends with this outcome.
+    Known(Outcome),
+    /// A plan that needs some of it.
+    Lined(LinedDream),
+    /// None.
+    Empty,
+}
+
+/// What is dreamt after the transcript, where these were tried. Fails only where memory is wanting.
+pub fn next_dream(desk: &Desk<'_>, tried: &Tried) -> Result<NextDream, AllocError>
+    requires may { MayDecideAt desk.now }
+    ensures { IfOk result (IsNextDream desk.now.head desk.now.task desk.now.state.entries
+        tried.now) }
+{
+    dream_over(
+        desk.alloc(),
+        desk.task(),
+        desk.head(),
+        desk.session(),
+        tried,
+    )
+}
+
+/// The same over the parts.
+fn dream_over(
     alloc: Global,
     task: &Task,
     head: &Head,
-    session: &mut Session,
-    lines: &mut Lines,
-    host: &mut H,
-    out: &mut O,
-    tried: &mut Tried,
-    line: Entry,
-    entries: &[OptEntry],
-) -> Result<Turned, RunFault>
-    requires runnable { IsRunnableIn Focused task.now head.now }
-    requires rests { Rests task.now head.now session.old lines.old (H.running host.old)
-        (H.spoken host.old) }
-    requires room { HasRoom head.now session.old }
-    requires dream { IsDreamLine (limits_of head.now) task.now session.old.entries tried.old line
-        entries.now }
-    ensures rests { OnOk result (Rests task.now head.now session.new lines.new (H.running host.new)
-        (H.spoken host.new)) }
-    ensures ran { IfOk result (RanFocused task.now head.now tried.old tried.new
-        session.old session.new) }
-    ensures adds { OnOk result (GoesInOrder session.old.entries session.new.entries
-        (O.taken out.old) (O.taken out.new) (Advances task.now head.now session.old.entries
-        session.new.entries (H.log host.old) (H.log host.new))) }
-    ensures stopped { IfErr result (λ fault. Stopped head.now.version task.now (workers_in head.now)
-        (IsFrontOfTurn task.now head.now (carried tried.old) session.old.entries)
-        session.old.entries fault (O.taken out.old) (O.taken out.new) (H.spoken host.new)
-        (TurnBreaks task.now head.now session.old.entries fault (H.log host.old)
-        (H.log host.new))) }
-    ensures state { Same (H.running host.new) (is_child_running lines.new) }
-    ensures causes { AreCaused H.last (H.faults host.old) (H.faults host.new) (O.faults out.old)
-        (O.faults out.new) result }
+    session: &Session,
+    tried: &Tried,
+) -> Result<NextDream, AllocError>
+    requires may { MayDecide task.now head.now session.now }
+    ensures { IfOk result (IsNextDream head.now task.now session.now.entries tried.now) }
 {
-    let real = session.facts().name_count();
-    let asks = first_asks(alloc, task, session.facts(), session.queue(), entries, real)?;
-    join(tried, asks.as_slice())?;
-    let first = asks.as_slice();
-    let ended = ask_behind(task, head, session, lines, host, out, line, first)?;
-    Ok(turned(ended))
+    let dreamt = dream(alloc, task, session, tried, head.depth, head.states)?;
+    match dreamt {
+        Dreamt::Empty => Ok(NextDream::Empty),
+        Dreamt::Dream {
+            uses,
+            steps,
+            entries,
+            plan,
+            cost,
+        } => {
+            if uses.as_slice().is_empty() {
+                let outcome = known_plan(alloc, task, head, session, &plan, cost)?;
+                return Ok(NextDream::Known(outcome));
+            }
+            let line = Entry::Dream { uses, steps };
+            Ok(NextDream::Lined(LinedDream { line, entries }))
+        }
+    }
 }

@@ -7,3 +7,5 @@ pub mod TurnsLevelLemmas
 pub mod TurnsOutcomeLemmas
 pub mod AskingLemmas
 pub mod TabledLemmas
+pub mod LoopLemmas
+pub mod ReportingLemmas

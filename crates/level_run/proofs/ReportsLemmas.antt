@@ -21,8 +21,8 @@ use Rattle.transcript_model.specs.Rounds.{limits_of}
 use Rattle.report_text.proofs.PrintsLemmas.{appends_none, appends_then}
 use Rattle.round_run.proofs.StoppedLemmas.{lines_of_one, off_none}
 use Rattle.io_world.specs.Talks.{Event, Same, Talk}
-use Rattle.level_run.proofs.AdvancingLemmas.{needed_more, needed_stops}
-use Rattle.level_run.specs.Advancing.{TurnBreaks}
+use Rattle.round_run.proofs.TurnLineLemmas.{needed_more, needed_stops}
+use Rattle.round_run.specs.TurnLines.{TurnBreaks, HasTurnLine}
 use Rattle.round_run.proofs.BreakingRunLemmas.{broken_more, broken_of, still_breaks, stops_then_stops}
 use Rattle.round_run.proofs.CallsRunLemmas.{stops_none}
 use Rattle.round_run.proofs.CallsStopLemmas.{ran_of, ran_stopped}
@@ -34,7 +34,7 @@ use Rattle.round_run.specs.Rolling.{Goes, Stopped}
 use Rattle.report_text.specs.Prints.{CutOff}
 use Rattle.round_run.specs.Stops.{StopsAt}
 use Rattle.table_runs.specs.Tabled.{IsTabled}
-use Rattle.level_run.specs.Turns.{HasTurnLine, IsFrontOfRun}
+use Rattle.level_run.specs.Turns.{IsFrontOfRun}
 use Rattle.round_run.specs.declared.fault.RunFault.{RunFault}
 use Rattle.round_run.specs.declared.fault.RunFault.TheVariants.{Answer, Generator, Write, Memory}
 use Rattle.level_run.specs.declared.mode_run.Ran.{Ran}

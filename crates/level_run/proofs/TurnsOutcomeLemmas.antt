@@ -200,6 +200,12 @@ pub found_limit : (task : Task) (known : Known) (limit : ℕ) (f : Found) → f 
     → IsFar task known limit
 found_limit task known limit f is far = far (subst IsLimit (sym is) tt)
 
+-- where there is no plan, more states than the limit are within the steps of each
+pub far_where_none : (task : Task) (known : Known) (limit : ℕ) → ¬ (IsSolvable task known)
+    → MoreThan limit (IsReached task known) → IsFar task known limit
+far_where_none task known limit none more =
+    record { reached = more; nearer = λ steps cost valid. absurd (none (steps, cost, valid)) }
+
 -- ---- what was decided
 
 pub decided_outcome : (head : Head) (task : Task) (entries : List Entry) (asks : ℕ) (d : Decision) (o : Outcome)

@@ -13,31 +13,12 @@ use Rattle.transcript_model.specs.declared.outcome.LimitKind.TheVariants.{Calls}
 use Rattle.transcript_model.specs.declared.outcome.Outcome.{Outcome}
 use Rattle.transcript_model.specs.declared.outcome.Outcome.TheVariants as outcome
 use Rattle.level_run.specs.Reports.{IsRun}
-use Rattle.level_run.specs.Turns.{HasTurnLine, IsSettledEnd, IsSure}
+use Rattle.round_run.specs.TurnLines.{HasTurnLine}
+use Rattle.level_run.specs.Turns.{IsSettledEnd, IsSure}
 use Rattle.level_run.specs.declared.turns.Turned.{Turned}
 use Rattle.level_run.specs.declared.turns.Turned.TheVariants.{Done, Spent, Known}
-use Rattle.round_run.specs.Breaking.{RunBreaks}
-use Rattle.round_run.specs.Calls.{Runs}
 use Rattle.round_run.specs.Dialogue.{Dialogue, workers_in}
 use Rattle.round_run.specs.Rolling.{IsFrontPart}
-use Rattle.round_run.specs.declared.fault.RunFault.{RunFault}
-
--- ---- calls on children
-
--- These entries came by the calls that came to the log. None was made but where a line came that may have requests
--- behind it, and none where no request came.
-pub record Advances (task : Task) (head : Head) (before after : List Entry)
-    (was now : Option (List Event)) : Type 0 where
-  pub runs : Runs task head before after was now
-  pub needed : (now ≡ was) ⊎ HasTurnLine head.mode runs.more
-  pub untouched : asks_of runs.more ≡ 0 → now ≡ was
-
--- The same where it broke off: a call was made only where such a line stands.
-abbrev pub TurnBreaks : Task → Head → List Entry → RunFault → Option (List Event)
-    → Option (List Event) → (List Entry → Type 0) → List Entry
-    → Type 0
-TurnBreaks task head before fault old new Front more =
-    RunBreaks task head before fault old new Front more × ((new ≡ old) ⊎ HasTurnLine head.mode more)
 
 -- ---- one turn
 

@@ -2,7 +2,7 @@
 use Rattle.std.specs.Prelude.{◌≡◌, ◌<◌, List, [], ◌∷◌, ◌++◌, length, true}
 use Rattle.instance_queue.specs.Level.{instances_of}
 use Rattle.instance_queue.specs.declared.due.Due.{Due}
-use Rattle.level_run.specs.Turns.{opens_requests}
+use Rattle.round_run.specs.TurnLines.{opens_requests}
 use Rattle.round_run.specs.Batches.{EndsBatch}
 use Rattle.round_run.specs.Rolling.{IsFrontPart}
 use Rattle.round_run.specs.declared.ending.Batch.{Batch}

@@ -21,7 +21,8 @@ use Rattle.round_run.specs.Calls.{LogRan, LogStops}
 use Rattle.round_run.specs.Dialogue.{BrokenOff, Dialogue, workers_in}
 use Rattle.round_run.specs.Rolling.{Blames}
 use Rattle.table_runs.specs.Tabled.{IsTabled}
-use Rattle.level_run.specs.Turns.{HasTurnLine, IsFrontOfRun, IsSure}
+use Rattle.round_run.specs.TurnLines.{HasTurnLine}
+use Rattle.level_run.specs.Turns.{IsFrontOfRun, IsSure}
 use Rattle.round_run.specs.declared.fault.RunFault.{RunFault}
 use Rattle.round_run.specs.declared.fault.RunFault.TheVariants.{Answer, Generator, Write, Memory}
 use Rattle.level_run.specs.declared.mode_run.Ran.{Ran}

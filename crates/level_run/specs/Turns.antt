@@ -1,40 +1,28 @@
 -- How turns begin, and how they end.
-use Rattle.std.specs.Prelude.{◌≡◌, ℕ, ◌^◌, ◌<◌, ◌≤◌, nat_lt, List, [], ◌∷◌, ◌++◌, length, Bool, true, false, Some, slice_get}
+use Rattle.std.specs.Prelude.{◌≡◌, ℕ, ◌^◌, ◌<◌, ◌≤◌, nat_lt, List, ◌++◌, length, Bool, true, false}
 use Rattle.instance_queue.specs.Level.{AreDueInTurn}
 use Rattle.instance_queue.specs.declared.due.Due.{Due}
 use Rattle.session_core.specs.Ready.{AreReady}
-use Rattle.session_core.specs.Session.{IsLearnt}
 use Rattle.session_core.specs.State.{State}
 use Rattle.mode_turns.specs.Lazy.{IsFewDue, IsLazy, IsLazyEnd, IsTurnNeeded}
 use Rattle.task_model.specs.Plans.{IsFar, IsReached, MoreThan}
 use Rattle.task_model.specs.declared.stream.Instance.{Instance}
 use Rattle.task_model.specs.declared.task.Task.{Task}
-use Rattle.transcript_model.specs.Legal.{is_level}
 use Rattle.transcript_model.specs.Outcomes.{IsTrueOutcome}
 use Rattle.transcript_model.specs.Rounds.{limits_of}
 use Rattle.transcript_model.specs.Transcript.{known_of, notes_of}
 use Rattle.transcript_model.specs.Turns.{IsFallback, IsLevel, IsModeLegal, Stage, between}
 use Rattle.transcript_model.specs.declared.entry.Entry.{Entry}
-use Rattle.transcript_model.specs.declared.entry.Entry.TheVariants as entry
 use Rattle.transcript_model.specs.declared.head.Head.{Head}
-use Rattle.transcript_model.specs.declared.head.Mode.{Mode}
-use Rattle.transcript_model.specs.declared.head.Mode.TheVariants.{Incremental, Focused, Binding, Adaptive}
 use Rattle.transcript_model.specs.declared.outcome.LimitKind.TheVariants.{States}
 use Rattle.transcript_model.specs.declared.outcome.Outcome.{Outcome}
 use Rattle.transcript_model.specs.declared.outcome.Outcome.TheVariants as outcome
-use Rattle.round_run.specs.Batches.{EndsBatch, IsRunnable}
+use Rattle.round_run.specs.Batches.{EndsBatch}
 use Rattle.round_run.specs.Rolling.{IsFrontPart}
 use Rattle.round_run.specs.declared.ending.Batch.{Batch}
 use Rattle.round_run.specs.declared.ending.Batch.TheVariants.{Done, CallsSpent}
 use Rattle.level_run.specs.declared.decide.Decision.{Decision}
 use Rattle.level_run.specs.declared.decide.Decision.TheVariants.{Ends, Asks}
-
--- ---- what is asked for
-
--- the head can be run, and its mode is this
-pub record IsRunnableIn (mode : Mode) (task : Task) (head : Head) : Type 0 where
-  pub runnable : IsRunnable task head
-  pub is : head.mode ≡ mode
 
 -- ---- turns
 
@@ -90,16 +78,6 @@ pub record IsFrontOfRun (head : Head) (task : Task) (entries : List Entry) : Typ
   pub turns : IsModeLegal (limits_of head) task entries stage
   pub lazy : IsLazy (limits_of head) task entries
 
--- the mark is put behind the transcript
-pub record IsMarked (mark : Entry) (old new : State) : Type 0 where
-  pub entries : new.entries ≡ old.entries ++ mark ∷ []
-  pub asked : new.asked ≡ old.asked
-  pub version : new.version ≡ old.version
-  pub calls : new.calls ≡ old.calls
-  pub pools : new.pools ≡ old.pools
-  pub working : new.failed ≡ false
-  pub learnt : IsLearnt new
-
 -- whether calls were wanting
 abbrev pub cut_by : Batch → Bool
 cut_by Done = false
@@ -137,28 +115,3 @@ pub record RanFallback (task : Task) (head : Head) (is_tried : Bool) (dues : Lis
 abbrev pub IsFrontOfFallback : Head → Task → Bool → List Entry → List Entry → Type 0
 IsFrontOfFallback head task is_tried before =
     IsFrontPart before (λ now. (cut : Bool) × FallsBack head task is_tried before now cut)
-
--- ---- lines before requests
-
-abbrev pub is_level_or_dream : Entry → Bool
-is_level_or_dream entry.Level = true
-is_level_or_dream (entry.Dream uses steps) = true
-is_level_or_dream e = false
-
-abbrev pub is_level_or_pick : Entry → Bool
-is_level_or_pick entry.Level = true
-is_level_or_pick (entry.Pick number) = true
-is_level_or_pick e = false
-
--- Requests stand behind the line of a level; in focused and binding mode also behind a dream, and in adaptive mode also
--- behind a skeleton's pick.
-abbrev pub opens_requests : Mode → Entry → Bool
-opens_requests Incremental e = is_level e
-opens_requests Focused e = is_level_or_dream e
-opens_requests Binding e = is_level_or_dream e
-opens_requests Adaptive e = is_level_or_pick e
-
--- such a line stands in the transcript
-abbrev pub HasTurnLine : Mode → List Entry → Type 0
-HasTurnLine mode entries =
-    (k : ℕ) × (e : Entry) × (slice_get entries k ≡ Some e) × (opens_requests mode e ≡ true)

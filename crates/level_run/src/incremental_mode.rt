@@ -1,27 +1,38 @@
 //! Incremental mode.
-ghost use Rattle.std.specs.Prelude.{◌≡◌, ⊤, ℕ, false, IfOk, IfErr};
-ghost use Rattle.io_world.specs.Faults.{last_count, HasCause};
-ghost use Rattle.level_run.specs.Reports.{IsReported, IsBroken};
+ghost use Rattle.std.specs.Prelude.{⊤};
+ghost use Rattle.level_run.specs.Reporting.{EndsRun, MayRun};
 ghost use Rattle.mode_turns.specs.Modes.{nothing_kept};
-ghost use Rattle.round_run.specs.Batches.{IsRunnable};
-ghost use Rattle.round_run.specs.declared.fault.RunFault.TheVariants.{Generator, Write};
-ghost use Rattle.task_model.specs.Fit.{IsFit};
+ghost use Rattle.round_run.specs.Told.{stretch};
 ghost use Rattle.transcript_model.specs.declared.head.Mode.TheVariants.{Incremental};
 
 use crate::levels::run_level;
 use crate::mode_run::{Ran, run_mode};
+use crate::search::{PlanSearch, by_estimate};
 use crate::turns::{Turned, Turns};
+use best_first::Found;
+use fact_store::Facts;
 use instance_queue::Due;
 use io_world::{Host, Sink};
-use round_run::{Batch, Lines, RunFault};
-use session_core::Session;
-use std::alloc::Global;
+use round_run::{Batch, Desk, RunFault};
+use std::alloc::{AllocError, Global};
 use task_model::Task;
 use transcript_model::Head;
 
 /// Incremental mode: each turn is a whole level, and nothing is carried on.
 #[derive(Clone, Copy, Debug, PartialEq, Eq)]
 pub struct Levels;
+
+impl PlanSearch for Levels {
+    fn find(
+        &self,
+        alloc: Global,
+        task: &Task,
+        head: &Head,
+        facts: &Facts,
+    ) -> Result<Option<Found>, AllocError> {
+        by_estimate(alloc, task, head, facts)
+    }
+}
 
 impl Turns for Levels {
     ghost mode = { Incremental };
@@ -34,16 +45,12 @@ impl Turns for Levels {
 
     fn turn<H: Host, O: Sink>(
         &mut self,
-        alloc: Global,
-        task: &Task,
-        head: &Head,
-        session: &mut Session,
-        lines: &mut Lines,
+        desk: &mut Desk<'_>,
         host: &mut H,
         out: &mut O,
         dues: &[Due],
     ) -> Result<Turned, RunFault> {
-        match run_level(task, head, session, lines, host, out, dues)? {
+        match run_level(desk, host, out, dues)? {
             Batch::Done => Ok(Turned::Done),
             Batch::CallsSpent => Ok(Turned::Spent),
         }
@@ -65,19 +72,9 @@ pub fn incremental<H: Host, O: Sink>(
     host: &mut H,
     out: &mut O,
 ) -> Result<Ran, RunFault>
-    requires fit { IsFit task.now }
-    requires runnable { IsRunnable task.now head.now }
-    requires mode { head.now.mode ≡ Incremental }
-    requires idle { (k : ℕ) → H.running host.old k ≡ false }
-    ensures reported { IfOk result (IsReported task.now head.now (H.spoken host.new)
-        (H.log host.old) (H.log host.new) (O.taken out.old) (O.taken out.new)) }
-    ensures broken { IfErr result (IsBroken task.now head.now (H.spoken host.new) (H.log host.old)
-        (H.log host.new) (O.taken out.old) (O.taken out.new)) }
-    // Where nothing is asked no call is made on a child, so none is started without need.
-    ensures unneeded { IfOk result (λ ran. ran.asks ≡ 0 → H.log host.new ≡ H.log host.old) }
-    ensures idle { (k : ℕ) → H.running host.new k ≡ false }
-    ensures host { HasCause Generator H.last (H.faults host.old) (H.faults host.new) result }
-    ensures sink { HasCause Write last_count (O.faults out.old) (O.faults out.new) result }
+    requires may { MayRun Incremental task.now head.now (H.running host.old) }
+    ensures ran { EndsRun task.now head.now (stretch H.last H.running H.spoken H.log H.faults
+        O.taken O.faults host.old host.new out.old out.new) result }
 {
     run_mode(alloc, task, head, &mut Levels, host, out)
 }

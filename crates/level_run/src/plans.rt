@@ -1,7 +1,7 @@
 //! Plans that are valid by what is known.
-ghost use Rattle.std.specs.Prelude.{◌≡◌, ◌≤◌, false, length, IfOk};
+ghost use Rattle.std.specs.Prelude.{◌≤◌, length, IfOk};
+ghost use Rattle.level_run.specs.Deciding.{MayDecide};
 ghost use Rattle.level_run.specs.Turns.{IsSettledEnd};
-ghost use Rattle.session_core.specs.Session.{IsLearnt, IsOf, IsSession};
 ghost use Rattle.task_model.specs.Plans.{IsValid};
 ghost use Rattle.transcript_model.specs.Transcript.{known_of};
 
@@ -21,10 +21,7 @@ pub fn known_plan(
     plan: &Plan,
     cost: u64,
 ) -> Result<Outcome, AllocError>
-    requires session { IsSession task.now session.now }
-    requires head { IsOf head.now session.now }
-    requires working { session.now.failed ≡ false }
-    requires learnt { IsLearnt session.now }
+    requires may { MayDecide task.now head.now session.now }
     requires valid { IsValid task.now (known_of task.now session.now.entries) plan.now.steps cost }
     requires few { length plan.now.steps ≤ head.now.states }
     ensures { IfOk result (IsSettledEnd head.now task.now session.now.entries) }

@@ -11,7 +11,8 @@ use Rattle.round_run.specs.Dialogue.{BrokenOff, Dialogue, HasBadLine, workers_in
 use Rattle.level_run.specs.Reports as reports
 use Rattle.level_run.specs.Reports.{text_so_far, last_begins, report_of}
 use Rattle.round_run.specs.Rolling.{Blames}
-use Rattle.level_run.specs.Turns.{HasTurnLine, IsFrontOfRun}
+use Rattle.round_run.specs.TurnLines.{HasTurnLine}
+use Rattle.level_run.specs.Turns.{IsFrontOfRun}
 use Rattle.table_runs.specs.Tabled.{IsTabled}
 use Rattle.task_model.specs.Fit.{IsFit}
 use Rattle.task_model.specs.declared.task.Task.{Task}

@@ -1,5 +1,5 @@
 -- The step that a line spells.
-use Rattle.std.specs.Prelude.{◌≡◌, ℕ, List, [], ◌∷◌, ◌++◌, Option, Some, None, Result, Ok, Err, if◌then◌else◌, ⊤}
+use Rattle.std.specs.Prelude.{◌≡◌, ◌==◌, ℕ, Bool, false, List, [], ◌∷◌, ◌++◌, drop, length, take, Option, Some, None, Result, Ok, Err, if◌then◌else◌, ⊤}
 use Rattle.form_reader.specs.declared.fault.InputKind.TheVariants as input
 use Rattle.sexpr_text.specs.Reading.{reading}
 use Rattle.sexpr_text.specs.Trees.{Trees, nothing, word, list}
@@ -31,11 +31,20 @@ abbrev pub behind_words : List (List ℕ) → Result (List (List ℕ)) FaultKind
 behind_words words (Ok more) = Ok (words ++ more)
 behind_words words (Err kind) = Err kind
 
--- the words of a row of nothing else
-abbrev pub words_in : Trees → Result (List (List ℕ)) FaultKind
-words_in nothing = Ok []
-words_in (word text place rest) = behind_words (text ∷ []) (words_in rest)
-words_in (list items place rest) = Err (Input input.Shape)
+-- a word that begins so is the name of a generated object
+abbrev pub is_generated : List ℕ → Bool
+is_generated [] = false
+is_generated (b ∷ bs) = b == 35
+
+-- the word of some bytes that is read so at this place: a generated object's as it stands, and any other in lower case
+abbrev pub word_as : List ℕ → List ℕ → ℕ → List ℕ
+word_as bytes text place = if is_generated text then take (length text) (drop place bytes) else text
+
+-- the words of a row of nothing else, in these bytes
+abbrev pub words_in : List ℕ → Trees → Result (List (List ℕ)) FaultKind
+words_in bytes nothing = Ok []
+words_in bytes (word text place rest) = behind_words (word_as bytes text place ∷ []) (words_in bytes rest)
+words_in bytes (list items place rest) = Err (Input input.Shape)
 
 -- a step of this action, with the words behind its name
 abbrev pub call_with : List ℕ → Result (List (List ℕ)) FaultKind → Result Call FaultKind
@@ -43,16 +52,16 @@ call_with name (Ok args) = Ok (record { name = name; args = args })
 call_with name (Err kind) = Err kind
 
 -- the step in a list: the name of an action, and those of objects
-abbrev pub call_in : Trees → Result Call FaultKind
-call_in (word name place rest) = call_with name (words_in rest)
-call_in nothing = Err (Input input.Shape)
-call_in (list items place rest) = Err (Input input.Shape)
+abbrev pub call_in : List ℕ → Trees → Result Call FaultKind
+call_in bytes (word name place rest) = call_with name (words_in bytes rest)
+call_in bytes nothing = Err (Input input.Shape)
+call_in bytes (list items place rest) = Err (Input input.Shape)
 
 -- the step that a tree is
-abbrev pub call_of : Trees → Result Call FaultKind
-call_of (list items place rest) = call_in items
-call_of nothing = Err (Input input.Shape)
-call_of (word text place rest) = Err (Input input.Shape)
+abbrev pub call_of : List ℕ → Trees → Result Call FaultKind
+call_of bytes (list items place rest) = call_in bytes items
+call_of bytes nothing = Err (Input input.Shape)
+call_of bytes (word text place rest) = Err (Input input.Shape)
 
 -- the kind of a fault; no bytes are refused for the last
 abbrev pub kind_of : TextFault → FaultKind
@@ -68,13 +77,13 @@ IsFaultFor text.Memory fault = fault ≡ Memory
 IsFaultFor why fault = fault ≡ Wrong (kind_of why)
 
 -- the step that was read as a tree
-abbrev pub call_read : Result Trees TextFault → Result Call FaultKind
-call_read (Ok tree) = call_of tree
-call_read (Err fault) = Err (kind_of fault)
+abbrev pub call_read : List ℕ → Result Trees TextFault → Result Call FaultKind
+call_read bytes (Ok tree) = call_of bytes tree
+call_read bytes (Err fault) = Err (kind_of fault)
 
 -- the step that the bytes spell, or the kind of their fault
 abbrev pub call_spelled : List ℕ → Result Call FaultKind
-call_spelled bytes = call_read (reading bytes)
+call_spelled bytes = call_read bytes (reading bytes)
 
 -- ---- lines
 

@@ -21,7 +21,7 @@ pub(crate) fn first_bytes(bytes: &[u8], end: usize) -> &[u8]
 }
 
 /// What stands behind so many bytes.
-fn behind(bytes: &[u8], start: usize) -> &[u8]
+pub(crate) fn behind(bytes: &[u8], start: usize) -> &[u8]
     requires { start ≤ length bytes.now }
     ensures { result.now ≡ drop start bytes.now }
 {

@@ -1,14 +1,15 @@
 //! The step that a line spells.
-ghost use Rattle.std.specs.Prelude.{◌≡◌};
+ghost use Rattle.std.specs.Prelude.{◌≡◌, drop, take};
 ghost use Rattle.sexpr_text.specs.Trees.{tree, trees};
 ghost use Rattle.plan_reader.specs.Steps as specs;
 ghost use Rattle.plan_reader.specs.Steps.{Fails, Gives};
 
 use crate::fault::LineFault;
-use crate::line::{is_idle, step_bytes};
+use crate::line::{behind, first_bytes, is_idle, step_bytes};
 use form_reader::InputKind;
 use sexpr_text::{Front, TextFault, Tree, alone, front_of, read_tree};
 use std::alloc::Global;
+use std::cmp::min;
 use task_model::{Name, Seq};
 use task_reader::FaultKind;
 use transcript_model::Call;
@@ -16,17 +17,36 @@ use transcript_model::Call;
 /// A word or a list that may not stand there, or one that is missing.
 const MISSHAPED: LineFault = LineFault::Wrong(FaultKind::Input(InputKind::Shape));
 
-/// The words of a row of nothing else.
-fn words_in(alloc: Global, items: &[Tree]) -> Result<Vec<Name>, LineFault>
-    ensures { Gives (λ words. words.items) result (specs.words_in (trees items.now)) }
+/// The bytes of this place, as many as these; fewer where they end before.
+fn bytes_at(bytes: &[u8], place: usize, count: usize) -> &[u8]
+    ensures { result.now ≡ take count (drop place bytes.now) }
+{
+    let rest = behind(bytes, min(place, bytes.len()));
+    first_bytes(rest, min(count, rest.len()))
+}
+
+/// The word that is read so at this place: a generated object's name as it stands in the bytes, and
+/// any other in lower case.
+fn word_as<'a>(bytes: &'a [u8], text: &'a [u8], place: usize) -> &'a [u8]
+    ensures { result.now ≡ specs.word_as bytes.now text.now place }
+{
+    match text.split_first() {
+        Some((first, _)) if *first == b'#' => bytes_at(bytes, place, text.len()),
+        Some(_) | None => text,
+    }
+}
+
+/// The words of a row of nothing else, in these bytes.
+fn words_in(alloc: Global, bytes: &[u8], items: &[Tree]) -> Result<Vec<Name>, LineFault>
+    ensures { Gives (λ words. words.items) result (specs.words_in bytes.now (trees items.now)) }
 {
     let mut words = Vec::new(alloc);
     let mut left = items;
     'words: loop {
         match front_of(left) {
             Front::End => return Ok(words),
-            Front::Word { text, rest, .. } => {
-                words.push(Name::from_slice(alloc, text)?)?;
+            Front::Word { text, place, rest } => {
+                words.push(Name::from_slice(alloc, word_as(bytes, text, place))?)?;
                 left = rest;
             }
             Front::List { .. } => return Err(MISSHAPED),
@@ -35,14 +55,14 @@ fn words_in(alloc: Global, items: &[Tree]) -> Result<Vec<Name>, LineFault>
 }
 
 /// The step in a list: the name of an action, and those of objects.
-fn call_in(alloc: Global, items: &[Tree]) -> Result<Call, LineFault>
-    ensures { Gives (λ call. call) result (specs.call_in (trees items.now)) }
+fn call_in(alloc: Global, bytes: &[u8], items: &[Tree]) -> Result<Call, LineFault>
+    ensures { Gives (λ call. call) result (specs.call_in bytes.now (trees items.now)) }
 {
     let Front::Word { text, rest, .. } = front_of(items) else {
         return Err(MISSHAPED);
     };
     let name = Name::from_slice(alloc, text)?;
-    let args = words_in(alloc, rest)?;
+    let args = words_in(alloc, bytes, rest)?;
     Ok(Call {
         name,
         args: Seq::from_vec(args),
@@ -50,11 +70,11 @@ fn call_in(alloc: Global, items: &[Tree]) -> Result<Call, LineFault>
 }
 
 /// The step that a tree is.
-fn call_of(alloc: Global, whole: &Tree) -> Result<Call, LineFault>
-    ensures { Gives (λ call. call) result (specs.call_of (tree whole.now)) }
+fn call_of(alloc: Global, bytes: &[u8], whole: &Tree) -> Result<Call, LineFault>
+    ensures { Gives (λ call. call) result (specs.call_of bytes.now (tree whole.now)) }
 {
     match alone(whole) {
-        Front::List { items, .. } => call_in(alloc, items),
+        Front::List { items, .. } => call_in(alloc, bytes, items),
         Front::End | Front::Word { .. } => Err(MISSHAPED),
     }
 }
@@ -77,7 +97,7 @@ fn call_spelled(alloc: Global, bytes: &[u8]) -> Result<Call, LineFault>
     ensures { Gives (λ call. call) result (specs.call_spelled bytes.now) }
 {
     match read_tree(alloc, bytes) {
-        Ok(tree) => call_of(alloc, &tree),
+        Ok(tree) => call_of(alloc, bytes, &tree),
         Err(fault) => Err(line_fault(fault)),
     }
 }

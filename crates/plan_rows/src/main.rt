@@ -45,7 +45,7 @@ enum Subject {
 }
 
 /// The files of rows, in the order in which they are read.
-const FILES: [(&str, Subject); 12] = [
+const FILES: [(&str, Subject); 14] = [
     ("grid.rows", Subject::Sessions),
     ("answers.rows", Subject::Sessions),
     ("values.rows", Subject::Sessions),
@@ -55,9 +55,11 @@ const FILES: [(&str, Subject); 12] = [
     ("states.rows", Subject::Values),
     ("facts.rows", Subject::Planning),
     ("plans.rows", Subject::Planning),
+    ("orders.rows", Subject::Planning),
     ("fitness.rows", Subject::Fitness),
     ("joins.rows", Subject::Planning),
     ("searches.rows", Subject::Planning),
+    ("reach.rows", Subject::Planning),
 ];
 
 /// Adds what comes of the parts of a row.

@@ -2,9 +2,11 @@
 ghost use Rattle.task_model.specs.Fit.{IsFit};
 
 use crate::fault::Fault;
-use crate::plans::{add_applicable, add_applied, add_checked, add_goal, add_kept};
+use crate::plans::{add_applicable, add_applied, add_checked, add_goal, add_kept, add_order};
 use crate::queue::tell_queue;
-use crate::searches::{add_estimate, add_exceeds, add_found_steps, add_search, add_wanted};
+use crate::searches::{
+    add_estimate, add_exceeds, add_found_steps, add_out_of_reach, add_search, add_wanted,
+};
 use crate::store::tell_store;
 use fact_store::Facts;
 use instance_queue::Queue;
@@ -27,6 +29,7 @@ fn answer_part(
         "domain" | "problem" | "streams" => Ok(()),
         "goal" => add_goal(alloc, task, facts, out),
         "check" => add_checked(alloc, task, facts, part.text.as_slice(), out),
+        "order" => add_order(alloc, task, facts, part.text.as_slice(), out),
         "apply" => add_applied(alloc, task, facts, line, out),
         "applicable" => add_applicable(alloc, task, facts, line, false, out),
         "applicable_count" => add_applicable(alloc, task, facts, line, true, out),
@@ -34,6 +37,7 @@ fn answer_part(
         "search" => add_search(alloc, task, facts, line, out),
         "steps" => add_found_steps(alloc, task, facts, line, out),
         "exceeds" => add_exceeds(alloc, task, facts, number(line), out),
+        "out_of_reach" => add_out_of_reach(alloc, task, facts, out),
         "estimate" => add_estimate(alloc, task, facts, line, out),
         "wanted" => add_wanted(alloc, task, facts, out),
         _ => Err(Fault::Unfit),

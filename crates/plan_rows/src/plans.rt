@@ -1,5 +1,7 @@
 //! Truth, steps and plans over what is known.
+ghost use Rattle.std.specs.Prelude.{ℕ};
 ghost use Rattle.task_model.specs.Fit.{IsFit};
+ghost use Rattle.task_model.specs.Plans.{IsValid};
 
 use crate::fault::Fault;
 use crate::print::{Names, push_atoms, push_step};
@@ -9,6 +11,7 @@ use formula_eval::{Env, holds};
 use formula_memo::{Memo, holds_memo, holds_once};
 use grounder::{Candidates, applicable};
 use plan_check::{apply, check, initial};
+use plan_deorder::deorder;
 use std::alloc::{AllocError, Global};
 use std::fmt::Write;
 use task_model::{GroundAction, Plan, Seq, State, Task};
@@ -78,6 +81,51 @@ pub(crate) fn add_checked(
     }
     match check(alloc, task, facts, &plan) {
         Ok(cost) => Ok(write!(out, "cost {cost}\n")?),
+        Err(fault) => Ok(write!(out, "{fault:?}\n")?),
+    }
+}
+
+/// Adds the pairs of steps of a valid plan that must stay in order, and then the stage of each step.
+fn push_order(
+    alloc: Global,
+    task: &Task,
+    facts: &Facts,
+    plan: &Plan,
+    out: &mut String,
+) -> Result<(), Fault>
+    requires fit { IsFit task.now }
+    requires valid { (cost : ℕ) × IsValid task.now facts.now.known plan.now.steps cost }
+{
+    let Ok(order) = deorder(alloc, task, facts, plan) else {
+        return Err(Fault::Unfit);
+    };
+    for (first, second) in order.pairs.as_slice() {
+        write!(out, "{first} before {second}\n")?;
+    }
+    write!(out, "stages")?;
+    for stage in order.stages.as_slice() {
+        write!(out, " {stage}")?;
+    }
+    Ok(out.push('\n')?)
+}
+
+/// Adds the order of the plan of these lines, or the plan's first fault. It has at most nine steps.
+pub(crate) fn add_order(
+    alloc: Global,
+    task: &Task,
+    facts: &Facts,
+    lines: &[u8],
+    out: &mut String,
+) -> Result<(), Fault>
+    requires { IsFit task.now }
+{
+    let boxed = plan_of(alloc, lines)?;
+    let plan: &Plan = &boxed;
+    if plan.steps.len() > 9 {
+        return Err(Fault::Unfit);
+    }
+    match check(alloc, task, facts, plan) {
+        Ok(_) => push_order(alloc, task, facts, plan, out),
         Err(fault) => Ok(write!(out, "{fault:?}\n")?),
     }
 }

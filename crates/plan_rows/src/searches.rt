@@ -4,7 +4,9 @@ ghost use Rattle.task_model.specs.Fit.{IsFit};
 
 use crate::fault::Fault;
 use crate::plans::push_steps;
-use best_first::{Additive, Blind, Estimate, Found, GoalCount, RelaxedPlan, exceeds, search};
+use best_first::{
+    Additive, Blind, Estimate, Found, GoalCount, RelaxedPlan, exceeds, out_of_reach, search,
+};
 use fact_store::Facts;
 use grounder::applicable;
 use plan_check::initial;
@@ -107,6 +109,20 @@ pub(crate) fn add_exceeds(
     }
     let more = exceeds(alloc, task, facts, limit)?;
     Ok(write!(out, "{more}\n")?)
+}
+
+/// Adds whether the goal is seen to be out of reach.
+pub(crate) fn add_out_of_reach(
+    alloc: Global,
+    task: &Task,
+    facts: &Facts,
+    out: &mut String,
+) -> Result<(), Fault>
+    requires { IsFit task.now }
+{
+    let estimate = Box::new(alloc, RelaxedPlan::new(alloc, task, facts)?)?;
+    let is_out = out_of_reach(alloc, task, facts, &*estimate)?;
+    Ok(write!(out, "{is_out}\n")?)
 }
 
 /// What the estimate says of the initial state.

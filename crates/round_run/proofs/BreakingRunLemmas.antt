@@ -1,5 +1,5 @@
 -- The calls of a run that stops: with its starts.
-use Rattle.std.proofs.Common.{◌≡◌, true, ℕ, zero, suc, ◌+◌, ◌<◌, arith, List, [], ◌∷◌, ◌++◌, take, Option, Some, None, Err, refl, sym, subst, ap, ◌∙◌, append_assoc, inl, inr, ◌⊎◌}
+use Rattle.std.proofs.Common.{◌≡◌, true, ℕ, zero, suc, ◌<◌, arith, List, [], ◌∷◌, ◌++◌, take, Option, Some, None, Err, refl, sym, subst, ap, ◌∙◌, append_assoc, inl, inr, ◌⊎◌}
 use Rattle.std.proofs.lemmas.List.{append-nil, append_cancel_left}
 use Rattle.io_world.specs.Faults.{Extends}
 use Rattle.io_world.specs.Talks.{Event, started}

@@ -1,5 +1,5 @@
 -- The calls of a run that stops.
-use Rattle.std.proofs.Common.{◌≡◌, ◌+◌, arith, List, [], ◌++◌, Option, Some, None, sym, subst, ap, ◌∙◌, append_assoc}
+use Rattle.std.proofs.Common.{◌≡◌, arith, List, [], ◌++◌, Option, Some, None, sym, subst, ap, ◌∙◌, append_assoc}
 use Rattle.std.proofs.lemmas.List.{append-nil}
 use Rattle.std.proofs.lemmas.List.Elements.{All-append}
 use Rattle.io_world.specs.Talks.{Event}

@@ -1,9 +1,9 @@
 -- What a run leaves behind.
-use Rattle.std.proofs.Common.{◌≡◌, ◌≢◌, ℕ, zero, suc, ◌+◌, ◌≤◌, arith, List, [], ◌∷◌, ◌++◌, length, take, Option, Some, refl, sym, subst, ap, ◌∙◌, inl, inr, ◌⊎◌, slice_get, option_map, IfSome}
+use Rattle.std.proofs.Common.{◌≡◌, ◌≢◌, ℕ, zero, suc, arith, List, [], ◌∷◌, ◌++◌, length, take, Option, Some, refl, sym, subst, ap, ◌∙◌, inl, inr, ◌⊎◌, slice_get, option_map, IfSome}
 use Rattle.std.proofs.lemmas.List.{append-nil}
 use Rattle.std.proofs.lemmas.List.Prefix.{front_rest}
 use Rattle.std.specs.List.{after_first}
-use Rattle.gen_lines.specs.Lines.{is_feed, lines_of}
+use Rattle.gen_lines.specs.Lines.{IsFirstShort, is_feed, lines_of}
 use Rattle.gen_lines.specs.Reply as reply
 use Rattle.gen_lines.specs.Reply.{reply_of}
 use Rattle.gen_lines.specs.declared.answer.Why.{Why}
@@ -17,7 +17,7 @@ use Rattle.round_run.specs.Dialogue.{BrokenOff, Dialogue, HasBadLine, IsBadLine,
 use Rattle.round_run.specs.Stops.{MayHear}
 use Rattle.round_run.specs.Talking.{Talks}
 use Rattle.round_run.specs.declared.fault.RunFault.{RunFault}
-use Rattle.round_run.proofs.DialogueLemmas.{is_same, mapped, other_bytes, own_bytes, talk_bad, talk_more, talk_said, told_map}
+use Rattle.round_run.proofs.DialogueLemmas.{is_same, mapped, other_bytes, own_bytes, talk_bad, talk_more, talk_said, talk_short, told_map}
 
 -- ---- what a run leaves behind
 
@@ -27,6 +27,7 @@ module _ (task : Task) (version : ℕ) (pools : List Workers) (entries : List En
   dialogue_of t child is some = told_map _ _ (spoken child) (λ talk w. record {
     written = w.written ∙ sym (append-nil (bytes_to child (requests_of task pools entries)));
     answered = talk_said task version (requests_of task pools entries) (replies_of entries) child (kept child) talk w;
+    short = talk_short task version (requests_of task pools entries) (replies_of entries) child (kept child) talk w;
   }) (t.each child is)
 
 -- a request more was written, in whole or in part
@@ -68,6 +69,7 @@ broken_one task version pools Front fault entries e r n kept old new may legal f
               ∙ ap (λ bytes. bytes_to child (requests_of task pools entries) ++ take n bytes)
               (sym (ap (bytes_to child) further ∙ own_bytes r child (sym own)));
           answered = talk_said task version (requests_of task pools entries) (replies_of entries) child (kept child) talk x;
+          short = talk_short task version (requests_of task pools entries) (replies_of entries) child (kept child) talk x;
         }) (t.each child is))
     by child is (inr other) =
         subst (λ o. IfSome o (IsSaid task version (requests_of task pools entries)
@@ -79,6 +81,7 @@ broken_one task version pools Front fault entries e r n kept old new may legal f
               ∙ ap (λ bytes. bytes_to child (requests_of task pools entries) ++ bytes)
               (sym (ap (take n) (ap (bytes_to child) further ∙ other_bytes r child (λ same. other (sym same))) ∙ nothing n));
           answered = talk_said task version (requests_of task pools entries) (replies_of entries) child (kept child) talk x;
+          short = talk_short task version (requests_of task pools entries) (replies_of entries) child (kept child) talk x;
         }) (t.each child is))
 
 -- the line that was heard for the next request is no answer
@@ -86,7 +89,7 @@ pub bad_line : (task : Task) (version : ℕ) (pools : List Workers) (entries : L
     (why : Why) (kept : ℕ → List ℕ) (old new : ℕ → Option Talk)
     → IsOneOf pools r.child → slice_get (requests_of task pools entries) (length (replies_of entries)) ≡ Some r → Hears r.child more old new
     → ((line : List ℕ) × (lines_of (kept r.child ++ more) ≡ line ∷ lines_of (after_first is_feed (kept r.child ++ more)))
-    × (reply_of line (wanted_by task version r) ≡ reply.bad why) × (length line ≤ 1024))
+    × (reply_of line (wanted_by task version r) ≡ reply.bad why) × IsFirstShort (kept r.child ++ more))
     ⊎ ((why ≡ TooLong) × (lines_of (kept r.child ++ more) ≡ []) × (length (kept r.child ++ more) ≡ 1025))
     → Talks task version pools (requests_of task pools entries) (replies_of entries) kept old
     → HasBadLine task version pools entries new r.number why

@@ -6,7 +6,7 @@ use Rattle.std.proofs.lemmas.Option.{slice_get_within}
 use Rattle.std.specs.List.{after_first}
 use Rattle.gen_lines.proofs.CuttingLemmas.{whole}
 use Rattle.gen_lines.specs.Cutting.{pushed, took}
-use Rattle.gen_lines.specs.Lines.{is_feed, lines_of}
+use Rattle.gen_lines.specs.Lines.{IsFirstShort, is_feed, lines_of}
 use Rattle.gen_lines.specs.Reply as reply
 use Rattle.gen_lines.specs.Reply.{reply_of}
 use Rattle.gen_lines.specs.declared.answer.Why.{Why}
@@ -19,7 +19,8 @@ use Rattle.lemmas.proofs.Members.{push_cases, get_append, get_pushed, next_taken
 use Rattle.lemmas.proofs.Options.{same_some}
 use Rattle.task_model.specs.declared.task.Task.{Task}
 use Rattle.transcript_model.specs.declared.entry.Entry.{Entry}
-use Rattle.round_run.specs.Dialogue.{AreSaid, IsBadLine, IsOneOf, Request, bytes_to, count_to, is_to, text_of_request, wanted_by}
+use Rattle.round_run.proofs.DialogueShortLemmas.{short_later, short_next, short_taken}
+use Rattle.round_run.specs.Dialogue.{AreSaid, AreShort, IsBadLine, IsShortAt, IsOneOf, Request, bytes_to, count_to, is_to, text_of_request, wanted_by}
 use Rattle.round_run.specs.Talking.{IsTalk, Talks}
 
 -- ---- what is told
@@ -88,11 +89,11 @@ module _ (task : Task) (version : ℕ) (rs : List Request) (replies : List Entry
       where
         by : (slice_get rs k ≡ Some q) ⊎ ((k ≡ length rs) × (q ≡ r))
             → (line : List ℕ) × (slice_get lines (count_to child (take k (rs ++ r ∷ []))) ≡ Some line)
-            × (replied_entry q.number (reply_of line (wanted_by task version q)) ≡ Some e) × (length line ≤ 1024)
+            × (replied_entry q.number (reply_of line (wanted_by task version q)) ≡ Some e)
         by (inl there) =
             let f = said k q e there own answer in
             let within : k ≤ length rs = omega (arith, slice_get_within rs k q there) in
-            (f.0, ap (λ qs. slice_get lines (count_to child qs)) (take-append-le k rs (r ∷ []) within) ∙ f.1, f.2, f.3)
+            (f.0, ap (λ qs. slice_get lines (count_to child qs)) (take-append-le k rs (r ∷ []) within) ∙ f.1, f.2)
         by (inr here) = absurd (omega (arith, slice_get_within replies k e answer, here.0, few))
 
     many_grown : (lines : List (List ℕ)) → length lines ≡ count_to child (take (length replies) rs)
@@ -111,6 +112,7 @@ module _ (task : Task) (version : ℕ) (rs : List Request) (replies : List Entry
       cut = t.cut;
       many = many_grown t.taken t.many;
       said = said_grown t.taken t.said;
+      short = t.short;
     }
 
     talk_unsent : (kept : List ℕ) (talk : Talk) → r.child ≢ child
@@ -125,6 +127,7 @@ module _ (task : Task) (version : ℕ) (rs : List Request) (replies : List Entry
       cut = t.cut;
       many = many_grown t.taken t.many;
       said = said_grown t.taken t.said;
+      short = t.short;
     }
 
   module _ (r : Request) (e : Entry) (next : slice_get rs (length replies) ≡ Some r) where
@@ -132,7 +135,7 @@ module _ (task : Task) (version : ℕ) (rs : List Request) (replies : List Entry
     longer = length-append replies (e ∷ [])
 
     talk_heard : (kept more line : List ℕ) (talk : Talk) → r.child ≡ child
-        → lines_of (kept ++ more) ≡ line ∷ lines_of (after_first is_feed (kept ++ more)) → length line ≤ 1024
+        → lines_of (kept ++ more) ≡ line ∷ lines_of (after_first is_feed (kept ++ more)) → IsFirstShort (kept ++ more)
         → replied_entry r.number (reply_of line (wanted_by task version r)) ≡ Some e → IsTalk task version rs replies child kept talk
         → IsTalk task version rs (replies ++ e ∷ []) child (after_first is_feed (kept ++ more)) (heard_more more talk)
     talk_heard kept more line talk own first short says t = record {
@@ -143,6 +146,7 @@ module _ (task : Task) (version : ℕ) (rs : List Request) (replies : List Entry
           length-append t.taken (line ∷ []) ∙ ap (λ n. n + 1) t.many ∙ sym (count_own (take (length replies) rs) r child own)
           ∙ ap (count_to child) (sym (next_taken rs (length replies) r next)) ∙ ap (λ n. count_to child (take n rs)) (sym longer);
       said = said;
+      short = short_taken talk.heard t.taken kept t.cut t.short more line (lines_of (after_first is_feed (kept ++ more))) first short;
     }
       where
         said : AreSaid task version rs (replies ++ e ∷ []) child (t.taken ++ line ∷ [])
@@ -150,16 +154,15 @@ module _ (task : Task) (version : ℕ) (rs : List Request) (replies : List Entry
           where
             by : (slice_get replies k ≡ Some x) ⊎ ((k ≡ length replies) × (x ≡ e))
                 → (l : List ℕ) × (slice_get (t.taken ++ line ∷ []) (count_to child (take k rs)) ≡ Some l)
-                × (replied_entry q.number (reply_of l (wanted_by task version q)) ≡ Some x) × (length l ≤ 1024)
+                × (replied_entry q.number (reply_of l (wanted_by task version q)) ≡ Some x)
             by (inl there) =
-                let f = t.said k q x at mine there in (f.0, get_append t.taken (line ∷ []) (count_to child (take k rs)) f.0 f.1, f.2, f.3)
+                let f = t.said k q x at mine there in (f.0, get_append t.taken (line ∷ []) (count_to child (take k rs)) f.0 f.1, f.2)
             by (inr here) =
                 let same : q ≡ r = same_some (slice_get rs k) q r at (ap (slice_get rs) here.0 ∙ next) in (
                   line,
                   get_pushed t.taken line (count_to child (take k rs)) (ap (λ n. count_to child (take n rs)) here.0 ∙ sym t.many),
                   subst (λ (w : Request). replied_entry w.number (reply_of line (wanted_by task version w)) ≡ Some x)
                       (sym same) (says ∙ ap Some (sym here.1)),
-                  short,
                 )
 
     talk_unheard : (kept : List ℕ) (talk : Talk) → r.child ≢ child
@@ -173,6 +176,7 @@ module _ (task : Task) (version : ℕ) (rs : List Request) (replies : List Entry
           t.many ∙ sym (count_other (take (length replies) rs) r child other)
           ∙ ap (count_to child) (sym (next_taken rs (length replies) r next)) ∙ ap (λ n. count_to child (take n rs)) (sym longer);
       said = said;
+      short = t.short;
     }
       where
         said : AreSaid task version rs (replies ++ e ∷ []) child t.taken
@@ -180,7 +184,7 @@ module _ (task : Task) (version : ℕ) (rs : List Request) (replies : List Entry
           where
             by : (slice_get replies k ≡ Some x) ⊎ ((k ≡ length replies) × (x ≡ e))
                 → (l : List ℕ) × (slice_get t.taken (count_to child (take k rs)) ≡ Some l)
-                × (replied_entry q.number (reply_of l (wanted_by task version q)) ≡ Some x) × (length l ≤ 1024)
+                × (replied_entry q.number (reply_of l (wanted_by task version q)) ≡ Some x)
             by (inl there) = t.said k q x at mine there
             by (inr here) =
                 let same : q ≡ r = same_some (slice_get rs k) q r at (ap (slice_get rs) here.0 ∙ next) in
@@ -189,7 +193,14 @@ module _ (task : Task) (version : ℕ) (rs : List Request) (replies : List Entry
   -- bytes more are kept
   pub talk_more : (kept more : List ℕ) (talk : Talk) → IsTalk task version rs replies child kept talk
       → IsTalk task version rs replies child (kept ++ more) (heard_more more talk)
-  talk_more kept more talk t = record { written = t.written; taken = t.taken; cut = pushed t.cut more; many = t.many; said = t.said }
+  talk_more kept more talk t = record {
+    written = t.written;
+    taken = t.taken;
+    cut = pushed t.cut more;
+    many = t.many;
+    said = t.said;
+    short = short_later talk.heard t.taken kept t.cut t.short more;
+  }
 
   -- the lines that were taken are the first of all
   pub all_lines : (kept : List ℕ) (talk : Talk) (t : IsTalk task version rs replies child kept talk)
@@ -206,13 +217,16 @@ module _ (task : Task) (version : ℕ) (rs : List Request) (replies : List Entry
         ap (λ ls. slice_get ls (count_to child (take k rs))) (all_lines kept talk t)
             ∙ get_append t.taken (lines_of kept) (count_to child (take k rs)) f.0 f.1,
         f.2,
-        f.3,
       )
+
+  pub talk_short : (kept : List ℕ) (talk : Talk) → IsTalk task version rs replies child kept talk
+      → AreShort talk.heard (count_to child (take (length replies) rs))
+  talk_short kept talk t = subst (AreShort talk.heard) t.many t.short
 
   -- the first line that is kept is none that may stand, or too many bytes are kept
   pub talk_bad : (kept : List ℕ) (talk : Talk) (r : Request) (why : Why)
       → ((line : List ℕ) × (lines_of kept ≡ line ∷ lines_of (after_first is_feed kept))
-      × (reply_of line (wanted_by task version r) ≡ reply.bad why) × (length line ≤ 1024))
+      × (reply_of line (wanted_by task version r) ≡ reply.bad why) × IsFirstShort kept)
       ⊎ ((why ≡ TooLong) × (lines_of kept ≡ []) × (length kept ≡ 1025))
       → IsTalk task version rs replies child kept talk
       → IsBadLine talk.heard (count_to child (take (length replies) rs)) (wanted_by task version r) why
@@ -222,7 +236,10 @@ module _ (task : Task) (version : ℕ) (rs : List Request) (replies : List Entry
         ap (λ ls. slice_get ls (count_to child (take (length replies) rs))) (all_lines kept talk t ∙ ap (λ ls. t.taken ++ ls) first)
             ∙ seam t.taken line (lines_of (after_first is_feed kept)) (count_to child (take (length replies) rs)) t.many,
         is,
-        short,
+        subst (λ bytes. IsShortAt bytes (count_to child (take (length replies) rs))) (append-nil talk.heard)
+            (short_next talk.heard t.taken kept t.cut t.short [] line (lines_of (after_first is_feed kept))
+            (ap lines_of (append-nil kept) ∙ first) (subst IsFirstShort (sym (append-nil kept)) short)
+            (count_to child (take (length replies) rs)) (sym t.many)),
       )
     where
       seam : {A : Type 0} (xs : List A) (x : A) (ys : List A) (n : ℕ) → length xs ≡ n
@@ -261,7 +278,7 @@ module _ (task : Task) (version : ℕ) (pools : List Workers) (rs : List Request
   pub talks_heard : (kept left : ℕ → List ℕ) (r : Request) (e : Entry) (more line : List ℕ)
       → slice_get rs (length replies) ≡ Some r
       → Hears r.child more old new → lines_of (kept r.child ++ more) ≡ line ∷ lines_of (after_first is_feed (kept r.child ++ more))
-      → length line ≤ 1024 → replied_entry r.number (reply_of line (wanted_by task version r)) ≡ Some e
+      → IsFirstShort (kept r.child ++ more) → replied_entry r.number (reply_of line (wanted_by task version r)) ≡ Some e
       → left r.child ≡ after_first is_feed (kept r.child ++ more)
       → ((k : ℕ) → k ≢ r.child → left k ≡ kept k) → Talks task version pools rs replies kept old
       → Talks task version pools rs (replies ++ e ∷ []) left new
@@ -280,7 +297,8 @@ module _ (task : Task) (version : ℕ) (pools : List Workers) (rs : List Request
           (sym (ap new own ∙ h.here ∙ ap (λ c. option_map (heard_more more) (old c)) (sym own)))
           (mapped (heard_more more) _ _ (old child)
           (λ talk. talk_heard task version rs replies child r e next (kept child) more line talk (sym own)
-          (subst (λ c. lines_of (kept c ++ more) ≡ line ∷ lines_of (after_first is_feed (kept c ++ more))) (sym own) first) short says)
+          (subst (λ c. lines_of (kept c ++ more) ≡ line ∷ lines_of (after_first is_feed (kept c ++ more))) (sym own) first)
+          (subst (λ c. IsFirstShort (kept c ++ more)) (sym own) short) says)
           (t.each child is)))
       by child is (inr other) =
           subst (λ bytes. IfSome (new child) (IsTalk task version rs (replies ++ e ∷ []) child bytes)) (sym (others child other))

@@ -11,6 +11,8 @@ pub mod DialogueLemmas
 pub mod DialogueEndLemmas
 pub mod DialogueMarkLemmas
 pub mod DialogueRequestLemmas
+pub mod DialogueShortLemmas
+pub mod OpenLemmas
 pub mod RollingLemmas
 pub mod RollingEndLemmas
 pub mod RollingFrontLemmas
@@ -23,3 +25,7 @@ pub mod TalkingLineLemmas
 pub mod TalkingRoundLemmas
 pub mod TalkingEndLemmas
 pub mod TalkingHeardLemmas
+pub mod TurnLineLemmas
+pub mod MarkLemmas
+pub mod GoingLemmas
+pub mod QuietLemmas

@@ -18,7 +18,7 @@ use Rattle.lemmas.proofs.Members.{from_take}
 use Rattle.session_core.proofs.StateLemmas.{bad_is}
 use Rattle.session_core.proofs.SlotsLemmas.{children_of, children_kept, child_kept, map_at, own_slot, at_own, at_other}
 use Rattle.session_core.specs.Heard.{is_bad_at, number_at}
-use Rattle.session_core.specs.Session.{IsSession, begun}
+use Rattle.session_core.specs.Session.{IsSession}
 use Rattle.session_core.specs.Slots.{Slot, IsUnsent, IsAwaited, sent_slot, heard_slot, at_child, is_slot_of, slot_of, reply_to, reply_fault, replied_entry}
 use Rattle.session_core.specs.State.{State, after_sent, after_line}
 use Rattle.round_run.proofs.RollingPrintLemmas.{round_legal, answers_legal, one_more, open_there, front_answers}

@@ -1,5 +1,5 @@
 -- How runs go on and stop, one entry after another.
-use Rattle.std.proofs.Common.{◌≡◌, ℕ, ◌+◌, ◌<◌, ◌≤◌, arith, true, Result, Ok, Err, List, [], ◌∷◌, ◌++◌, length, take, Option, sym, subst, ap, refl, ◌∙◌, append_assoc, inl}
+use Rattle.std.proofs.Common.{◌≡◌, ℕ, ◌<◌, ◌≤◌, arith, true, Result, Ok, Err, List, [], ◌∷◌, ◌++◌, length, take, Option, sym, subst, ap, refl, ◌∙◌, append_assoc, inl}
 use Rattle.std.proofs.lemmas.List.{append-nil}
 use Rattle.std.proofs.lemmas.Grind.{flat_map-append}
 use Rattle.std.proofs.lemmas.Result.{err_from_is_err_and}

@@ -5,7 +5,6 @@ use Rattle.session_core.specs.Session.{IsSession}
 use Rattle.session_core.specs.Slots.{Slot, answers_of}
 use Rattle.session_core.specs.State.{State, with_slots}
 use Rattle.task_model.specs.declared.task.Task.{Task}
-use Rattle.transcript_model.specs.Legal.{is_open}
 use Rattle.transcript_model.specs.declared.entry.Entry.{Entry}
 use Rattle.round_run.proofs.DialogueEndLemmas.{dialogue_of}
 use Rattle.round_run.specs.Dialogue.{Dialogue, replies_of, requests_of}

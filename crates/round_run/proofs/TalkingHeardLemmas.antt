@@ -1,9 +1,9 @@
 -- One answer more in a round that is talked.
-use Rattle.std.proofs.Common.{◌≡◌, ◌≢◌, ℕ, ◌+◌, ◌<◌, ◌≤◌, arith, Bool, true, false, List, [], ◌∷◌, ◌++◌, map, length, take, Option, Some, refl, sym, subst, ap, ◌∙◌, append_assoc, inl, inr, ◌⊎◌, slice_get, option_map, unwrap_or, eq-eqb}
+use Rattle.std.proofs.Common.{◌≡◌, ◌≢◌, ℕ, ◌+◌, ◌<◌, arith, Bool, true, false, List, [], ◌∷◌, ◌++◌, map, length, take, Option, Some, refl, sym, subst, ap, ◌∙◌, append_assoc, inl, inr, ◌⊎◌, slice_get, option_map, unwrap_or, eq-eqb}
 use Rattle.std.proofs.lemmas.List.{length-append, length-map, length-take-le}
 use Rattle.std.proofs.lemmas.Option.{slice_get-map}
 use Rattle.std.specs.List.{after_first}
-use Rattle.gen_lines.specs.Lines.{is_feed, lines_of}
+use Rattle.gen_lines.specs.Lines.{IsFirstShort, is_feed, lines_of}
 use Rattle.gen_lines.specs.Reply as reply
 use Rattle.gen_lines.specs.Reply.{Reply, reply_of}
 use Rattle.gen_lines.specs.declared.answer.Why.{Why}
@@ -82,7 +82,8 @@ module _ (task : Task) (s : State) (running : ℕ → Bool) (place : ℕ) (r : I
 
     talking_line : (kept left : ℕ → List ℕ) (old new : ℕ → Option Talk) (more : List ℕ)
         → Hears t.child more old new
-        → lines_of (kept t.child ++ more) ≡ line ∷ lines_of (after_first is_feed (kept t.child ++ more)) → length line ≤ 1024
+        → lines_of (kept t.child ++ more) ≡ line ∷ lines_of (after_first is_feed (kept t.child ++ more))
+        → IsFirstShort (kept t.child ++ more)
         → left t.child ≡ after_first is_feed (kept t.child ++ more) → ((k : ℕ) → k ≢ t.child → left k ≡ kept k)
         → IsTalking task s (length s.slots) place kept old
         → IsTalking task (after_line s t.child line false) (length s.slots) (place + 1) left new
@@ -110,7 +111,8 @@ module _ (task : Task) (s : State) (running : ℕ → Bool) (place : ℕ) (r : I
               (replies_of s.entries ++ take place (finished s.slots)) old new kept left q.0 answer_is.0 more line
               (next_is (requests_of task s.pools s.entries) (replies_of s.entries) q.0 k.even q.1)
               (subst (λ d. Hears d more old new) c h)
-              (subst (λ d. lines_of (kept d ++ more) ≡ line ∷ lines_of (after_first is_feed (kept d ++ more))) c first) short
+              (subst (λ d. lines_of (kept d ++ more) ≡ line ∷ lines_of (after_first is_feed (kept d ++ more))) c first)
+              (subst (λ d. IsFirstShort (kept d ++ more)) c short)
               ((λ i. replied_entry (sym q.2.number i) (reply_of line (sym q.2.wanted i))) ∙ answer_is.1)
               (subst (λ d. left d ≡ after_first is_feed (kept d ++ more)) c here)
               (subst (λ d. (j : ℕ) → j ≢ d → left j ≡ kept j) c others)
@@ -173,13 +175,13 @@ module _ (task : Task) (s : State) (running : ℕ → Bool) (place : ℕ) (r : I
           first : (q : Request) → IsSlotOf task s.version s.pools q t → (number : ℕ) (why : Why)
               → IsBadFirst s.slots t.child (kept t.child ++ m.more) number why
               → ((line : List ℕ) × (lines_of (kept q.child ++ m.more) ≡ line ∷ lines_of (after_first is_feed (kept q.child ++ m.more)))
-              × (reply_of line (wanted_by task s.version q) ≡ reply.bad why) × (length line ≤ 1024))
+              × (reply_of line (wanted_by task s.version q) ≡ reply.bad why) × IsFirstShort (kept q.child ++ m.more))
               ⊎ ((why ≡ TooLong) × (lines_of (kept q.child ++ m.more) ≡ []) × (length (kept q.child ++ m.more) ≡ 1025))
           first q i number why (inl (line, is, said, short)) = inl (
             line,
             subst (λ d. lines_of (kept d ++ m.more) ≡ line ∷ lines_of (after_first is_feed (kept d ++ m.more))) i.child is,
             ap (reply_of line) (sym i.wanted) ∙ bad_reply t.number number why (reply_to line t) (sym (heard_is line) ∙ said),
-            short,
+            subst (λ d. IsFirstShort (kept d ++ m.more)) i.child short,
           )
           first q i number why (inr (is, none, long)) =
               inr (

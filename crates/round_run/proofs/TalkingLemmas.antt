@@ -14,7 +14,7 @@ use Rattle.transcript_model.specs.declared.head.Head.{Head}
 use Rattle.transcript_model.proofs.LegalStepLemmas.{mark_no_ask}
 use Rattle.round_run.proofs.DialogueMarkLemmas.{last_marked, replies_marked, requests_marked}
 use Rattle.round_run.proofs.DialogueRequestLemmas.{requests_counted}
-use Rattle.round_run.proofs.DialogueLemmas.{talk_said, told_map}
+use Rattle.round_run.proofs.DialogueLemmas.{talk_said, talk_short, told_map}
 use Rattle.round_run.specs.Dialogue.{Dialogue, bytes_to, replies_of, requests_of, workers_in}
 use Rattle.round_run.specs.Talking.{AreSilent, IsTalk, IsTold}
 use Rattle.round_run.specs.Batches.{AllRun, AreStarted}
@@ -46,6 +46,7 @@ module _ (task : Task) (version : ℕ) (pools : List Workers) where
         told_map _ _ (spoken child) (λ talk w. record {
           written = w.written ∙ sym (append-nil (bytes_to child (requests_of task pools entries)));
           answered = talk_said task version (requests_of task pools entries) (replies_of entries) child (kept child) talk w;
+          short = talk_short task version (requests_of task pools entries) (replies_of entries) child (kept child) talk w;
         }) (t.each child one (started.all asked one.place child one.pool one.at one.has))
 
   -- where all workers run
@@ -55,6 +56,7 @@ module _ (task : Task) (version : ℕ) (pools : List Workers) where
   dialogue_run entries running kept spoken all t = λ child one some. told_map _ _ (spoken child) (λ talk w. record {
     written = w.written ∙ sym (append-nil (bytes_to child (requests_of task pools entries)));
     answered = talk_said task version (requests_of task pools entries) (replies_of entries) child (kept child) talk w;
+    short = talk_short task version (requests_of task pools entries) (replies_of entries) child (kept child) talk w;
   }) (t.each child one (all one.place child one.pool one.at one.has))
 
   pub dialogue_marked : (e : Entry) → is_mark e ≡ true → (entries : List Entry) (asks : ℕ) (running : ℕ → Bool)
@@ -90,8 +92,14 @@ module _ (task : Task) (version : ℕ) (pools : List Workers) where
         subst (λ rs. IsTalk task version rs (replies_of entries) child (left child) talk) (sym empty)
         (subst (λ es. IsTalk task version [] es child (left child) talk) (sym unanswered)
         (subst (λ bytes. IsTalk task version [] [] child bytes talk) (sym (same child ∙ t.idle child (idle child)))
-        (subst (IsTalk task version [] [] child [])
-        (sym is) (record { written = refl; taken = []; cut = fresh; many = refl; said = λ k r e at own answer. absurd (cc) })))))
+        (subst (IsTalk task version [] [] child []) (sym is) (record {
+          written = refl;
+          taken = [];
+          cut = fresh;
+          many = refl;
+          said = λ k r e at own answer. absurd (cc);
+          short = λ place less. absurd (omega (arith, less));
+        })))))
         (silent child runs);
   }
     where

@@ -7,7 +7,7 @@ use Rattle.std.proofs.lemmas.List.Splits.{length-slice_split}
 use Rattle.std.specs.Io.BufRead.{strip_last}
 use Rattle.std.specs.List.{after_first, list_any, slice_split}
 use Rattle.gen_lines.proofs.LinesLemmas.{ended_length}
-use Rattle.gen_lines.specs.Lines.{ended, is_feed, lines_of}
+use Rattle.gen_lines.specs.Lines.{IsFirstShort, ended, is_feed, lines_of}
 use Rattle.gen_lines.specs.declared.answer.Why.TheVariants.{TooLong}
 use Rattle.io_world.proofs.TalksHeardLemmas.{heard_none}
 use Rattle.io_world.specs.Replies.{HasLine}
@@ -76,7 +76,7 @@ hears_none child spoken = record { here = heard_none (spoken child); others = λ
 -- a line that was held is taken
 pub takes_kept : {T E : Type 0} (r : Result T E) (old new : State) (child : ℕ) (kept left line : List ℕ) (spoken : ℕ → Option Talk)
     → OnOk r (new ≡ after_line old child line false) → OnOk r (is_bad_at old.slots child line ≡ false)
-    → lines_of kept ≡ line ∷ lines_of (after_first is_feed kept) → length line < 1025 → left ≡ after_first is_feed kept
+    → lines_of kept ≡ line ∷ lines_of (after_first is_feed kept) → IsFirstShort kept → left ≡ after_first is_feed kept
     → OnOk r (TakesAnswer old child new kept left spoken spoken)
 takes_kept (Err e) old new child kept left line spoken after good first short rest = tt
 takes_kept (Ok x) old new child kept left line spoken after good first short rest = record {
@@ -85,7 +85,7 @@ takes_kept (Ok x) old new child kept left line spoken after good first short res
   line = line;
   first = subst (λ bytes. lines_of bytes ≡ line ∷ lines_of (after_first is_feed bytes)) (sym (append-nil kept)) first;
   rest = rest ∙ ap (after_first is_feed) (sym (append-nil kept));
-  few = omega (arith, short);
+  few = subst IsFirstShort (sym (append-nil kept)) short;
   good = good;
   after = after;
 }

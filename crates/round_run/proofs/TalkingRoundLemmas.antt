@@ -17,7 +17,7 @@ use Rattle.pools.specs.Pools.{Workers}
 use Rattle.lemmas.proofs.Members.{from_take, member_at, next_taken}
 use Rattle.lemmas.proofs.ListTests.{get_there}
 use Rattle.task_model.specs.declared.task.Task.{Task}
-use Rattle.transcript_model.specs.Legal.{IsLegal, is_open, is_answer}
+use Rattle.transcript_model.specs.Legal.{IsLegal, is_answer}
 use Rattle.transcript_model.specs.Rounds.{IsRound}
 use Rattle.transcript_model.specs.declared.entry.Entry.{Entry}
 use Rattle.transcript_model.specs.declared.entry.Entry.TheVariants as entry

@@ -1,8 +1,8 @@
 -- What is said with children: who is asked what, and which line each answer is.
 use Rattle.gen_lines.specs.Request.{request_line}
 use Rattle.std.specs.Prelude.{◌≡◌, ℕ, ◌<◌, ◌≤◌, ◌==◌, ◌⊎◌, List, [], ◌∷◌, ◌++◌, length, take, drop, filter, map, count_by, Bool, Option, Some, slice_get, unwrap_or, if◌then◌else◌, IfSome}
-use Rattle.std.specs.List.{flat_map, join_with_byte}
-use Rattle.gen_lines.specs.Lines.{lines_of, unfinished}
+use Rattle.std.specs.List.{flat_map, join_with_byte, slice_split}
+use Rattle.gen_lines.specs.Lines.{ended, is_feed, lines_of, unfinished}
 use Rattle.gen_lines.specs.Reply.{bad, reply_of}
 use Rattle.gen_lines.specs.declared.answer.Wanted.{Wanted}
 use Rattle.gen_lines.specs.declared.answer.Why.{Why}
@@ -92,20 +92,32 @@ abbrev pub wanted_by : Task → ℕ → Request → Wanted
 wanted_by task version r = wanted_at task version (called_stream task r.call)
 
 -- The answer that stands at the same place among the answers as a request to the child among the requests is what a
--- line says: the one that stands at the same place among the child's lines as the request among those to the child. The
--- line has at most 1,024 bytes.
+-- line says: the one that stands at the same place among the child's lines as the request among those to the child.
 abbrev pub AreSaid : Task → ℕ → List Request → List Entry → ℕ → List (List ℕ) → Type 0
 AreSaid task version requests replies child lines =
     (k : ℕ) (r : Request) (e : Entry) → slice_get requests k ≡ Some r → r.child ≡ child → slice_get replies k ≡ Some e
     → (line : List ℕ) × (slice_get lines (count_to child (take k requests)) ≡ Some line)
-    × (replied_entry r.number (reply_of line (wanted_by task version r)) ≡ Some e) × (length line ≤ 1024)
+    × (replied_entry r.number (reply_of line (wanted_by task version r)) ≡ Some e)
+
+-- the lines of these bytes as they came, with the carriage returns that are dropped
+abbrev pub raw_lines : List ℕ → List (List ℕ)
+raw_lines heard = ended (slice_split is_feed heard)
+
+-- the line at this place has at most 1,024 bytes as it came
+abbrev pub IsShortAt : List ℕ → ℕ → Type 0
+IsShortAt heard place = IfSome (slice_get (raw_lines heard) place) (λ line. length line ≤ 1024)
+
+-- so have the first lines, so many
+abbrev pub AreShort : List ℕ → ℕ → Type 0
+AreShort heard many = (place : ℕ) → place < many → IsShortAt heard place
 
 -- What was said with the child: the bytes of its requests were written to it, and then these; and its lines say its
--- answers.
+-- answers, each in at most 1,024 bytes.
 pub record IsSaid (task : Task) (version : ℕ) (requests : List Request) (replies : List Entry)
     (further : List ℕ) (child : ℕ) (talk : Talk) : Type 0 where
   pub written : talk.written ≡ bytes_to child requests ++ further
   pub answered : AreSaid task version requests replies child (lines_of talk.heard)
+  pub short : AreShort talk.heard (count_to child (take (length replies) requests))
 
 -- The dialogue of a transcript: where something was asked, each child of a pool that tells what was said with it was
 -- written exactly its requests, and its lines say its answers.
@@ -138,12 +150,12 @@ pub record BrokenOff (task : Task) (version : ℕ) (pools : List Workers) (Front
 
 -- ---- lines that are no answer
 
--- At this place of the bytes' lines stands one of at most 1,024 bytes that is none, for this cause; or 1,025 bytes
--- without a line feed follow the lines before it.
+-- At this place of the bytes' lines stands one that is none, for this cause, and came with at most 1,024 bytes; or
+-- 1,025 bytes without a line feed follow the lines before it.
 abbrev pub IsBadLine : List ℕ → ℕ → Wanted → Why → Type 0
 IsBadLine heard place wanted why =
     ((line : List ℕ) × (slice_get (lines_of heard) place ≡ Some line) × (reply_of line wanted ≡ bad why)
-    × (length line ≤ 1024))
+    × IsShortAt heard place)
     ⊎ ((why ≡ TooLong) × (length (lines_of heard) ≡ place) × (length (unfinished heard) ≡ 1025))
 
 -- Each request before the one of this number is answered, and the line that its child says next is no answer, for this

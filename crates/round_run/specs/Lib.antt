@@ -1,10 +1,15 @@
 pub mod Batches
 pub mod Breaking
 pub mod Calls
+pub mod Children
 pub mod Dialogue
 pub mod Held
+pub mod Open
 pub mod Resting
 pub mod Rolling
 pub mod Starts
 pub mod Stops
 pub mod Talking
+pub mod Told
+pub mod TurnLines
+pub mod Desk

@@ -2,7 +2,7 @@
 use Rattle.std.specs.Prelude.{◌≡◌, ℕ, ◌≤◌, ◌⊎◌, List, [], ◌∷◌, ◌++◌, length, take, Option, Some, slice_get, unwrap_or, IfSome, Bool, true, false}
 use Rattle.std.specs.List.{after_first}
 use Rattle.gen_lines.specs.Cutting.{Cut}
-use Rattle.gen_lines.specs.Lines.{is_feed, lines_of}
+use Rattle.gen_lines.specs.Lines.{IsFirstShort, is_feed, lines_of}
 use Rattle.gen_lines.specs.declared.answer.Why.{Why}
 use Rattle.gen_lines.specs.declared.answer.Why.TheVariants.{TooLong}
 use Rattle.io_world.specs.Talks.{Talk, Hears, silence}
@@ -13,7 +13,7 @@ use Rattle.session_core.specs.declared.fault.Heard.TheVariants as heard
 use Rattle.pools.specs.Pools.{Workers}
 use Rattle.task_model.specs.declared.task.Task.{Task}
 use Rattle.transcript_model.specs.declared.entry.Entry.{Entry}
-use Rattle.round_run.specs.Dialogue.{AreSaid, IsOneOf, Request, bytes_to, count_to, last_round, replies_of, requests_of, text_of_request, wanted_by}
+use Rattle.round_run.specs.Dialogue.{AreSaid, AreShort, IsOneOf, Request, bytes_to, count_to, last_round, replies_of, requests_of, text_of_request, wanted_by}
 use Rattle.round_run.specs.Held.{Held}
 use Rattle.round_run.specs.Rolling.{finished}
 use Rattle.round_run.specs.declared.fault.RunFault.{RunFault}
@@ -26,7 +26,7 @@ abbrev pub held_of : Held → ℕ → List ℕ
 held_of held child = unwrap_or (slice_get held.buffers child) []
 
 -- The child was written its requests. Its bytes are one line for each of these that is answered, which says that
--- answer, and then the bytes that are kept.
+-- answer in at most 1,024 bytes, and then the bytes that are kept.
 pub record IsTalk (task : Task) (version : ℕ) (requests : List Request) (replies : List Entry)
     (child : ℕ) (kept : List ℕ) (talk : Talk) : Type 0 where
   pub written : talk.written ≡ bytes_to child requests
@@ -34,6 +34,7 @@ pub record IsTalk (task : Task) (version : ℕ) (requests : List Request) (repli
   pub cut : Cut talk.heard taken kept
   pub many : length taken ≡ count_to child (take (length replies) requests)
   pub said : AreSaid task version requests replies child taken
+  pub short : AreShort talk.heard (length taken)
 
 -- ---- all children
 
@@ -104,7 +105,8 @@ IsAnswerRefused slots child line Generator = ⊥
 IsAnswerRefused slots child line Memory = ⊥
 IsAnswerRefused slots child line Write = ⊥
 
--- Bytes of the child came, the first line of all that are kept of it is taken, and it is an answer.
+-- Bytes of the child came, the first line of all that are kept of it is taken, and it is an answer, in at most 1,024
+-- bytes as it came.
 pub record TakesAnswer (old : State) (child : ℕ) (new : State) (kept left : List ℕ)
     (was now : ℕ → Option Talk) : Type 0 where
   pub more : List ℕ
@@ -112,15 +114,16 @@ pub record TakesAnswer (old : State) (child : ℕ) (new : State) (kept left : Li
   pub line : List ℕ
   pub first : lines_of (kept ++ more) ≡ line ∷ lines_of (after_first is_feed (kept ++ more))
   pub rest : left ≡ after_first is_feed (kept ++ more)
-  pub few : length line ≤ 1024
+  pub few : IsFirstShort (kept ++ more)
   pub good : is_bad_at old.slots child line ≡ false
   pub after : new ≡ after_line old child line false
 
--- the first line of these bytes, of at most 1,024, is no answer, for this cause; or they are 1,025 without a line feed
+-- the first line of these bytes, of at most 1,024 as it came, is no answer, for this cause; or they are 1,025 without a
+-- line feed
 abbrev pub IsBadFirst : List Slot → ℕ → List ℕ → ℕ → Why → Type 0
 IsBadFirst slots child bytes number why =
     ((line : List ℕ) × (lines_of bytes ≡ line ∷ lines_of (after_first is_feed bytes))
-    × (heard_at slots child line ≡ heard.Bad number why) × (length line ≤ 1024))
+    × (heard_at slots child line ≡ heard.Bad number why) × IsFirstShort bytes)
     ⊎ ((why ≡ TooLong) × (lines_of bytes ≡ []) × (length bytes ≡ 1025))
 
 -- why no answer of the child was taken, of which these bytes are known

@@ -15,7 +15,7 @@ use transcript_model::Entry;
 /// # Errors
 /// `Write` where the sink took no more, and only where its count of faults rose; the first bytes
 /// may have been written.
-pub fn print_entry<O: Sink>(out: &mut O, entry: &Entry) -> Result<(), RunFault>
+pub(crate) fn print_entry<O: Sink>(out: &mut O, entry: &Entry) -> Result<(), RunFault>
     ensures told { Prints result (O.taken out.old) (O.taken out.new) (text_of_entry entry.now) }
     ensures only { IfErr result (λ fault. fault ≡ Write) }
     ensures cause { HasCause Write last_count (O.faults out.old) (O.faults out.new) result }

@@ -1,17 +1,14 @@
 //! What was read from children and not yet taken as lines, and which were started.
-ghost use Rattle.std.specs.Prelude.{◌≡◌, [], ◌≤◌, ℕ, true, false, map, string_bytes, option_copied, Ok, Err, IfErr, IfOk, OnOk};
+ghost use Rattle.std.specs.Prelude.{◌≡◌, [], ◌≤◌, ℕ, false, map, string_bytes, option_copied, IfOk};
 ghost use Rattle.std.specs.List.{find};
-ghost use Rattle.io_world.specs.Faults.{Extends, HasCause};
-ghost use Rattle.io_world.specs.Talks.{Becomes, Logs, Same, started};
-ghost use Rattle.io_world.specs.declared.host.HostFault.{HostFault as AnyHostFault};
-ghost use Rattle.round_run.specs.Calls.{LogStartsPart, LogStops, has_child, starts_of};
+ghost use Rattle.io_world.specs.Talks.{Same};
+ghost use Rattle.round_run.specs.Calls.{LogStops, has_child};
+ghost use Rattle.round_run.specs.Children.{StartsAll, StartsHeld};
 ghost use Rattle.round_run.specs.Held.{is_child_running};
-ghost use Rattle.round_run.specs.Resting.{KeepsSilent, MayStart};
-ghost use Rattle.round_run.specs.Rolling.{IsHostFault};
-ghost use Rattle.round_run.specs.Starts.{AllWork, AreStartable, NoneWorks};
-ghost use Rattle.round_run.specs.Stops.{MayHear};
+ghost use Rattle.round_run.specs.Resting.{MayStart};
+ghost use Rattle.round_run.specs.Starts.{AreStartable, NoneWorks};
 ghost use Rattle.round_run.specs.Talking.{held_of};
-ghost use Rattle.round_run.specs.declared.fault.RunFault.TheVariants.{Generator};
+ghost use Rattle.round_run.specs.Told.{course};
 
 use crate::child::start;
 use crate::fault::RunFault;
@@ -83,18 +80,8 @@ impl Lines {
     ) -> Result<(), RunFault>
         requires may { MayStart self.old child argv.now }
         requires state { Same (H.running host.old) (is_child_running self.old) }
-        ensures state { Same (H.running host.new) (is_child_running self.new) }
-        ensures running { OnOk result
-            (Becomes child true (is_child_running self.old) (is_child_running self.new)) }
-        ensures quiet { KeepsSilent self.old self.new (H.spoken host.old) (H.spoken host.new) }
-        ensures log { OnOk result (Logs (H.log host.old) (H.log host.new)
-            (started child (map string_bytes argv.now) (Ok tt))) }
-        ensures refused { IfErr result
-            (λ fault. (cause : AnyHostFault) × IsHostFault cause fault
-            × Logs (H.log host.old) (H.log host.new)
-            (started child (map string_bytes argv.now) (Err cause))) }
-        ensures only { IfErr result MayHear }
-        ensures cause { HasCause Generator H.last (H.faults host.old) (H.faults host.new) result }
+        ensures starts { StartsHeld child (map string_bytes argv.now) self.old self.new
+            (course H.last H.running H.spoken H.log H.faults host.old host.new) result }
     {
         start(host, child, argv)?;
         self.started[child as usize] = true;
@@ -110,15 +97,8 @@ impl Lines {
         requires pools { AreStartable pools.now }
         requires idle { NoneWorks pools.now (is_child_running self.old) }
         requires state { Same (H.running host.old) (is_child_running self.old) }
-        ensures state { Same (H.running host.new) (is_child_running self.new) }
-        ensures running { OnOk result (AllWork pools.now (is_child_running self.new)) }
-        ensures quiet { KeepsSilent self.old self.new (H.spoken host.old) (H.spoken host.new) }
-        ensures log { OnOk result (Extends (H.log host.old) (H.log host.new)
-            (starts_of pools.now)) }
-        ensures refused { IfErr result
-            (λ fault. LogStartsPart (starts_of pools.now) fault (H.log host.old) (H.log host.new)) }
-        ensures only { IfErr result MayHear }
-        ensures cause { HasCause Generator H.last (H.faults host.old) (H.faults host.new) result }
+        ensures starts { StartsAll pools.now self.old self.new (course H.last H.running H.spoken
+            H.log H.faults host.old host.new) result }
     {
         for child in 0..CHILDREN as u8 {
             if let Some(pool) = pool_with(pools, child) {

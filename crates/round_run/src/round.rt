@@ -1,20 +1,17 @@
 //! One round: all its requests are written, and then its answers are heard, in the order of the
 //! requests.
-ghost use Rattle.std.specs.Prelude.{◌≡◌, ◌<◌, ◌+◌, ◌++◌, ℕ, List, length, take, IfErr, OnOk};
-ghost use Rattle.instance_queue.specs.Level.{instances_of};
-ghost use Rattle.io_world.specs.Faults.{HasCause};
+ghost use Rattle.std.specs.Prelude.{◌≡◌, ◌<◌, ◌+◌, ◌++◌, length};
 ghost use Rattle.io_world.specs.Talks.{Same};
-ghost use Rattle.round_run.specs.Breaking.{LogBreaks, LogHears};
-ghost use Rattle.round_run.specs.Calls.{Calls, LogReads};
+ghost use Rattle.round_run.specs.Children.{HearsLine};
 ghost use Rattle.round_run.specs.Held.{is_child_running};
-ghost use Rattle.round_run.specs.Resting.{GoesInOrder, AreCaused, Awaits, IsUp, KeepsOthers, Listens, RanRound, Rolled, Stays, StaysIdle};
-ghost use Rattle.round_run.specs.Rolling.{Goes, IsFrontPart, IsRolling, Stopped, finished};
-ghost use Rattle.round_run.specs.Talking.{IsTalking, Misheard, TakesAnswer, held_of};
+ghost use Rattle.round_run.specs.Open.{HearsOn, RunsRound, SendsOn, asked_to, heard_to};
+ghost use Rattle.round_run.specs.Resting.{Awaits, IsUp, KeepsOthers, Listens};
+ghost use Rattle.round_run.specs.Rolling.{IsRolling, finished};
+ghost use Rattle.round_run.specs.Talking.{held_of};
+ghost use Rattle.round_run.specs.Told.{course, stretch};
 ghost use Rattle.round_run.specs.Batches.{AllRun};
-ghost use Rattle.round_run.specs.declared.fault.RunFault.TheVariants.{Generator, Memory};
-ghost use Rattle.session_core.specs.Session.{IsSession, MayBeginRound};
-ghost use Rattle.task_model.specs.declared.task.Task.{Task as AnyTask};
-ghost use Rattle.transcript_model.specs.Rounds.{IsRound};
+ghost use Rattle.round_run.specs.declared.fault.RunFault.TheVariants.{Memory};
+ghost use Rattle.session_core.specs.Session.{MayBeginRound};
 
 use crate::child::{hear, send};
 use crate::entry_print::print_entry;
@@ -41,30 +38,9 @@ fn send_one<H: Host, O: Sink>(
 ) -> Result<(), RunFault>
     requires rolling { IsRolling session.old (H.running host.old) place 0 }
     requires within { place < length session.old.slots }
-    ensures rolled { OnOk result (Rolled session.old session.new (H.running host.new) (place + 1)
-        0) }
-    ensures goes { OnOk result (Goes (session.old.entries ++ take place session.old.asks)
-        (session.old.entries ++ take (place + 1) session.old.asks) (O.taken out.old)
-        (O.taken out.new)) }
-    ensures said { (task : AnyTask) (kept : ℕ → List ℕ) → IsSession task session.old
-        → IsTalking task session.old place 0 kept (H.spoken host.old)
-        → OnOk result (IsTalking task session.new (place + 1) 0 kept (H.spoken host.new)
-        × Calls task session.old.pools (session.old.entries ++ take place session.old.asks)
-        (session.old.entries ++ take (place + 1) session.old.asks) (H.log host.old)
-        (H.log host.new)) }
-    ensures stopped { (task : AnyTask) (kept : ℕ → List ℕ) → IsSession task session.old
-        → IsTalking task session.old place 0 kept (H.spoken host.old)
-        → IfErr result (λ fault. Stopped session.old.version task session.old.pools
-        (IsFrontPart session.old.entries (IsRound task session.old.entries session.old.instances))
-        (session.old.entries ++ take place session.old.asks) fault (O.taken out.old)
-        (O.taken out.new) (H.spoken host.new)
-        (LogBreaks task session.old.version session.old.pools
-        (session.old.entries ++ take place session.old.asks) fault (H.log host.old)
-        (H.log host.new))) }
-    ensures kept { (task : AnyTask) → IsSession task session.old → IsSession task session.new }
-    ensures running { Same (H.running host.old) (H.running host.new) }
-    ensures causes { AreCaused H.last (H.faults host.old) (H.faults host.new) (O.faults out.old)
-        (O.faults out.new) result }
+    ensures sends { SendsOn session.old session.new (stretch H.last H.running H.spoken H.log
+        H.faults O.taken O.faults host.old host.new out.old out.new) place (place + 1)
+        (asked_to session.old place) (asked_to session.old (place + 1)) result }
 {
     let (child, request) = session.request(place);
     send(host, child, request)?;
@@ -81,25 +57,9 @@ fn send_all<H: Host, O: Sink>(
 ) -> Result<(), RunFault>
     requires rolling { IsRolling session.old (H.running host.old) 0 0 }
     requires count { count ≡ length session.old.slots }
-    ensures rolled { OnOk result (Rolled session.old session.new (H.running host.new) count 0) }
-    ensures goes { OnOk result (Goes session.old.entries (session.old.entries ++ session.old.asks)
-        (O.taken out.old) (O.taken out.new)) }
-    ensures said { (task : AnyTask) (kept : ℕ → List ℕ) → IsSession task session.old
-        → IsTalking task session.old 0 0 kept (H.spoken host.old)
-        → OnOk result (IsTalking task session.new count 0 kept (H.spoken host.new)
-        × Calls task session.old.pools session.old.entries
-        (session.old.entries ++ session.old.asks) (H.log host.old) (H.log host.new)) }
-    ensures stopped { (task : AnyTask) (kept : ℕ → List ℕ) → IsSession task session.old
-        → IsTalking task session.old 0 0 kept (H.spoken host.old)
-        → IfErr result (λ fault. Stopped session.old.version task session.old.pools
-        (IsFrontPart session.old.entries (IsRound task session.old.entries session.old.instances))
-        session.old.entries fault (O.taken out.old) (O.taken out.new) (H.spoken host.new)
-        (LogBreaks task session.old.version session.old.pools session.old.entries fault
-        (H.log host.old) (H.log host.new))) }
-    ensures kept { (task : AnyTask) → IsSession task session.old → IsSession task session.new }
-    ensures running { Same (H.running host.old) (H.running host.new) }
-    ensures causes { AreCaused H.last (H.faults host.old) (H.faults host.new) (O.faults out.old)
-        (O.faults out.new) result }
+    ensures sends { SendsOn session.old session.new (stretch H.last H.running H.spoken H.log
+        H.faults O.taken O.faults host.old host.new out.old out.new) 0 count session.old.entries
+        (session.old.entries ++ session.old.asks) result }
 {
     for place in 0..count {
         send_one(session, host, out, place)?;
@@ -116,19 +76,10 @@ fn hear_child<H: Host>(
 ) -> Result<(), RunFault>
     requires up { IsUp lines.old (H.running host.old) child }
     requires awaits { Awaits session.old child }
-    ensures taken { OnOk result (TakesAnswer session.old child session.new (held_of lines.old child)
-        (held_of lines.new child) (H.spoken host.old) (H.spoken host.new)) }
+    ensures hears { HearsLine child session.old session.new (held_of lines.old child)
+        (held_of lines.new child) (course H.last H.running H.spoken H.log H.faults host.old
+        host.new) result }
     ensures keeps { KeepsOthers lines.old lines.new child }
-    ensures misheard { IfErr result
-        (Misheard session.old.slots child (held_of lines.old child) (H.spoken host.old)
-        (H.spoken host.new)) }
-    ensures log { OnOk result (LogReads child (held_of lines.old child) (H.log host.old)
-        (H.log host.new)) }
-    ensures refused { IfErr result (λ fault. LogHears child (held_of lines.old child) fault
-        (H.log host.old) (H.log host.new)) }
-    ensures kept { (task : AnyTask) → IsSession task session.old → IsSession task session.new }
-    ensures running { Same (H.running host.old) (H.running host.new) }
-    ensures cause { HasCause Generator H.last (H.faults host.old) (H.faults host.new) result }
 {
     hear(session, &mut lines.buffers[child as usize], host, child)
 }
@@ -144,35 +95,10 @@ fn hear_one<H: Host, O: Sink>(
     requires rolling { IsRolling session.old (H.running host.old) (length session.old.slots) place }
     requires within { place < length session.old.slots }
     requires state { Same (H.running host.old) (is_child_running lines.old) }
-    ensures rolled { OnOk result (Rolled session.old session.new (H.running host.new)
-        (length session.new.slots) (place + 1)) }
-    ensures goes { OnOk result
-        ((take place (finished session.new.slots) ≡ take place (finished session.old.slots))
-        × Goes (session.old.entries ++ session.old.asks ++ take place (finished session.new.slots))
-        (session.old.entries ++ session.old.asks ++ take (place + 1) (finished session.new.slots))
-        (O.taken out.old) (O.taken out.new)) }
-    ensures said { (task : AnyTask) → IsSession task session.old
-        → IsTalking task session.old (length session.old.slots) place (held_of lines.old)
-        (H.spoken host.old) → OnOk result
-        (IsTalking task session.new (length session.new.slots) (place + 1) (held_of lines.new)
-        (H.spoken host.new) × Calls task session.old.pools
-        (session.old.entries ++ session.old.asks ++ take place (finished session.new.slots))
-        (session.old.entries ++ session.old.asks ++ take (place + 1) (finished session.new.slots))
-        (H.log host.old) (H.log host.new)) }
-    ensures stopped { (task : AnyTask) → IsSession task session.old
-        → IsTalking task session.old (length session.old.slots) place (held_of lines.old)
-        (H.spoken host.old) → IfErr result
-        (λ fault. Stopped session.old.version task session.old.pools
-        (IsFrontPart session.old.entries (IsRound task session.old.entries session.old.instances))
-        (session.old.entries ++ session.old.asks ++ take place (finished session.old.slots)) fault
-        (O.taken out.old) (O.taken out.new) (H.spoken host.new)
-        (LogBreaks task session.old.version session.old.pools
-        (session.old.entries ++ session.old.asks ++ take place (finished session.old.slots)) fault
-        (H.log host.old) (H.log host.new))) }
-    ensures kept { (task : AnyTask) → IsSession task session.old → IsSession task session.new }
-    ensures same { StaysIdle lines.old lines.new (H.running host.old) (H.running host.new) }
-    ensures causes { AreCaused H.last (H.faults host.old) (H.faults host.new) (O.faults out.old)
-        (O.faults out.new) result }
+    ensures hears { HearsOn session.old session.new lines.old lines.new (stretch H.last H.running
+        H.spoken H.log H.faults O.taken O.faults host.old host.new out.old out.new) place
+        (place + 1) (heard_to session.old session.old.slots place)
+        (heard_to session.old session.new.slots (place + 1)) result }
 {
     let (child, _) = session.request(place);
     hear_child(session, lines, host, child)?;
@@ -193,28 +119,10 @@ fn hear_all<H: Host, O: Sink>(
     requires rolling { IsRolling session.old (H.running host.old) count 0 }
     requires count { count ≡ length session.old.slots }
     requires state { Same (H.running host.old) (is_child_running lines.old) }
-    ensures rolled { OnOk result (Rolled session.old session.new (H.running host.new) count count) }
-    ensures goes { OnOk result (Goes (session.old.entries ++ session.old.asks)
-        (session.old.entries ++ session.old.asks ++ finished session.new.slots) (O.taken out.old)
-        (O.taken out.new)) }
-    ensures said { (task : AnyTask) → IsSession task session.old
-        → IsTalking task session.old count 0 (held_of lines.old) (H.spoken host.old)
-        → OnOk result (IsTalking task session.new count count (held_of lines.new)
-        (H.spoken host.new) × Calls task session.old.pools
+    ensures hears { HearsOn session.old session.new lines.old lines.new (stretch H.last H.running
+        H.spoken H.log H.faults O.taken O.faults host.old host.new out.old out.new) 0 count
         (session.old.entries ++ session.old.asks)
-        (session.old.entries ++ session.old.asks ++ finished session.new.slots) (H.log host.old)
-        (H.log host.new)) }
-    ensures stopped { (task : AnyTask) → IsSession task session.old
-        → IsTalking task session.old count 0 (held_of lines.old) (H.spoken host.old)
-        → IfErr result (λ fault. Stopped session.old.version task session.old.pools
-        (IsFrontPart session.old.entries (IsRound task session.old.entries session.old.instances))
-        (session.old.entries ++ session.old.asks) fault (O.taken out.old) (O.taken out.new)
-        (H.spoken host.new) (LogBreaks task session.old.version session.old.pools
-        (session.old.entries ++ session.old.asks) fault (H.log host.old) (H.log host.new))) }
-    ensures kept { (task : AnyTask) → IsSession task session.old → IsSession task session.new }
-    ensures same { StaysIdle lines.old lines.new (H.running host.old) (H.running host.new) }
-    ensures causes { AreCaused H.last (H.faults host.old) (H.faults host.new) (O.faults out.old)
-        (O.faults out.new) result }
+        (session.old.entries ++ session.old.asks ++ finished session.new.slots) result }
 {
     for place in 0..count {
         hear_one(session, lines, host, out, place)?;
@@ -235,23 +143,9 @@ pub(crate) fn run_round<H: Host, O: Sink>(
     requires all_run { AllRun session.old.pools (H.running host.old) }
     requires listens { Listens task.now session.old lines.old (H.running host.old)
         (H.spoken host.old) }
-    ensures session { IsSession task.now session.new }
-    ensures listens { OnOk result (Listens task.now session.new lines.new (H.running host.new)
-        (H.spoken host.new)) }
-    ensures ran { OnOk result (RanRound task.now dues.now session.old session.new) }
-    ensures adds { OnOk result (GoesInOrder session.old.entries session.new.entries
-        (O.taken out.old) (O.taken out.new)
-        (Calls task.now session.old.pools session.old.entries session.new.entries
-        (H.log host.old) (H.log host.new))) }
-    ensures stopped { IfErr result (λ fault. Stopped session.old.version task.now session.old.pools
-        (IsFrontPart session.old.entries
-        (IsRound task.now session.old.entries (instances_of dues.now)))
-        session.old.entries fault (O.taken out.old) (O.taken out.new) (H.spoken host.new)
-        (LogBreaks task.now session.old.version session.old.pools session.old.entries fault
-        (H.log host.old) (H.log host.new))) }
-    ensures same { Stays lines.old lines.new (H.running host.old) (H.running host.new) }
-    ensures causes { AreCaused H.last (H.faults host.old) (H.faults host.new) (O.faults out.old)
-        (O.faults out.new) result }
+    ensures runs { RunsRound task.now dues.now session.old session.new lines.old lines.new
+        (stretch H.last H.running H.spoken H.log H.faults O.taken O.faults host.old host.new
+        out.old out.new) result }
 {
     let count = match session.begin_round(task, dues) {
         Ok(count) => count,

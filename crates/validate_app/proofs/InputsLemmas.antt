@@ -1,43 +1,75 @@
--- Why a run stops at a file, and that the task of its texts is fit.
-use Rattle.std.proofs.Common.{◌≡◌, ℕ, ◌≤◌, List, [], ◌∷◌, refl, sym, ap, subst, arith, Option, Some, slice_get, Result, Ok, Err}
+-- Why a run stops at a file, and that no streams are fit.
+use Rattle.std.proofs.Common.{◌≡◌, ℕ, ◌≤◌, List, [], ◌∷◌, refl, sym, ap, subst, arith, Option, None, Some, option_map}
 use Rattle.lemmas.specs.Lists.{LeadsAlong}
 use Rattle.io_world.specs.FileMap.{FileMap}
+use Rattle.legal_report.specs.Reports.{RefusesReport, SpellsTranscript}
+use Rattle.legal_report.specs.declared.flaw.ReportFlaw.{ReportFlaw}
 use Rattle.plan_reader.specs.Plans.{RefusesPlan}
-use Rattle.problem_reader.specs.Fitness.{IsFitOver}
-use Rattle.task_model.specs.Fit.{AreFitStreams, IsFit, IsFitDomain, leads}
+use Rattle.stream_reader.specs.Fitness.{AreFitOver}
+use Rattle.task_model.specs.Fit.{leads}
 use Rattle.task_model.specs.declared.domain.Domain as domains
 use Rattle.task_model.specs.declared.stream.Stream.{Stream}
 use Rattle.task_model.specs.declared.task.Problem as problems
 use Rattle.task_model.specs.declared.task.Task.{Task}
 use Rattle.task_reader.specs.Refusals.{Refuses}
-use Rattle.task_reader.specs.Texts.{RefusesDomain, RefusesProblem}
+use Rattle.task_reader.specs.Texts.{RefusesDomain, RefusesProblem, RefusesStreams, SpellsStreams}
 use Rattle.task_reader.specs.declared.refusal.InputRefusal.{InputRefusal}
 use Rattle.task_reader.specs.declared.refusal.InputRefusal.TheVariants as refusal
+use Rattle.transcript_model.specs.declared.entry.Entry.{Entry}
 use Rattle.validate_app.specs.Files.{EndsAt, FilesSeen, HasBytes}
-use Rattle.validate_app.specs.Inputs.{AreAccepted, IsDomainOf, StopsAt, path_of, stop_for}
-use Rattle.validate_app.specs.Words.{ValidateWords}
+use Rattle.validate_app.specs.Inputs.{AreAccepted, AreStreamsBy, AreStreamsOf, HasProblem, Holds, IsDomainOf, IsTaskOf, IsTranscriptBy, IsTranscriptOf, StopsAt, path_of, stop_for}
+use Rattle.validate_app.specs.Words.{ReportWords, ValidateWords}
 use Rattle.validate_app.specs.declared.stop.FileRole.{FileRole}
-use Rattle.validate_app.specs.declared.stop.FileRole.TheVariants.{Domain, Problem, Plan}
+use Rattle.validate_app.specs.declared.stop.FileRole.TheVariants.{Domain, Problem, Streams, Report, Plan}
 use Rattle.validate_app.specs.declared.stop.Stop.{Stop}
 use Rattle.validate_app.specs.declared.stop.Stop.TheVariants as stop
 
+module _ (told : Option FileMap) (w : ValidateWords) where
+  -- what is so of the text is so of the file's bytes
+  holds : (which : FileRole) (path : List ℕ) → path_of w which ≡ Some path → (bytes : List ℕ)
+      → HasBytes told which path bytes → (text : List ℕ) → text ≡ bytes → (IsSo : List ℕ → Type 0) → IsSo text
+      → Holds told w which IsSo
+  holds which path named bytes has text is IsSo so =
+      record { path = path; named = named; bytes = bytes; has = has; so = subst IsSo is so }
+
+  module _ (r : ReportWords) (certified : w.certified ≡ Some r) where
+    pub streams_named : path_of w Streams ≡ Some r.streams
+    streams_named = ap (option_map (λ (r : ReportWords). r.streams)) certified
+
+    pub report_named : path_of w Report ≡ Some r.report
+    report_named = ap (option_map (λ (r : ReportWords). r.report)) certified
+
+    pub streams_there : (d : domains.Domain) (bytes : List ℕ) → HasBytes told Streams r.streams bytes
+        → (text : List ℕ) → text ≡ bytes → (ss : List Stream) → SpellsStreams d text ss → AreStreamsOf told w d ss
+    streams_there d bytes has text is ss spelled =
+        let there = holds Streams r.streams streams_named bytes has text is (λ b. SpellsStreams d b ss) spelled in
+        subst (AreStreamsBy told w d ss) (sym certified) there
+
+    pub report_there : (task : Task) (bytes : List ℕ) → HasBytes told Report r.report bytes
+        → (text : List ℕ) → text ≡ bytes → (entries : List Entry) → SpellsTranscript task text entries
+        → IsTranscriptOf told w task entries
+    report_there task bytes has text is entries spelled =
+        let there = holds Report r.report report_named bytes has text is (λ b. SpellsTranscript task b entries) spelled in
+        subst (IsTranscriptBy told w task entries) (sym certified) there
+
 module _ (files : FilesSeen) (w : ValidateWords) where
   -- behind accepted texts a run stops at the file that isn't read
-  pub stops_there : (which : FileRole) → AreAccepted files.told w which → (why : Stop)
-      → EndsAt files which (path_of w which) why → StopsAt files w why
-  stops_there which accepted stop.Usage ends = absurd ends
-  stops_there which accepted (stop.Refused other kind place) ends = absurd ends
-  stops_there which accepted (stop.Failed other) ends =
+  pub stops_there : (which : FileRole) → AreAccepted files.told w which → (path : List ℕ) → path_of w which ≡ Some path
+      → (why : Stop) → EndsAt files which path why → StopsAt files w why
+  stops_there which accepted path named stop.Usage ends = absurd ends
+  stops_there which accepted path named (stop.Refused other kind place) ends = absurd ends
+  stops_there which accepted path named (stop.Flawed line flaw) ends = absurd ends
+  stops_there which accepted path named (stop.Failed other) ends =
       (subst (AreAccepted files.told w) (sym ends.0) accepted, ends.1)
-  stops_there which accepted (stop.TooLong other) ends =
-      subst (λ r. StopsAt files w (stop.TooLong r)) (sym ends.0) (accepted, ends.1)
-  stops_there which accepted stop.Memory ends = tt
+  stops_there which accepted path named (stop.TooLong other) ends =
+      subst (λ r. StopsAt files w (stop.TooLong r)) (sym ends.0) (accepted, (path, named, ends.1))
+  stops_there which accepted path named stop.Memory ends = tt
 
   pub domain_refused : (bytes : List ℕ) → HasBytes files.told Domain w.domain bytes → (text : List ℕ) → text ≡ bytes
       → (why : InputRefusal) → Refuses (RefusesDomain text) why → (s : Stop) → s ≡ stop_for Domain why → StopsAt files w s
   domain_refused bytes has text is (refusal.At kind place) r s so =
       subst (StopsAt files w) (sym so)
-      (record { bytes = bytes; has = has; so = subst (λ b. RefusesDomain b kind place) is r })
+      (holds files.told w Domain w.domain refl bytes has text is (λ b. RefusesDomain b kind place) r)
   domain_refused bytes has text is refusal.Memory r s so = subst (StopsAt files w) (sym so) tt
 
   pub problem_refused : (d : domains.Domain) → IsDomainOf files.told w d → (bytes : List ℕ)
@@ -45,7 +77,7 @@ module _ (files : FilesSeen) (w : ValidateWords) where
       → Refuses (RefusesProblem d text) why → (s : Stop) → s ≡ stop_for Problem why → StopsAt files w s
   problem_refused d there bytes has text is (refusal.At kind place) r s so =
       subst (StopsAt files w) (sym so)
-      (d, there, record { bytes = bytes; has = has; so = subst (λ b. RefusesProblem d b kind place) is r })
+      (d, there, holds files.told w Problem w.problem refl bytes has text is (λ b. RefusesProblem d b kind place) r)
   problem_refused d there bytes has text is refusal.Memory r s so = subst (StopsAt files w) (sym so) tt
 
   pub plan_refused : AreAccepted files.told w Plan → (bytes : List ℕ) → HasBytes files.told Plan w.plan bytes
@@ -54,8 +86,32 @@ module _ (files : FilesSeen) (w : ValidateWords) where
       → StopsAt files w s
   plan_refused accepted bytes has text is (refusal.At kind place) r s so =
       subst (StopsAt files w) (sym so)
-      (accepted, record { bytes = bytes; has = has; so = subst (λ b. RefusesPlan b kind place) is r })
+      (accepted, holds files.told w Plan w.plan refl bytes has text is (λ b. RefusesPlan b kind place) r)
   plan_refused accepted bytes has text is refusal.Memory r s so = subst (StopsAt files w) (sym so) tt
+
+module _ (files : FilesSeen) (w : ValidateWords) (r : ReportWords) (certified : w.certified ≡ Some r) where
+  pub streams_refused : (d : domains.Domain) → IsDomainOf files.told w d → HasProblem files.told w d → (bytes : List ℕ)
+      → HasBytes files.told Streams r.streams bytes → (text : List ℕ) → text ≡ bytes → (why : InputRefusal)
+      → Refuses (RefusesStreams d text) why → (s : Stop) → s ≡ stop_for Streams why → StopsAt files w s
+  streams_refused d there problem bytes has text is (refusal.At kind place) refused s so =
+      subst (StopsAt files w) (sym so) (
+        d,
+        there,
+        problem,
+        holds files.told w Streams r.streams (streams_named files.told w r certified) bytes has text is
+            (λ b. RefusesStreams d b kind place) refused,
+      )
+  streams_refused d there problem bytes has text is refusal.Memory refused s so = subst (StopsAt files w) (sym so) tt
+
+  pub report_flawed : (task : Task) → IsTaskOf files.told w task → (bytes : List ℕ)
+      → HasBytes files.told Report r.report bytes → (text : List ℕ) → text ≡ bytes → (line : ℕ) (flaw : ReportFlaw)
+      → RefusesReport task text line flaw → StopsAt files w (stop.Flawed line flaw)
+  report_flawed task spelled bytes has text is line flaw refused = (
+    task,
+    spelled,
+    holds files.told w Report r.report (report_named files.told w r certified) bytes has text is
+        (λ b. RefusesReport task b line flaw) refused,
+  )
 
 module _ (told : Option FileMap) (first mid last : ℕ) (earlier : first ≤ mid) (w : ValidateWords) where
   -- a run stops so since its beginning too
@@ -65,33 +121,34 @@ module _ (told : Option FileMap) (first mid last : ℕ) (earlier : first ≤ mid
   stops_since later same stop.Usage n = absurd n
   stops_since later same (stop.Refused which kind place) n =
       subst (λ t. StopsAt (record { told = t; first = first; last = last }) w (stop.Refused which kind place)) same n
+  stops_since later same (stop.Flawed line flaw) n =
+      subst (λ t. StopsAt (record { told = t; first = first; last = last }) w (stop.Flawed line flaw)) same n
   stops_since later same (stop.Failed which) n =
       (subst (λ t. AreAccepted t w which) same n.0, let rose = n.1 in omega (arith, earlier, rose))
   stops_since later same (stop.TooLong which) n =
       subst (λ t. StopsAt (record { told = t; first = first; last = last }) w (stop.TooLong which)) same n
   stops_since later same stop.Memory n = tt
 
--- ---- the task
+module _ (told : Option FileMap) (w : ValidateWords) (none : w.certified ≡ None) where
+  -- where no report is named there are no streams
+  pub no_streams_named : (d : domains.Domain) (ss : List Stream) → ss ≡ [] → AreStreamsOf told w d ss
+  no_streams_named d ss is = subst (AreStreamsBy told w d ss) (sym none) is
+
+  -- and the transcript is empty
+  pub no_report_named : (task : Task) → IsTranscriptOf told w task []
+  no_report_named task = subst (IsTranscriptBy told w task []) (sym none) refl
+
+-- ---- no streams
 
 -- no stream leads to itself where there is none
-pub no_streams : (d : domains.Domain) (p : problems.Problem)
-    → AreFitStreams (record { domain = d; problem = p; streams = [] })
-no_streams d p = record {
+pub no_streams : (d : domains.Domain) (ss : List Stream) → ss ≡ [] → AreFitOver d ss
+no_streams d ss none = subst (AreFitOver d) (sym none) (λ p. record {
   names = record { each = refl; distinct = λ i j x a b. absurd (cc) };
   each = refl;
-  acyclic = λ stream between. by stream between;
-}
+  acyclic = λ stream between. by p stream between;
+})
   where
-    by : (stream : ℕ) (between : List ℕ)
+    by : (p : problems.Problem) (stream : ℕ) (between : List ℕ)
         → ¬ (LeadsAlong (leads (record { domain = d; problem = p; streams = [] })) stream between stream)
-    by stream [] e = absurd (cc)
-    by stream (next ∷ more) e = let first = e.0 in absurd (cc)
-
--- a task of a fit domain and a problem that is fit over it, without streams, is fit
-pub fit_task : (d : domains.Domain) (p : problems.Problem) (ss : List Stream) → IsFitDomain d → IsFitOver d p → ss ≡ []
-    → IsFit (record { domain = d; problem = p; streams = ss })
-fit_task d p ss domain problem none = record {
-  domain = domain;
-  problem = problem ss;
-  streams = subst (λ xs. AreFitStreams (record { domain = d; problem = p; streams = xs })) (sym none) (no_streams d p);
-}
+    by p stream [] e = absurd (cc)
+    by p stream (next ∷ more) e = let first = e.0 in absurd (cc)

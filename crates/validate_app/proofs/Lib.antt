@@ -1,4 +1,6 @@
 pub mod InputsLemmas
+pub mod LawsLemmas
+pub mod OneVerdictLemmas
 pub mod OutcomesLemmas
 pub mod PartsLemmas
 pub mod StepsLemmas

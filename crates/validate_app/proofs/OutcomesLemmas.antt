@@ -1,12 +1,11 @@
 -- How a run ends that comes to an outcome.
 use Rattle.std.proofs.Common.{◌≡◌, ◌⊎◌, ℕ, List, refl, sym, ◌∙◌, subst, Option, Some, inl, inr}
 use Rattle.io_world.specs.FileMap.{FileMap}
-use Rattle.task_model.specs.Initial.{initial_known}
 use Rattle.task_model.specs.Known.{Known}
 use Rattle.task_model.specs.declared.task.Task.{Task}
 use Rattle.transcript_model.specs.declared.entry.Call.{Call}
 use Rattle.validate_app.specs.Files.{FilesSeen}
-use Rattle.validate_app.specs.Inputs.{IsPlanOf, IsTaskOf, StopsAt}
+use Rattle.validate_app.specs.Inputs.{IsCertain, IsPlanOf, IsTaskOf, IsTranscriptOf, StopsAt}
 use Rattle.validate_app.specs.Verdicts.{IsVerdict}
 use Rattle.validate_app.specs.Words.{ValidateWords, words_of}
 use Rattle.validate_app.specs.declared.verdict.Verdict.{Verdict}
@@ -37,6 +36,7 @@ no_fault (Judged (verdict.Step number why) claimed) e = absurd (cc)
 no_fault (Judged (verdict.Goal part) claimed) e = absurd (cc)
 no_fault (Stopped stop.Usage) e = absurd (cc)
 no_fault (Stopped (stop.Refused which kind place)) e = absurd (cc)
+no_fault (Stopped (stop.Flawed line flaw)) e = absurd (cc)
 no_fault (Stopped (stop.Failed which)) e = absurd (cc)
 no_fault (Stopped (stop.TooLong which)) e = absurd (cc)
 no_fault (Stopped stop.Memory) e = absurd (cc)
@@ -55,21 +55,24 @@ pub has_stopped : (words : List (List ℕ)) (files : FilesSeen) (w : ValidateWor
     → StopsAt files w why → HasStopped words files why
 has_stopped words files w meant stop.Usage n = absurd n
 has_stopped words files w meant (stop.Refused which kind place) n = (w, meant, n)
+has_stopped words files w meant (stop.Flawed line flaw) n = (w, meant, n)
 has_stopped words files w meant (stop.Failed which) n = (w, meant, n)
 has_stopped words files w meant (stop.TooLong which) n = (w, meant, n)
 has_stopped words files w meant stop.Memory n = tt
 
 -- ---- verdicts
 
--- what is said over what is known at first is said of the files
-pub is_judged : (told : Option FileMap) (w : ValidateWords) (task : Task) → IsTaskOf told w task
-    → (later : Option FileMap) → later ≡ told → (calls : List Call) (claimed : Option ℕ) → IsPlanOf later w calls claimed → (known : Known)
-    → known ≡ initial_known task → (slice : List Call) → slice ≡ calls → (v : Verdict) → IsVerdict task known slice v
-    → IsJudged told w v claimed
-is_judged told w task spelled later same calls claimed plan known first slice is v said = record {
+-- what is said over what the transcript certifies is said of the files
+pub is_judged : (told : Option FileMap) (w : ValidateWords) (task : Task) → IsTaskOf told w task → (mid : Option FileMap)
+    → mid ≡ told → (known : Known) → IsCertain mid w task known → (later : Option FileMap) → later ≡ told
+    → (calls : List Call) (claimed : Option ℕ) → IsPlanOf later w calls claimed → (slice : List Call) → slice ≡ calls
+    → (v : Verdict) → IsVerdict task known slice v → IsJudged told w v claimed
+is_judged told w task spelled mid first known certain later same calls claimed plan slice is v said = record {
   task = task;
   spelled = spelled;
+  entries = certain.0;
+  report = subst (λ t. IsTranscriptOf t w task certain.0) first certain.1;
   calls = calls;
   plan = subst (λ t. IsPlanOf t w calls claimed) same plan;
-  said = subst (λ k. IsVerdict task k calls v) first (subst (λ cs. IsVerdict task known cs v) is said);
+  said = subst (λ k. IsVerdict task k calls v) certain.2 (subst (λ cs. IsVerdict task known cs v) is said);
 }

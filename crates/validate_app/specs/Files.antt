@@ -3,11 +3,12 @@ use Rattle.std.specs.Prelude.{◌≡◌, ℕ, ◌≤◌, List, length, Option, S
 use Rattle.io_world.specs.FileMap.{FileMap, HasMore}
 use Rattle.io_world.specs.Faults.{Rose, last_count}
 use Rattle.plan_reader.specs.declared.plan.TheConstants.{PLAN_BYTES}
+use Rattle.report_reader.specs.declared.reader.TheConstants.{REPORT_BYTES}
 use Rattle.task_reader.specs.declared.texts.TheConstants.{TEXT_BYTES}
 use Rattle.validate_app.specs.declared.stop.FileRole.{FileRole}
 use Rattle.validate_app.specs.declared.stop.FileRole.TheVariants as role
 use Rattle.validate_app.specs.declared.stop.Stop.{Stop}
-use Rattle.validate_app.specs.declared.stop.Stop.TheVariants.{Usage, Refused, Failed, TooLong, Memory}
+use Rattle.validate_app.specs.declared.stop.Stop.TheVariants.{Usage, Refused, Flawed, Failed, TooLong, Memory}
 
 -- What stands under each path, and the count of the files' faults, before a run and after it.
 pub record FilesSeen : Type 0 where
@@ -23,9 +24,10 @@ seen_of told faults old new = record { told = told old; first = faults old; last
 abbrev pub HaveFailed : FilesSeen → Type 0
 HaveFailed files = Rose last_count files.first files.last
 
--- the most bytes of a file: 4 MiB, and 32 MiB of a plan
+-- the most bytes of a file: 4 MiB, 32 MiB of a plan, and 256 MiB of a report
 abbrev pub most_of : FileRole → ℕ
 most_of role.Plan = PLAN_BYTES
+most_of role.Report = REPORT_BYTES
 most_of which = TEXT_BYTES
 
 -- The file of this path has these bytes, where files are told, and no more of them than it may have.
@@ -42,6 +44,7 @@ IsTooLong told which path = IfSome told (λ files. HasMore (files path) (most_of
 abbrev pub EndsAt : FilesSeen → FileRole → List ℕ → Stop → Type 0
 EndsAt files which path Usage = ⊥
 EndsAt files which path (Refused other kind place) = ⊥
+EndsAt files which path (Flawed line flaw) = ⊥
 EndsAt files which path (Failed other) = (other ≡ which) × HaveFailed files
 EndsAt files which path (TooLong other) = (other ≡ which) × IsTooLong files.told which path
 EndsAt files which path Memory = ⊤

@@ -1,10 +1,19 @@
 -- The paths that code lends, as words mean them.
 use Rattle.std.specs.Prelude.{Option, option_map}
-use Rattle.validate_app.specs.Words.{ValidateWords}
+use Rattle.validate_app.specs.Words.{ReportWords, ValidateWords}
 use Rattle.validate_app.specs.declared.words.Paths.{Paths}
+use Rattle.validate_app.specs.declared.words.ReportPaths.{ReportPaths}
+
+abbrev pub held_report : ReportPaths → ReportWords
+held_report p = record { report = p.report.now; streams = p.streams.now }
 
 abbrev pub held : Paths → ValidateWords
-held p = record { domain = p.domain.now; problem = p.problem.now; plan = p.plan.now }
+held p = record {
+  domain = p.domain.now;
+  problem = p.problem.now;
+  plan = p.plan.now;
+  certified = option_map held_report p.certified;
+}
 
 abbrev pub shown : Option Paths → Option ValidateWords
 shown = option_map held

@@ -2,6 +2,7 @@ pub mod Codes
 pub mod Files
 pub mod Held
 pub mod Inputs
+pub mod Laws
 pub mod Outcomes
 pub mod Parts
 pub mod Steps

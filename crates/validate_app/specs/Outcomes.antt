@@ -2,11 +2,12 @@
 use Rattle.std.specs.Prelude.{◌≡◌, ◌⊎◌, ℕ, ◌<◌, List, length, take, Option, None, Some, ⊤}
 use Rattle.std.specs.Io.KnownBytes.{Appends}
 use Rattle.io_world.specs.FileMap.{FileMap}
-use Rattle.task_model.specs.Initial.{initial_known}
 use Rattle.task_model.specs.declared.task.Task.{Task}
+use Rattle.transcript_model.specs.Transcript.{known_of}
 use Rattle.transcript_model.specs.declared.entry.Call.{Call}
+use Rattle.transcript_model.specs.declared.entry.Entry.{Entry}
 use Rattle.validate_app.specs.Files.{FilesSeen}
-use Rattle.validate_app.specs.Inputs.{IsPlanOf, IsTaskOf, StopsAt}
+use Rattle.validate_app.specs.Inputs.{IsPlanOf, IsTaskOf, IsTranscriptOf, StopsAt}
 use Rattle.validate_app.specs.Told.{status_of, text_of}
 use Rattle.validate_app.specs.Verdicts.{IsVerdict}
 use Rattle.validate_app.specs.Words.{ValidateWords, words_of}
@@ -18,13 +19,16 @@ use Rattle.validate_app.specs.declared.stop.Stop.{Stop}
 use Rattle.validate_app.specs.declared.stop.Stop.TheVariants.{Usage, Memory}
 use Rattle.validate_app.specs.declared.verdict.Verdict.{Verdict}
 
--- The files spell a task and a plan, which claims this cost, and of which this is said over what is known at first.
+-- The files spell a task, a transcript and a plan, which claims this cost, and of which this is said over what the
+-- transcript certifies behind what is known at first.
 pub record IsJudged (told : Option FileMap) (w : ValidateWords) (v : Verdict) (claimed : Option ℕ) : Type 0 where
   pub task : Task
   pub spelled : IsTaskOf told w task
+  pub entries : List Entry
+  pub report : IsTranscriptOf told w task entries
   pub calls : List Call
   pub plan : IsPlanOf told w calls claimed
-  pub said : IsVerdict task (initial_known task) calls v
+  pub said : IsVerdict task (known_of task entries) calls v
 
 -- words with these paths, and what they lead to
 abbrev pub Leads : List (List ℕ) → (ValidateWords → Type 0) → Type 0

@@ -1,6 +1,8 @@
 -- What is written of the end of a run, and its status.
 use Rattle.std.specs.Prelude.{ℕ, List, [], ◌++◌, codes, Option, None, Some, if◌then◌else◌, ◌==◌}
 use Rattle.std.specs.Fmt.{decimal}
+use Rattle.legal_report.specs.declared.flaw.ReportFlaw.{ReportFlaw}
+use Rattle.legal_report.specs.declared.flaw.ReportFlaw.TheVariants as report
 use Rattle.task_reader.specs.Kinds.{kind_word}
 use Rattle.validate_app.specs.Words.{usage_text}
 use Rattle.validate_app.specs.declared.outcome.Outcome.{Outcome}
@@ -60,18 +62,30 @@ claim_text (verdict.Goal part) claimed = []
 abbrev pub role_word : FileRole → List ℕ
 role_word role.Domain = codes "domain"
 role_word role.Problem = codes "problem"
+role_word role.Streams = codes "streams"
+role_word role.Report = codes "report"
 role_word role.Plan = codes "plan"
 
 -- what is said of a refused text before its kind
 abbrev pub refused_word : FileRole → List ℕ
 refused_word role.Domain = codes "fault input domain "
 refused_word role.Problem = codes "fault input problem "
+refused_word role.Streams = codes "fault input streams "
+refused_word role.Report = codes "fault report "
 refused_word role.Plan = codes "fault plan "
+
+-- why a report certifies nothing
+abbrev pub report_word : ReportFlaw → List ℕ
+report_word report.Text = codes "text"
+report_word report.Ask = codes "ask"
+report_word report.Answer = codes "answer"
 
 abbrev pub stop_text : Stop → List ℕ
 stop_text stop.Usage = codes "fault usage\n" ++ usage_text
 stop_text (stop.Refused which kind place) =
     refused_word which ++ kind_word kind ++ codes " " ++ decimal place ++ codes "\n"
+stop_text (stop.Flawed line flaw) =
+    refused_word role.Report ++ report_word flaw ++ codes " " ++ decimal line ++ codes "\n"
 stop_text (stop.Failed which) = codes "fault read " ++ role_word which ++ codes " failed\n"
 stop_text (stop.TooLong which) = codes "fault read " ++ role_word which ++ codes " too-long\n"
 stop_text stop.Memory = codes "fault memory\n"
@@ -79,6 +93,7 @@ stop_text stop.Memory = codes "fault memory\n"
 abbrev pub status_of_stop : Stop → Status
 status_of_stop stop.Usage = status.Usage
 status_of_stop (stop.Refused which kind place) = status.Input
+status_of_stop (stop.Flawed line flaw) = status.Input
 status_of_stop (stop.Failed which) = status.ReadFault
 status_of_stop (stop.TooLong which) = status.ReadFault
 status_of_stop stop.Memory = status.Memory

@@ -1,20 +1,32 @@
 -- What words mean.
-use Rattle.std.specs.Prelude.{ℕ, List, Option, Some, codes}
-use Rattle.clap.specs.Words.{App, Row, Text, first_of, new_app, with_rule}
+use Rattle.std.specs.Prelude.{ℕ, List, Option, None, Some, codes}
+use Rattle.clap.specs.Words.{App, Row, Text, first_of, new_app, new_rule, with_rule}
 use Rattle.command_line.specs.Apps.{positional}
 use Rattle.command_line.specs.Words.{given, read_by}
 
--- the paths of a domain, a problem and a plan
+-- the paths of a report and of the streams over which it was made
+pub record ReportWords : Type 0 where
+  pub report : Text
+  pub streams : Text
+
+-- the paths of a domain, a problem and a plan, and those of a report where one is named
 pub record ValidateWords : Type 0 where
   pub domain : Text
   pub problem : Text
   pub plan : Text
+  pub certified : Option ReportWords
 
--- pddl_validate DOMAIN PROBLEM PLAN
+-- pddl_validate DOMAIN PROBLEM PLAN [REPORT STREAMS]
 unfoldable pub validate_app : App
 validate_app =
-    with_rule (with_rule (with_rule (new_app (codes "pddl_validate")) (positional (codes "domain")))
-    (positional (codes "problem"))) (positional (codes "plan"))
+    with_rule (with_rule (with_rule (with_rule (with_rule (new_app (codes "pddl_validate")) (positional (codes "domain")))
+    (positional (codes "problem"))) (positional (codes "plan"))) (new_rule (codes "report"))) (new_rule (codes "streams"))
+
+-- a report and its streams are named together, or neither is
+abbrev pub report_words : Option Text → Option Text → Option (Option ReportWords)
+report_words None None = Some None
+report_words (Some report) (Some streams) = Some (Some (record { report = report; streams = streams }))
+report_words report streams = None
 
 -- the paths in the rows that clap makes of the words
 abbrev pub words_in : List Row → Option ValidateWords
@@ -22,7 +34,8 @@ words_in rows =
     given (first_of (codes "domain") rows) (λ domain.
     given (first_of (codes "problem") rows) (λ problem.
     given (first_of (codes "plan") rows) (λ plan.
-    Some (record { domain = domain; problem = problem; plan = plan }))))
+    given (report_words (first_of (codes "report") rows) (first_of (codes "streams") rows)) (λ certified.
+    Some (record { domain = domain; problem = problem; plan = plan; certified = certified })))))
 
 -- what the words mean, of which the first is the program's name; none where they aren't the program's
 abbrev pub words_of : List Text → Option ValidateWords
@@ -30,4 +43,4 @@ words_of = read_by validate_app words_in
 
 -- the usage text, a line
 abbrev pub usage_text : List ℕ
-usage_text = codes "usage: pddl_validate DOMAIN PROBLEM PLAN\n"
+usage_text = codes "usage: pddl_validate DOMAIN PROBLEM PLAN [REPORT STREAMS]\n"

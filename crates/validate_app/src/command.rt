@@ -8,6 +8,7 @@ ghost use Rattle.validate_app.specs.Outcomes.{Ends, IsJudged, IsOutcome, Tells};
 ghost use Rattle.validate_app.specs.declared.status.Status.TheVariants.{WriteFault};
 
 use crate::outcome::{MEMORY, Outcome};
+use crate::report::read_report;
 use crate::status::Status;
 use crate::step::Scene;
 use crate::stop::Stop;
@@ -15,7 +16,6 @@ use crate::texts::{read_plan, read_task};
 use crate::verdict::Verdict;
 use crate::words::{Paths, read_words};
 use command_line::WordsFault;
-use fact_store::Facts;
 use io_world::{Files, Sink, write_all};
 use std::alloc::Global;
 
@@ -41,17 +41,18 @@ fn judge_files<F: Files>(
         Ok(task) => task,
         Err(stop) => return Err(stop),
     };
-    let plan = match read_plan(alloc, files, paths, &task) {
-        Ok(plan) => plan,
+    let ledger = match read_report(alloc, files, paths, &task) {
+        Ok(ledger) => ledger,
         Err(stop) => return Err(stop),
     };
-    let Ok(facts) = Facts::new(alloc, &task) else {
-        return Err(Stop::Memory);
+    let plan = match read_plan(alloc, files, paths) {
+        Ok(plan) => plan,
+        Err(stop) => return Err(stop),
     };
     let scene = Scene {
         alloc,
         task: &task,
-        facts: &facts,
+        facts: &ledger.facts,
     };
     match scene.judge(plan.calls.as_slice()) {
         Ok(verdict) => Ok(JudgedPlan {
@@ -92,9 +93,10 @@ fn tell<O: Sink>(out: &mut O, text: &[u8], status: Status) -> Status
 
 /// Says whether a plan is valid.
 ///
-/// The words are the program's name, and the paths of a domain, a problem and a plan: `pddl_validate
-/// DOMAIN PROBLEM PLAN`. A file is read only after the texts before it were accepted. Then this is
-/// written:
+/// The words are the program's name, and the paths of a domain, a problem and a plan, and perhaps of
+/// a report and its streams: `pddl_validate DOMAIN PROBLEM PLAN [REPORT STREAMS]`. A report gives
+/// what its transcript certifies, which has to be legal, and its objects may be named. A file is
+/// read only after the texts before it were accepted, the plan last. Then this is written:
 ///
 /// - `valid COST`: the steps can be taken one after another from the initial state, the goal is
 ///   true behind them, and they cost so much together.
@@ -108,7 +110,10 @@ fn tell<O: Sink>(out: &mut O, text: &[u8], status: Status) -> Status
 ///   condition false: of an `and` the first part that is false, and of that again such a part. It is
 ///   PDDL text, with the names of the arguments in place of the parameters.
 /// - `fault plan KIND PLACE`: a line of the plan is no step, and this is its fault, in bytes from
-///   the text's beginning. `fault input TEXT KIND PLACE`: the domain or the problem was refused.
+///   the text's beginning. `fault input TEXT KIND PLACE`: `domain`, `problem` or `streams` was
+///   refused.
+/// - `fault report KIND LINE`: the report certifies nothing, first in this line, from 1. KIND is
+///   `text`, it is no report; `ask`, a request may not be made; `answer`, an answer may not be given.
 /// - `fault read FILE failed` or `too-long`: the file wasn't read, or it has too many bytes.
 /// - `fault usage`, with a line of usage behind it: the words are none of the program's.
 /// - `fault memory`: memory is wanting.

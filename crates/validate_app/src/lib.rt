@@ -3,8 +3,11 @@
 
 mod command;
 mod judge;
+pub mod laws;
+mod local;
 mod outcome;
 mod part;
+mod report;
 mod status;
 mod step;
 mod stop;

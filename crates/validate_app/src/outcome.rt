@@ -3,11 +3,13 @@ ghost use Rattle.std.specs.Prelude.{◌≡◌, ◌++◌, codes, IfOk};
 ghost use Rattle.std.specs.Fmt.{decimal};
 ghost use Rattle.task_reader.specs.Kinds.{kind_word};
 ghost use Rattle.validate_app.specs.Told as specs;
+ghost use Rattle.validate_app.specs.declared.stop.FileRole.TheVariants.{Report};
 
 use crate::status::Status;
 use crate::stop::{FileRole, Stop};
 use crate::verdict::{StepFlaw, Verdict};
 use crate::words::usage_text;
+use legal_report::ReportFlaw;
 use std::alloc::{AllocError, Global};
 use task_reader::FaultKind;
 
@@ -129,6 +131,8 @@ fn refused_word(role: FileRole) -> &'static [u8]
     match role {
         FileRole::Domain => b"fault input domain ",
         FileRole::Problem => b"fault input problem ",
+        FileRole::Streams => b"fault input streams ",
+        FileRole::Report => b"fault report ",
         FileRole::Plan => b"fault plan ",
     }
 }
@@ -150,6 +154,31 @@ fn refused_line(
     Ok(line)
 }
 
+/// The word for why a report certifies nothing.
+fn report_word(flaw: ReportFlaw) -> &'static [u8]
+    ensures { result.now ≡ specs.report_word flaw }
+{
+    match flaw {
+        ReportFlaw::Text => b"text",
+        ReportFlaw::Ask => b"ask",
+        ReportFlaw::Answer => b"answer",
+    }
+}
+
+/// The line for a report that certifies nothing.
+fn flawed_line(alloc: Global, line: usize, flaw: ReportFlaw) -> Result<Vec<u8>, AllocError>
+    ensures { IfOk result (λ text. text.items ≡ specs.refused_word Report ++ specs.report_word flaw
+        ++ codes " " ++ decimal line ++ codes "\n") }
+{
+    let line = format!(in alloc; " {line}\n")?;
+    parts(
+        alloc,
+        refused_word(FileRole::Report),
+        report_word(flaw),
+        line.as_bytes(),
+    )
+}
+
 /// What is written of a run without a verdict. Fails only where memory is wanting.
 fn stop_text(alloc: Global, stop: Stop) -> Result<Vec<u8>, AllocError>
     ensures { IfOk result (λ text. text.items ≡ specs.stop_text stop) }
@@ -157,6 +186,7 @@ fn stop_text(alloc: Global, stop: Stop) -> Result<Vec<u8>, AllocError>
     match stop {
         Stop::Usage => parts(alloc, b"fault usage\n", usage_text().as_bytes(), b""),
         Stop::Refused { role, kind, place } => refused_line(alloc, role, kind, place),
+        Stop::Flawed { line, flaw } => flawed_line(alloc, line, flaw),
         Stop::Failed(role) => parts(alloc, b"fault read ", role.word(), b" failed\n"),
         Stop::TooLong(role) => parts(alloc, b"fault read ", role.word(), b" too-long\n"),
         Stop::Memory => Vec::from_slice(alloc, MEMORY),
@@ -179,7 +209,7 @@ fn status_of_stop(stop: Stop) -> Status
 {
     match stop {
         Stop::Usage => Status::Usage,
-        Stop::Refused { .. } => Status::Input,
+        Stop::Refused { .. } | Stop::Flawed { .. } => Status::Input,
         Stop::Failed(_) | Stop::TooLong(_) => Status::ReadFault,
         Stop::Memory => Status::Memory,
     }

@@ -11,7 +11,7 @@ pub enum Status {
     Invalid,
     /// The words are none of the program's.
     Usage,
-    /// A text was refused.
+    /// A text was refused, or a report that certifies nothing.
     Input,
     /// A file could not be read.
     ReadFault,

@@ -8,10 +8,11 @@ ghost use Rattle.validate_app.specs.Steps.{IsCounted, IsFlawed, IsSmall, IsTaken
 
 use crate::verdict::StepFlaw;
 use fact_store::Facts;
-use plan_check::{StepFault, advance};
+use plan_check::StepFault;
 use shown_steps::step_of;
+use spread_state::Board;
 use std::alloc::{AllocError, Global};
-use task_model::{Action, GroundAction, State, Task};
+use task_model::{Action, GroundAction, Task};
 use transcript_model::Call;
 
 /// What a plan is judged over.
@@ -65,44 +66,44 @@ fn has_count(action: &Action, call: &Call) -> bool
 
 impl Scene<'_> {
     /// Takes the step that the call shows, and leaves the state as it was where it can't be taken.
-    pub(crate) fn take(&self, state: &mut State, call: &Call) -> Result<Taken, AllocError>
+    pub(crate) fn take<B: Board>(&self, board: &mut B, call: &Call) -> Result<Taken, AllocError>
         requires { IsFit self.now.task.now }
-        ensures taken { IfOk result (IsTaken self.now.task.now self.now.facts.now.known state.old
-            call.now state.new) }
+        ensures taken { IfOk result (IsTaken self.now.task.now self.now.facts.now.known
+            (B.atoms board.old) call.now (B.atoms board.new)) }
         ensures small { IfOk result (λ taken. IsSmall taken) }
     {
         let Some(action) = action_called(self.task, call.name.bytes()) else {
             return Ok(Taken::Fails(StepFlaw::Action));
         };
         if has_count(action, call) {
-            self.take_counted(state, call)
+            self.take_counted(board, call)
         } else {
             Ok(Taken::Fails(StepFlaw::Args))
         }
     }
 
     /// The same of a call of an action of the task, with as many arguments as that has parameters.
-    fn take_counted(&self, state: &mut State, call: &Call) -> Result<Taken, AllocError>
+    fn take_counted<B: Board>(&self, board: &mut B, call: &Call) -> Result<Taken, AllocError>
         requires fit { IsFit self.now.task.now }
         requires counted { IsCounted self.now.task.now call.now }
-        ensures taken { IfOk result (IsTaken self.now.task.now self.now.facts.now.known state.old
-            call.now state.new) }
+        ensures taken { IfOk result (IsTaken self.now.task.now self.now.facts.now.known
+            (B.atoms board.old) call.now (B.atoms board.new)) }
         ensures small { IfOk result (λ taken. IsSmall taken) }
     {
         let Some(step) = step_of(self.alloc, self.task, self.facts, call)? else {
             return Ok(Taken::Fails(StepFlaw::Object));
         };
-        match advance(self.task, self.facts, state, &step) {
+        match board.advance(self.task, self.facts, &step) {
             Ok(cost) => Ok(Taken::Costs(cost)),
-            Err(fault) => self.flawed(state, call, &step, fault),
+            Err(fault) => self.flawed(board, call, &step, fault),
         }
     }
 
     /// What came of the step that the call shows, which has this fault in the state. The call is one
     /// of an action of the task, with as many arguments as that has parameters.
-    fn flawed(
+    fn flawed<B: Board>(
         &self,
-        state: &State,
+        board: &B,
         call: &Call,
         step: &GroundAction,
         fault: StepFault,
@@ -111,25 +112,25 @@ impl Scene<'_> {
         requires counted { IsCounted self.now.task.now call.now }
         requires named { step_named self.now.task.now self.now.facts.now.known.names call.now
             ≡ Some step.now }
-        requires fails { StepFails self.now.task.now self.now.facts.now.known state.now step.now
-            fault }
+        requires fails { StepFails self.now.task.now self.now.facts.now.known (B.atoms board.now)
+            step.now fault }
         ensures flawed { IfOk result (λ taken. IsFlawed self.now.task.now
-            self.now.facts.now.known state.now call.now taken) }
+            self.now.facts.now.known (B.atoms board.now) call.now taken) }
         ensures real { IfOk result (λ _. ¬ (fault ≡ Memory)) }
     {
         match fault {
             StepFault::NoAction => Ok(Taken::Fails(StepFlaw::Action)),
             StepFault::Args => Ok(Taken::Fails(StepFlaw::Sort)),
-            StepFault::Condition => self.false_condition(state, call, step),
+            StepFault::Condition => self.false_condition(board, call, step),
             StepFault::NoCost => Ok(Taken::Fails(StepFlaw::Cost)),
             StepFault::Memory => Err(AllocError),
         }
     }
 
     /// What came of the step that the call shows, whose condition is false in the state.
-    fn false_condition(
+    fn false_condition<B: Board>(
         &self,
-        state: &State,
+        board: &B,
         call: &Call,
         step: &GroundAction,
     ) -> Result<Taken, AllocError>
@@ -137,15 +138,16 @@ impl Scene<'_> {
         requires counted { IsCounted self.now.task.now call.now }
         requires named { step_named self.now.task.now self.now.facts.now.known.names call.now
             ≡ Some step.now }
-        requires fails { StepFails self.now.task.now self.now.facts.now.known state.now step.now
-            Condition }
+        requires fails { StepFails self.now.task.now self.now.facts.now.known (B.atoms board.now)
+            step.now Condition }
         ensures { IfOk result (λ taken. IsFlawed self.now.task.now self.now.facts.now.known
-            state.now call.now taken) }
+            (B.atoms board.now) call.now taken) }
     {
         let Some(action) = action_at(self.task, step.action as usize) else {
             return Ok(Taken::Fails(StepFlaw::Action));
         };
-        let part = self.false_text(state, &action.condition, step.args.as_slice())?;
+        let state = board.state()?;
+        let part = self.false_text(&state, &action.condition, step.args.as_slice())?;
         Ok(Taken::Fails(StepFlaw::Condition(part)))
     }
 }

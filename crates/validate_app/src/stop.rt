@@ -5,7 +5,9 @@ ghost use Rattle.validate_app.specs.Files.{most_of};
 ghost use Rattle.validate_app.specs.Told.{role_word};
 ghost use Rattle.validate_app.specs.Inputs.{stop_for};
 
+use legal_report::ReportFlaw;
 use plan_reader::PLAN_BYTES;
+use report_reader::REPORT_BYTES;
 use task_reader::{FaultKind, InputRefusal, TEXT_BYTES};
 
 /// What a file is read for.
@@ -15,6 +17,10 @@ pub(crate) enum FileRole {
     Domain,
     /// The problem.
     Problem,
+    /// The streams.
+    Streams,
+    /// The report.
+    Report,
     /// The plan.
     Plan,
 }
@@ -25,7 +31,8 @@ impl FileRole {
         ensures { result ≡ most_of self }
     {
         match self {
-            FileRole::Domain | FileRole::Problem => TEXT_BYTES,
+            FileRole::Domain | FileRole::Problem | FileRole::Streams => TEXT_BYTES,
+            FileRole::Report => REPORT_BYTES,
             FileRole::Plan => PLAN_BYTES,
         }
     }
@@ -37,6 +44,8 @@ impl FileRole {
         match self {
             FileRole::Domain => b"domain",
             FileRole::Problem => b"problem",
+            FileRole::Streams => b"streams",
+            FileRole::Report => b"report",
             FileRole::Plan => b"plan",
         }
     }
@@ -52,6 +61,11 @@ pub(crate) enum Stop {
         role: FileRole,
         kind: FaultKind,
         place: usize,
+    },
+    /// The report certifies nothing, for this flaw in this line, from 1.
+    Flawed {
+        line: usize,
+        flaw: ReportFlaw,
     },
     /// The file could not be read.
     Failed(FileRole),

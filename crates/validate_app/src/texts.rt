@@ -1,22 +1,28 @@
 //! The files of the words, each read after the texts before it were accepted.
-ghost use Rattle.std.specs.Prelude.{◌≡◌, ◌≤◌, [], IfOk, IfErr, length};
-ghost use Rattle.task_model.specs.Fit.{IsFit, IsFitDomain};
+ghost use Rattle.std.specs.Prelude.{◌≡◌, ◌≤◌, [], IfOk, IfErr, Some, length};
 ghost use Rattle.problem_reader.specs.Fitness.{IsFitOver};
+ghost use Rattle.stream_reader.specs.Fitness.{AreFitOver};
+ghost use Rattle.task_model.specs.Fit.{IsFit, IsFitDomain};
 ghost use Rattle.validate_app.specs.Files.{EndsAt, HasBytes, seen_of};
-ghost use Rattle.validate_app.specs.Held.{held};
-ghost use Rattle.validate_app.specs.Inputs.{IsDomainOf, IsPlanOf, IsProblemOf, IsTaskOf, StopsAt};
+ghost use Rattle.validate_app.specs.Held.{held, held_report};
+ghost use Rattle.validate_app.specs.Inputs.{AreAccepted, AreStreamsOf, HasProblem, IsDomainOf, IsPlanOf, IsProblemOf, IsTaskOf, StopsAt};
+ghost use Rattle.validate_app.specs.declared.stop.FileRole.TheVariants.{Plan};
 
 use crate::stop::{FileRole, Stop, stop_of};
-use crate::words::Paths;
+use crate::words::{Paths, ReportPaths};
 use io_world::{FileFault, Files};
 use plan_reader::{claimed_cost, plan_in};
 use std::alloc::Global;
 use task_model::{Domain, Problem, Seq, Stream, Task};
-use task_reader::{domain_in, problem_in};
+use task_reader::{domain_in, problem_in, streams_in};
 use transcript_model::Call;
 
 /// Reads the file of this path.
-fn read_file<F: Files>(files: &mut F, role: FileRole, path: &str) -> Result<Vec<u8>, Stop>
+pub(crate) fn read_file<F: Files>(
+    files: &mut F,
+    role: FileRole,
+    path: &str,
+) -> Result<Vec<u8>, Stop>
     ensures bytes { IfOk result (λ bytes. HasBytes (F.told files.old) role path.now bytes.items) }
     ensures stop { IfErr result (EndsAt (seen_of F.told F.faults files.old files.new) role path.now) }
     ensures same { F.told files.new ≡ F.told files.old }
@@ -81,7 +87,57 @@ fn no_streams(alloc: Global) -> Seq<Stream>
     Seq::from_vec(Vec::new(alloc))
 }
 
-/// Reads the task, which has no streams. It is fit.
+/// Reads the streams of the report that the words name, over the domain that was read.
+fn read_named_streams<F: Files>(
+    alloc: Global,
+    files: &mut F,
+    paths: &Paths<'_>,
+    report: &ReportPaths<'_>,
+    domain: &Domain,
+) -> Result<Seq<Stream>, Stop>
+    requires named { (held paths.now).certified ≡ Some (held_report report.now) }
+    requires domain { IsDomainOf (F.told files.old) (held paths.now) domain.now }
+    requires problem { HasProblem (F.told files.old) (held paths.now) domain.now }
+    ensures streams { IfOk result (AreStreamsOf (F.told files.old) (held paths.now) domain.now) }
+    ensures fit { IfOk result (AreFitOver domain.now) }
+    ensures stop { IfErr result (StopsAt (seen_of F.told F.faults files.old files.new)
+        (held paths.now)) }
+    ensures same { F.told files.new ≡ F.told files.old }
+    ensures later { F.faults files.old ≤ F.faults files.new }
+{
+    let bytes = match read_file(files, FileRole::Streams, report.streams) {
+        Ok(bytes) => bytes,
+        Err(stop) => return Err(stop),
+    };
+    match streams_in(alloc, bytes.as_slice(), domain) {
+        Ok(streams) => Ok(streams),
+        Err(refusal) => Err(stop_of(FileRole::Streams, refusal)),
+    }
+}
+
+/// Reads the streams over the domain that was read; there are none where no report is named.
+fn read_streams<F: Files>(
+    alloc: Global,
+    files: &mut F,
+    paths: &Paths<'_>,
+    domain: &Domain,
+) -> Result<Seq<Stream>, Stop>
+    requires domain { IsDomainOf (F.told files.old) (held paths.now) domain.now }
+    requires problem { HasProblem (F.told files.old) (held paths.now) domain.now }
+    ensures streams { IfOk result (AreStreamsOf (F.told files.old) (held paths.now) domain.now) }
+    ensures fit { IfOk result (AreFitOver domain.now) }
+    ensures stop { IfErr result (StopsAt (seen_of F.told F.faults files.old files.new)
+        (held paths.now)) }
+    ensures same { F.told files.new ≡ F.told files.old }
+    ensures later { F.faults files.old ≤ F.faults files.new }
+{
+    match &paths.certified {
+        Some(report) => read_named_streams(alloc, files, paths, report, domain),
+        None => Ok(no_streams(alloc)),
+    }
+}
+
+/// Reads the task. It is fit.
 pub(crate) fn read_task<F: Files>(
     alloc: Global,
     files: &mut F,
@@ -102,11 +158,14 @@ pub(crate) fn read_task<F: Files>(
         Ok(problem) => problem,
         Err(stop) => return Err(stop),
     };
-    Ok(Task {
-        domain,
-        problem,
-        streams: no_streams(alloc),
-    })
+    match read_streams(alloc, files, paths, &domain) {
+        Ok(streams) => Ok(Task {
+            domain,
+            problem,
+            streams,
+        }),
+        Err(stop) => Err(stop),
+    }
 }
 
 /// A plan that was read.
@@ -118,14 +177,13 @@ pub(crate) struct ReadPlan {
     pub(crate) claimed: Option<u64>,
 }
 
-/// Reads the plan, behind the task that was read.
+/// Reads the plan, behind the task and the transcript that were read.
 pub(crate) fn read_plan<F: Files>(
     alloc: Global,
     files: &mut F,
     paths: &Paths<'_>,
-    task: &Task,
 ) -> Result<ReadPlan, Stop>
-    requires task { IsTaskOf (F.told files.old) (held paths.now) task.now }
+    requires { AreAccepted (F.told files.old) (held paths.now) Plan }
     ensures plan { IfOk result (λ plan. IsPlanOf (F.told files.old) (held paths.now)
         plan.calls.items plan.claimed) }
     ensures few { IfOk result (λ plan. length plan.calls.items ≤ 33554433) }

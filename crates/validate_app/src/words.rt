@@ -1,15 +1,24 @@
 //! The words after the program's name.
-ghost use Rattle.std.specs.Prelude.{◌≡◌, ◌≢◌, IfOk, IfErr, None, Some, map, option_map, string_bytes, true, false};
-ghost use Rattle.clap.specs.Words.{app_of, first_of, found_of, is_simple_and_free, kind_of, matches_of, rows_of, rule_of};
+ghost use Rattle.std.specs.Prelude.{◌≡◌, ◌≢◌, IfOk, IfErr, None, Some, codes, map, option_map, string_bytes, true, false};
+ghost use Rattle.clap.specs.Words.{app_of, first_of, found_of, is_simple_and_free, kind_of, matches_of, new_rule, rows_of, rule_of};
 ghost use Rattle.command_line.specs.Apps.{is_taken, positional};
 ghost use Rattle.command_line.specs.declared.fault.WordsFault.TheVariants.{Usage};
-ghost use Rattle.validate_app.specs.Words.{usage_text, validate_app, words_in, words_of};
-ghost use Rattle.validate_app.specs.Held.{held, shown};
+ghost use Rattle.validate_app.specs.Words.{report_words, usage_text, validate_app, words_in, words_of};
+ghost use Rattle.validate_app.specs.Held.{held, held_report, shown};
 
 use clap::error::ErrorKind;
 use clap::{Arg, ArgMatches, Command, Error};
 use command_line::WordsFault;
 use std::alloc::{AllocError, Global};
+
+/// The paths of a report.
+#[derive(Clone, Copy)]
+pub(crate) struct ReportPaths<'a> {
+    /// The report's.
+    pub(crate) report: &'a str,
+    /// Its streams'.
+    pub(crate) streams: &'a str,
+}
 
 /// The paths that the words name.
 #[derive(Clone, Copy)]
@@ -20,6 +29,8 @@ pub(crate) struct Paths<'a> {
     pub(crate) problem: &'a str,
     /// The plan's.
     pub(crate) plan: &'a str,
+    /// Those of a report, where the words name one.
+    pub(crate) certified: Option<ReportPaths<'a>>,
 }
 
 /// A word that has to stand, in its place.
@@ -30,6 +41,14 @@ fn positional(alloc: Global, name: &'static str) -> Arg<'static>
     Arg::new(alloc, name).required(true)
 }
 
+/// A word that may be left out, in its place.
+fn optional(alloc: Global, name: &'static str) -> Arg<'static>
+    ensures rule { rule_of result ≡ new_rule name.entry.now }
+    ensures local { result.global ≡ false }
+{
+    Arg::new(alloc, name)
+}
+
 /// The words that the program takes.
 fn validate_command<'a>(alloc: Global) -> Result<Command<'a>, AllocError>
     ensures { IfOk result (λ c. app_of c ≡ validate_app) }
@@ -37,7 +56,9 @@ fn validate_command<'a>(alloc: Global) -> Result<Command<'a>, AllocError>
     Command::new(alloc, "pddl_validate")
         .arg(positional(alloc, "domain"))?
         .arg(positional(alloc, "problem"))?
-        .arg(positional(alloc, "plan"))
+        .arg(positional(alloc, "plan"))?
+        .arg(optional(alloc, "report"))?
+        .arg(optional(alloc, "streams"))
 }
 
 /// Want of memory stays, and all else is a fault of the words.
@@ -78,6 +99,20 @@ fn text_in<'a>(matches: &ArgMatches<'a>, name: &str) -> Option<&'a str>
     matches.get_str(name)
 }
 
+/// The paths of a report in what the command took, if it took one; none where it took a report
+/// without its streams.
+fn report_in<'a>(matches: &ArgMatches<'a>) -> Option<Option<ReportPaths<'a>>>
+    ensures { option_map (option_map held_report) result
+        ≡ report_words (first_of (codes "report") (rows_of (found_of matches.now)))
+        (first_of (codes "streams") (rows_of (found_of matches.now))) }
+{
+    match (text_in(matches, "report"), text_in(matches, "streams")) {
+        (None, None) => Some(None),
+        (Some(report), Some(streams)) => Some(Some(ReportPaths { report, streams })),
+        _ => None,
+    }
+}
+
 /// The paths in what the command took.
 fn paths_in<'a>(matches: &ArgMatches<'a>) -> Option<Paths<'a>>
     ensures { shown result ≡ words_in (rows_of (found_of matches.now)) }
@@ -85,10 +120,12 @@ fn paths_in<'a>(matches: &ArgMatches<'a>) -> Option<Paths<'a>>
     let domain = text_in(matches, "domain")?;
     let problem = text_in(matches, "problem")?;
     let plan = text_in(matches, "plan")?;
+    let certified = report_in(matches)?;
     Some(Paths {
         domain,
         problem,
         plan,
+        certified,
     })
 }
 
@@ -111,6 +148,6 @@ pub(crate) fn read_words<'a>(alloc: Global, words: &'a [String]) -> Result<Paths
 pub(crate) fn usage_text() -> &'static str
     ensures { result.now ≡ usage_text }
 {
-    "usage: pddl_validate DOMAIN PROBLEM PLAN
+    "usage: pddl_validate DOMAIN PROBLEM PLAN [REPORT STREAMS]
 "
 }

@@ -5,11 +5,12 @@
 mod rows;
 
 use io_world::{Files, RealFiles};
+use rows::{Subject, judge_rows};
 use std::io;
 use std::process::ExitCode;
 
 /// The domains, each with its files `SUBJECT.domain`, `SUBJECT.problem` and `SUBJECT.rows`.
-const SUBJECTS: [&str; 4] = ["blocks", "gripper", "miconic", "transport"];
+const SUBJECTS: [&str; 5] = ["blocks", "gripper", "miconic", "transport", "cups"];
 
 /// The most bytes of a file.
 const FILE_BYTES: usize = 1 << 16;
@@ -28,14 +29,23 @@ fn file_of(rt: &HostRuntime, subject: &str, kind: &str) -> io::Result<Vec<u8>> {
     }
 }
 
+/// The streams of the one subject that has some.
+const STREAMS: &str = "cups";
+
 /// Judges the plans of each subject.
 fn judge_all(rt: &HostRuntime) -> io::Result<()> {
+    let streams = file_of(rt, STREAMS, "streams")?;
     for subject in SUBJECTS {
         let domain = file_of(rt, subject, "domain")?;
         let problem = file_of(rt, subject, "problem")?;
         let rows = file_of(rt, subject, "rows")?;
         println!(rt; "# {subject}")?;
-        rows::judge_rows(rt, domain.as_slice(), problem.as_slice(), rows.as_slice())?;
+        let subject = Subject {
+            domain: domain.as_slice(),
+            problem: problem.as_slice(),
+            streams: streams.as_slice(),
+        };
+        judge_rows(rt, &subject, rows.as_slice())?;
     }
     Ok(())
 }

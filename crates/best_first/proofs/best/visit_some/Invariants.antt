@@ -1,4 +1,3 @@
-use Rattle.std.proofs.Common.{◌∷◌}
 use Rattle.std.specs.BinaryHeap.{heap_items}
 use Rattle.best_first.proofs.FrontiersLemmas.{IsVisiting}
 use Rattle.best_first.proofs.best.visit_some.Given as goal

@@ -38,3 +38,8 @@ pub returns : goal.returns
 returns c =
     inr (subst (λ (k : Known). IsFar c.args.task.now k c.args.states) c.look-look.ensures
     (c.in_ok-plan.ensures.limit (subst IsLimit (sym c.in-Limit.is) tt)))
+
+pub returns-then-branch : goal.returns-then-branch
+returns-then-branch c =
+    inl (λ s. c.in_ok-out_of_reach.ensures c.if-branch.true
+    (subst (λ (k : Known). IsSolvable c.args.task.now k) (sym c.look-look.ensures) s))

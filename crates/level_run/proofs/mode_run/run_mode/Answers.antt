@@ -1,35 +1,38 @@
-use Rattle.std.proofs.Common.{◌∙◌, refl}
-use Rattle.std.proofs.lemmas.Result.{IfOk-weaker, IfErr-weaker}
-use Rattle.level_run.proofs.ReportsLemmas.{broken_before, broken_stopped, reported_behind}
-use Rattle.round_run.proofs.CallsRunLemmas.{stops_none}
-use Rattle.round_run.proofs.StoppedLemmas.{handed}
-use Rattle.round_run.specs.declared.fault.RunFault.TheVariants.{Memory}
+use Rattle.std.proofs.Common.{◌≡◌, ◌∙◌, subst, sym}
+use Rattle.level_run.proofs.ReportingLemmas.{ends_memory, ends_stopped}
+use Rattle.session_core.specs.Session.{IsNew, IsOf}
+use Rattle.task_model.specs.Fit.{IsFit}
+use Rattle.task_model.specs.declared.task.Task.{Task}
+use Rattle.transcript_model.specs.declared.head.Head.{Head}
 use Rattle.level_run.proofs.mode_run.run_mode.Goals as goal
 
-pub returns-clause-reported : goal.returns-clause-reported
-returns-clause-reported g c =
-    IfOk-weaker c.report-result.result _ _ (λ ran reported.
-    reported_behind c.args.task.now c.args.head.now (g.H.Host.spoken c.report-result.new.host) (g.H.Host.spoken c.stop_all.new.host)
-    (g.H.Host.log c.args.host.now) (g.H.Host.log c.report-result.new.host) (g.H.Host.log c.stop_all.new.host)
-    (g.O.Sink.taken c.args.out.now) (g.O.Sink.taken c.report-result.new.out) ran c.stop_all.ensures.spoken c.stop_all.ensures.stops
-    reported) c.report-result.ensures.reported
+pub returns-in_err-desk : goal.returns-in_err-desk
+returns-in_err-desk g c = record {
+  ran = ends_memory c.args.task.now c.args.head.now _ g.H.Host.last (g.O.Sink.taken c.args.out.now)
+      (g.O.Sink.faults c.args.out.now) c.from_residual.result c.from_residual.ensures.1 c.requires.may.idle;
+}
 
-pub returns-clause-unneeded : goal.returns-clause-unneeded
-returns-clause-unneeded g c =
-    IfOk-weaker c.report-result.result _ _ (λ ran untouched none. let u = untouched none in c.stop_all.ensures.none u.1 ∙ u.0)
-    c.report-result.ensures.untouched
+pub report-result-requires : goal.report-result-requires
+report-result-requires g c =
+    let clean = c.in_ok-desk.ensures.clean in
+    let desk = c.in_ok-desk.desk in
+    let idle = c.requires.may.idle in
+    record {
+      fit = subst IsFit (sym clean.task) c.requires.may.fit;
+      mode = subst (λ (h : Head). h.mode ≡ g.M.Turns.mode) (sym clean.head) c.requires.may.is;
+      fresh = c.requires.fresh;
+      still = record {
+        new = subst (λ (t : Task). IsNew t desk.state) (sym clean.task) clean.new;
+        of = subst (λ (h : Head). IsOf h desk.state) (sym clean.head) clean.of;
+        still = record { idle = idle; state = λ k. clean.idle k ∙ sym (idle k); empty = clean.empty };
+      };
+    }
 
-pub returns-clause-broken : goal.returns-clause-broken
-returns-clause-broken g c =
-    IfErr-weaker c.report-result.result _ _ (λ fault broken.
-    broken_stopped c.args.task.now c.args.head.now (g.H.Host.spoken c.report-result.new.host) (g.H.Host.spoken c.stop_all.new.host)
-    (g.H.Host.log c.args.host.now) (g.H.Host.log c.report-result.new.host) (g.H.Host.log c.stop_all.new.host)
-    (g.O.Sink.taken c.args.out.now) (g.O.Sink.taken c.report-result.new.out) fault c.stop_all.ensures.spoken
-    c.stop_all.ensures.stops broken) c.report-result.ensures.broken
-
-pub returns-in_err-lines-clause-broken : goal.returns-in_err-lines-clause-broken
-returns-in_err-lines-clause-broken g c =
-    let fault = Memory in
-    handed c.from_residual.result fault _ c.from_residual.ensures.1
-    (broken_before c.args.task.now c.args.head.now (g.H.Host.spoken c.args.host.now) (g.H.Host.log c.args.host.now)
-    (g.H.Host.log c.args.host.now) (g.O.Sink.taken c.args.out.now) fault (stops_none (g.H.Host.log c.args.host.now)) refl)
+pub returns : goal.returns
+returns g c =
+    let clean = c.in_ok-desk.ensures.clean in
+    record {
+      ran = ends_stopped c.args.task.now c.args.head.now c.in_ok-desk.desk c.report-result.new.desk g.H.Host.last _ _ _
+          c.report-result.result clean.task clean.head c.report-result.ensures.ends c.stop_all.ensures.spoken c.stop_all.ensures.stops
+          c.stop_all.ensures.none c.stop_all.ensures.later c.stop_all.ensures.idle;
+    }

@@ -1,22 +1,26 @@
-use Rattle.std.proofs.Common.{◌+◌, ◌-◌, ◌*◌, ◌≤◌, [], length}
+use Rattle.std.proofs.Common.{◌+◌, ◌-◌, ◌*◌, ◌≤◌, Ok, Result, length}
+use Rattle.std.specs.Prelude.{⊤}
 use Rattle.level_run.proofs.TurnsLemmas.{Standing}
 use Rattle.level_run.proofs.turn_loop.run_turns.Given as goal
-use Rattle.level_run.specs.Advancing.{Advances, Fits}
-use Rattle.round_run.specs.Resting.{GoesInOrder, Rests}
+use Rattle.level_run.specs.Advancing.{Fits}
+use Rattle.round_run.specs.Desk.{OnTurn}
+use Rattle.round_run.specs.Told.{stretch}
+use Rattle.level_run.specs.Turns.{IsFrontOfRun}
+use Rattle.round_run.specs.declared.fault.RunFault.{RunFault}
 
 -- the run stands between two turns, and its lines were written
 abbrev pub invariant-turns : goal.invariant-turns
 invariant-turns g l = record {
-  rests : Rests l.task l.head l.session l.lines (g.H.Host.running l.host) (g.H.Host.spoken l.host);
-  standing : Standing l.head l.task (g.M.Turns.kept l.mode) l.session.entries;
-  fits : Fits (g.M.Turns.holds l.mode) (g.M.Turns.idle l.mode) l.session;
-  within : length l.session.asked ≤ l.head.calls;
-  adds : GoesInOrder [] l.session.entries (g.O.Sink.taken l.initial.out) (g.O.Sink.taken l.out)
-      (Advances l.task l.head [] l.session.entries (g.H.Host.log l.initial.host) (g.H.Host.log l.host));
-  host : g.H.Host.faults l.initial.host ≤ g.H.Host.faults l.host;
-  sink : g.O.Sink.faults l.initial.out ≤ g.O.Sink.faults l.out;
+  goes : OnTurn l.initial.desk l.desk
+      (stretch g.H.Host.last g.H.Host.running g.H.Host.spoken g.H.Host.log g.H.Host.faults g.O.Sink.taken g.O.Sink.faults
+      l.initial.host l.host l.initial.out l.out)
+      (λ (_ : Unit {0}). ⊤) (IsFrontOfRun l.initial.desk.head l.initial.desk.task)
+      (let r : Result (Unit {0}) RunFault = Ok tt in r);
+  standing : Standing l.initial.desk.head l.initial.desk.task (g.M.Turns.kept l.mode) l.desk.state.entries;
+  fits : Fits (g.M.Turns.holds l.mode) (g.M.Turns.idle l.mode) l.desk.state;
+  within : length l.desk.state.asked ≤ l.initial.desk.head.calls;
 }
 
 -- a turn spends calls, or fewer turns may still ask nothing
 abbrev pub decreases-turns : goal.decreases-turns
-decreases-turns g l = (l.head.calls - length l.session.asked) * 200002 + g.M.Turns.idle l.mode
+decreases-turns g l = (l.initial.desk.head.calls - length l.desk.state.asked) * 200002 + g.M.Turns.idle l.mode

@@ -50,13 +50,20 @@ returns-in_err-pools-clause-failed g c =
       nothing = refl;
     }))
 
-pub run_in_mode-requires-clause-runnable : goal.run_in_mode-requires-clause-runnable
-run_in_mode-requires-clause-runnable g c =
+pub run_in_mode-requires : goal.run_in_mode-requires
+run_in_mode-requires g c =
     let served = pools_served (g.F.Files.told c.args.files.now) _ _ c.read_task.ensures.same c.meant_pools.ensures.same
     (held_solve c.args.words.now) c.in_ok-task.task c.in_ok-meant.meant c.in_ok-pools.pools c.in_ok-meant.ensures.pools
     c.in_ok-pools.ensures.text in
-    head_runs c.in_ok-task.task (g.F.Files.told c.args.files.now) (held_solve c.args.words.now) c.head_of-head.result
-    (c.head_of-head.ensures _ _ served) c.requires.within
+    record {
+      may = record {
+        fit = c.in_ok-task.ensures.fit;
+        runnable = head_runs c.in_ok-task.task (g.F.Files.told c.args.files.now) (held_solve c.args.words.now) c.head_of-head.result
+            (c.head_of-head.ensures _ _ served) c.requires.within;
+        is = refl;
+        idle = c.requires.idle;
+      };
+    }
 
 pub returns-in-Ok-clause-solved : goal.returns-in-Ok-clause-solved
 returns-in-Ok-clause-solved g c =
@@ -71,8 +78,8 @@ returns-in-Ok-clause-solved g c =
         fit = c.in_ok-task.ensures.fit;
         headed = c.head_of-head.ensures _ _ served;
       };
-      reported = c.in-Ok.ensures.reported;
-      unneeded = c.in-Ok.ensures.unneeded;
+      reported = c.in-Ok.ensures.ran.reported;
+      unneeded = c.in-Ok.ensures.ran.unneeded;
       asks = asks_all (held_solve c.args.words.now) c.in_ok-task.task c.in_ok-meant.meant (g.F.Files.told c.args.files.now) _ _ _
           (later_on _ _ _ c.read_task.ensures.later c.meant_pools.ensures.later) _ _ _
           (spelled_in c.paths_of-paths.ensures c.in_ok-task.ensures.task)
@@ -97,7 +104,7 @@ returns-clause-failed g c =
         fit = c.in_ok-task.ensures.fit;
         headed = c.head_of-head.ensures _ _ served;
       };
-      broken = c.in-Err.ensures.broken;
+      broken = c.in-Err.ensures.ran.broken;
       asks = asks_all (held_solve c.args.words.now) c.in_ok-task.task c.in_ok-meant.meant (g.F.Files.told c.args.files.now) _ _ _
           (later_on _ _ _ c.read_task.ensures.later c.meant_pools.ensures.later) _ _ _
           (spelled_in c.paths_of-paths.ensures c.in_ok-task.ensures.task)

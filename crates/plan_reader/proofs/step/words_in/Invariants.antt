@@ -5,7 +5,8 @@ use Rattle.plan_reader.specs.Steps.{behind_words, words_in}
 use Rattle.plan_reader.proofs.step.words_in.Given as goal
 
 abbrev pub invariant-words : goal.invariant-words
-invariant-words l = words_in (trees l.fn.items) ≡ behind_words l.words.items (words_in (trees l.left))
+invariant-words l =
+    words_in l.fn.bytes (trees l.fn.items) ≡ behind_words l.words.items (words_in l.fn.bytes (trees l.left))
 
 abbrev pub decreases-words : goal.decreases-words
 decreases-words l = count (trees l.left)

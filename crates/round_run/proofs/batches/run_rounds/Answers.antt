@@ -1,4 +1,4 @@
-use Rattle.std.proofs.Common.{◌≡◌, ◌+◌, ◌++◌, ◌<◌, ◌≤◌, ℕ, List, length, ap, sym, subst, ◌∙◌, arith, refl, slice_get, Some}
+use Rattle.std.proofs.Common.{◌≡◌, ◌+◌, ◌++◌, ◌<◌, ◌≤◌, ℕ, List, length, ap, sym, subst, ◌∙◌, arith, refl, slice_get, Some, rules}
 use Rattle.std.proofs.lemmas.List.{length-take-le, length-drop}
 use Rattle.instance_queue.specs.Level.{instances_of}
 use Rattle.session_core.specs.Ready.{AreReady}
@@ -33,98 +33,130 @@ rounds-init g c = record {
   sink = omega arith;
 }
 
-pub returns-then-is_empty-clause-ran : goal.returns-then-is_empty-clause-ran
-returns-then-is_empty-clause-ran g c =
-    let now = c.rounds.session in
-    let i = c.rounds.invariant in
-    let none = empty_of c.rounds.rest.now (sym c.is_empty.ensures ∙ c.if-is_empty.true) in
-    let none_long = ap length none in
-    let ran =
-    so_far_end c.args.head.now c.args.task.now c.args.session.now.entries (instances_of c.args.dues.now) now.entries
-    (instances_of c.rounds.rest.now) (none_of_none c.args.head.now now.entries c.rounds.rest.now none) i.so_far in
-    record {
-      more = ran.0;
-      pushed = ran.1;
-      batch = ran.2;
-      grows = i.grows;
-      ends = (omega (arith, none_long, i.counts), omega (arith, c.next_round-count.ensures.cut.left, i.works.of.calls));
-    }
+pub returns-then-is_empty : goal.returns-then-is_empty
+returns-then-is_empty g c = record {
+  runs = record {
+    session = c.rounds.invariant.works.listens.session;
+    works = c.rounds.invariant.works;
+    ran =
+        let now = c.rounds.session in
+        let i = c.rounds.invariant in
+        let none = empty_of c.rounds.rest.now (sym c.is_empty.ensures ∙ c.if-is_empty.true) in
+        let none_long = ap length none in
+        let ran =
+        so_far_end c.args.head.now c.args.task.now c.args.session.now.entries (instances_of c.args.dues.now) now.entries
+        (instances_of c.rounds.rest.now) (none_of_none c.args.head.now now.entries c.rounds.rest.now none) i.so_far in
+        record {
+          more = ran.0;
+          pushed = ran.1;
+          batch = ran.2;
+          grows = i.grows;
+          ends = (omega (arith, none_long, i.counts), omega (arith, c.next_round-count.ensures.cut.left, i.works.of.calls));
+        };
+    adds = record { goes = c.rounds.invariant.goes; order = c.rounds.invariant.order };
+    stopped = tt;
+    same = c.rounds.invariant.same;
+    causes = search rules;
+  };
+}
 
-pub returns-then-count-eq0-clause-ran : goal.returns-then-count-eq0-clause-ran
-returns-then-count-eq0-clause-ran g c =
-    let now = c.rounds.session in
-    let i = c.rounds.invariant in
-    let some = filled_of c.rounds.rest.now (sym c.is_empty.ensures ∙ c.if-is_empty.false) in
-    let all = spent c.args.head.now c.args.task.now now c.rounds.rest.now c.next_round-count.result i.works.of i.works.listens.session
-    c.next_round-count.ensures.cut (c.next_round-count.ensures.some c.args.task.now i.works.listens.session) some c.if-count-eq0.true in
-    let ran =
-    so_far_end c.args.head.now c.args.task.now c.args.session.now.entries (instances_of c.args.dues.now) now.entries
-    (instances_of c.rounds.rest.now)
-    (none_left c.args.head.now c.args.task.now now (instances_of c.rounds.rest.now) i.works.listens.session all) i.so_far in
-    record {
-      more = ran.0;
-      pushed = ran.1;
-      batch = ran.2;
-      grows = i.grows;
-      ends = (all, omega (arith, all, some, i.counts), first_of c.args.task.now now.entries c.rounds.rest.now i.ready some);
-    }
+pub returns-then-count-eq0 : goal.returns-then-count-eq0
+returns-then-count-eq0 g c = record {
+  runs = record {
+    session = c.rounds.invariant.works.listens.session;
+    works = c.rounds.invariant.works;
+    ran =
+        let now = c.rounds.session in
+        let i = c.rounds.invariant in
+        let some = filled_of c.rounds.rest.now (sym c.is_empty.ensures ∙ c.if-is_empty.false) in
+        let all = spent c.args.head.now c.args.task.now now c.rounds.rest.now c.next_round-count.result i.works.of i.works.listens.session
+        c.next_round-count.ensures.cut (c.next_round-count.ensures.some c.args.task.now i.works.listens.session) some c.if-count-eq0.true in
+        let ran =
+        so_far_end c.args.head.now c.args.task.now c.args.session.now.entries (instances_of c.args.dues.now) now.entries
+        (instances_of c.rounds.rest.now)
+        (none_left c.args.head.now c.args.task.now now (instances_of c.rounds.rest.now) i.works.listens.session all) i.so_far in
+        record {
+          more = ran.0;
+          pushed = ran.1;
+          batch = ran.2;
+          grows = i.grows;
+          ends = (all, omega (arith, all, some, i.counts), first_of c.args.task.now now.entries c.rounds.rest.now i.ready some);
+        };
+    adds = record { goes = c.rounds.invariant.goes; order = c.rounds.invariant.order };
+    stopped = tt;
+    same = c.rounds.invariant.same;
+    causes = search rules;
+  };
+}
 
-pub returns-in_err-run_round-clause-stopped : goal.returns-in_err-run_round-clause-stopped
-returns-in_err-run_round-clause-stopped g c =
-    let head = c.args.head.now in
-    let task = c.args.task.now in
-    let s = c.args.session.now in
-    let now = c.rounds.session in
-    let i = c.rounds.invariant in
-    let list = instances_of c.args.dues.now in
-    let rest = c.rounds.rest.now in
-    let count = c.next_round-count.result in
-    let fault = c.in_err-run_round.field-0.0 in
-    let spoken = g.H.Host.spoken c.run_round.new.host in
-    let was = g.H.Host.log c.args.host.now in
-    let mid = g.H.Host.log c.rounds.host in
-    let log = g.H.Host.log c.run_round.new.host in
-    let round = IsFrontPart now.entries (IsRound task now.entries (instances_of c.split_at.result.0.now)) in
-    let batch = IsFrontPart s.entries (IsBatch (limits_of head) task s.entries list) in
-    let first =
-    subst (λ v. Stopped v task now.pools round now.entries fault (g.O.Sink.taken c.rounds.out)
-    (g.O.Sink.taken c.run_round.new.out) spoken (LogBreaks task v now.pools now.entries fault mid log)) i.works.of.version
-    c.in_err-run_round.ensures.stopped in
-    let second =
-    subst (λ ps. Stopped head.version task ps round now.entries fault (g.O.Sink.taken c.rounds.out)
-    (g.O.Sink.taken c.run_round.new.out) spoken (LogBreaks task head.version ps now.entries fault mid log)) i.works.of.pools first in
-    let work = all_work head.pools
-    (subst (λ (ps : List Workers). (k : ℕ) (p : Workers) → slice_get ps k ≡ Some p → 1 ≤ p.workers) i.works.of.pools
-    i.works.listens.session.pools.some)
-    in
-    let wider : (es : List Entry) → IsLegal head.version task es → round es → batch es =
-    λ es legal f. so_far_front head task s.entries list now rest count es i.works.of i.works.listens.session c.next_round-count.ensures.cut
-    (omega (arith, c.if-count-eq0.false)) work i.so_far
-    (subst (λ ds. IsFrontPart now.entries (IsRound task now.entries (instances_of ds)) es) c.split_at.ensures.front f) in
-    let stopped =
-    stopped_as head.version task (workers_in head) spoken batch round now.entries fault
-    (g.O.Sink.taken c.rounds.out) (g.O.Sink.taken c.run_round.new.out)
-    (LogBreaks task head.version (workers_in head) now.entries fault mid log)
-    (LogBreaks task head.version (workers_in head) now.entries fault mid log) wider
-    (λ more told front. breaks_as task head.version (workers_in head) round batch wider now.entries fault mid log more) second in
-    let some : 0 < length c.args.dues.now =
-    omega (arith, i.counts, i.grows, filled_of rest (sym c.is_empty.ensures ∙ c.if-is_empty.false)) in
-    handed c.from_residual.result fault _ c.from_residual.ensures.1 (
-      some,
-      stopped_then head.version task (workers_in head) spoken batch s.entries now.entries fault
-          (g.O.Sink.taken c.args.out.now) (g.O.Sink.taken c.rounds.out) (g.O.Sink.taken c.run_round.new.out)
-          (LogBreaks task head.version (workers_in head) s.entries fault was log)
-          (LogBreaks task head.version (workers_in head) now.entries fault mid log) i.goes
-          (breaks_then task head.version (workers_in head) batch s.entries now.entries fault was mid log i.order i.goes.more i.goes.pushed)
-          stopped,
-    )
+pub returns-in_err-run_round : goal.returns-in_err-run_round
+returns-in_err-run_round g c = record {
+  runs = record {
+    session = search rules;
+    works = search rules;
+    ran = search rules;
+    adds = search rules;
+    stopped =
+        let head = c.args.head.now in
+        let task = c.args.task.now in
+        let s = c.args.session.now in
+        let now = c.rounds.session in
+        let i = c.rounds.invariant in
+        let list = instances_of c.args.dues.now in
+        let rest = c.rounds.rest.now in
+        let count = c.next_round-count.result in
+        let fault = c.in_err-run_round.field-0.0 in
+        let spoken = g.H.Host.spoken c.run_round.new.host in
+        let was = g.H.Host.log c.args.host.now in
+        let mid = g.H.Host.log c.rounds.host in
+        let log = g.H.Host.log c.run_round.new.host in
+        let round = IsFrontPart now.entries (IsRound task now.entries (instances_of c.split_at.result.0.now)) in
+        let batch = IsFrontPart s.entries (IsBatch (limits_of head) task s.entries list) in
+        let first =
+        subst (λ v. Stopped v task now.pools round now.entries fault (g.O.Sink.taken c.rounds.out)
+        (g.O.Sink.taken c.run_round.new.out) spoken (LogBreaks task v now.pools now.entries fault mid log)) i.works.of.version
+        c.in_err-run_round.ensures.runs.stopped in
+        let second =
+        subst (λ ps. Stopped head.version task ps round now.entries fault (g.O.Sink.taken c.rounds.out)
+        (g.O.Sink.taken c.run_round.new.out) spoken (LogBreaks task head.version ps now.entries fault mid log)) i.works.of.pools first in
+        let work = all_work head.pools
+        (subst (λ (ps : List Workers). (k : ℕ) (p : Workers) → slice_get ps k ≡ Some p → 1 ≤ p.workers) i.works.of.pools
+        i.works.listens.session.pools.some)
+        in
+        let wider : (es : List Entry) → IsLegal head.version task es → round es → batch es =
+        λ es legal f. so_far_front head task s.entries list now rest count es i.works.of i.works.listens.session
+        c.next_round-count.ensures.cut
+        (omega (arith, c.if-count-eq0.false)) work i.so_far
+        (subst (λ ds. IsFrontPart now.entries (IsRound task now.entries (instances_of ds)) es) c.split_at.ensures.front f) in
+        let stopped =
+        stopped_as head.version task (workers_in head) spoken batch round now.entries fault
+        (g.O.Sink.taken c.rounds.out) (g.O.Sink.taken c.run_round.new.out)
+        (LogBreaks task head.version (workers_in head) now.entries fault mid log)
+        (LogBreaks task head.version (workers_in head) now.entries fault mid log) wider
+        (λ more told front. breaks_as task head.version (workers_in head) round batch wider now.entries fault mid log more) second in
+        let some : 0 < length c.args.dues.now =
+        omega (arith, i.counts, i.grows, filled_of rest (sym c.is_empty.ensures ∙ c.if-is_empty.false)) in
+        handed c.from_residual.result fault _ c.from_residual.ensures.1 (
+          some,
+          stopped_then head.version task (workers_in head) spoken batch s.entries now.entries fault
+              (g.O.Sink.taken c.args.out.now) (g.O.Sink.taken c.rounds.out) (g.O.Sink.taken c.run_round.new.out)
+              (LogBreaks task head.version (workers_in head) s.entries fault was log)
+              (LogBreaks task head.version (workers_in head) now.entries fault mid log) i.goes
+              (breaks_then task head.version (workers_in head) batch s.entries now.entries fault was mid log i.order i.goes.more
+              i.goes.pushed)
+              stopped,
+        );
+    same = search rules;
+    causes = search rules;
+  };
+}
 
 pub rounds-preserved : goal.rounds-preserved
 rounds-preserved g c =
     let now = c.rounds.session in
     let new = c.run_round.new.session in
     let i = c.rounds.invariant in
-    let done = c.in_ok-run_round.ensures in
+    let done = c.in_ok-run_round.ensures.runs in
     let count = c.next_round-count.result in
     let rest = c.rounds.rest.now in
     let front = c.split_at.ensures.front in

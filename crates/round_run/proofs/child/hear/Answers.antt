@@ -9,66 +9,93 @@ use Rattle.round_run.proofs.TalkingLineLemmas.{takes_kept, too_long_kept}
 use Rattle.round_run.proofs.StoppedLemmas.{handed, on_ok}
 use Rattle.round_run.proofs.child.hear.Goals as goal
 
-pub returns-in-Line-clause-taken : goal.returns-in-Line-clause-taken
-returns-in-Line-clause-taken g c =
-    takes_kept c.take_line.result c.args.session.now c.take_line.new.session c.args.child c.args.buffer.now
-    c.next_line.follows.lender-at-none c.in-Line.line.now (g.H.Host.spoken c.args.host.now) c.take_line.ensures.taken
-    c.take_line.ensures.good c.in-Line.ensures.shown.0 c.in-Line.ensures.shown.1
-    (c.next_line.follows.holds-at-none ∙ ap (left_after c.args.buffer.now) c.in-Line.is)
+pub returns-in-Line : goal.returns-in-Line
+returns-in-Line g c = record {
+  hears = record {
+    taken = takes_kept c.take_line.result c.args.session.now c.take_line.new.session c.args.child c.args.buffer.now
+        c.next_line.follows.lender-at-none c.in-Line.line.now (g.H.Host.spoken c.args.host.now) c.take_line.ensures.takes.taken
+        c.take_line.ensures.takes.good c.in-Line.ensures.shown.0 c.in-Line.ensures.short
+        (c.next_line.follows.holds-at-none ∙ ap (left_after c.args.buffer.now) c.in-Line.is);
+    misheard = search rules;
+    log = search rules;
+    refused = IfErr-weaker c.take_line.result _ _ (λ fault is.
+        hears_none c.args.child c.args.buffer.now fault
+        (g.H.Host.log c.args.host.now) (tells_refused c.args.session.now.slots c.args.child c.in-Line.line.now fault is))
+        c.take_line.ensures.takes.refused;
+    kept = search rules;
+    running = search rules;
+    cause = search rules;
+  };
+}
 
-pub returns-in-TooLong-clause-misheard : goal.returns-in-TooLong-clause-misheard
-returns-in-TooLong-clause-misheard g c =
-    too_long_kept c.args.session.now.slots c.args.child c.args.buffer.now (g.H.Host.spoken c.args.host.now) c.take_too_long.result
-    c.take_too_long.ensures.blamed c.in-TooLong.ensures.shown.0 c.in-TooLong.ensures.shown.1
+pub returns-in-TooLong : goal.returns-in-TooLong
+returns-in-TooLong g c = record {
+  hears = record {
+    taken = tt;
+    misheard = too_long_kept c.args.session.now.slots c.args.child c.args.buffer.now (g.H.Host.spoken c.args.host.now)
+        c.take_too_long.result c.take_too_long.ensures.blamed c.in-TooLong.ensures.shown.0 c.in-TooLong.ensures.shown.1;
+    log = tt;
+    refused = hears_none c.args.child c.args.buffer.now c.take_too_long.result (g.H.Host.log c.args.host.now)
+        (tells_blamed (number_at c.args.session.now.slots c.args.child) TooLong c.take_too_long.result c.take_too_long.ensures.blamed);
+    kept = search rules;
+    running = search rules;
+    cause = search rules;
+  };
+}
 
-pub returns-in-Line-next_line-clause-log : goal.returns-in-Line-next_line-clause-log
-returns-in-Line-next_line-clause-log g c =
-    let log = c.in_ok-fill.ensures.log in
-    on_ok c.take_line-in-Line-next_line.result _
-    (reads_given c.args.child c.args.buffer.now log.0 (g.H.Host.log c.args.host.now)
-    (g.H.Host.log c.fill.new.host) c.in-Part.ensures.shown.0 log.1)
+pub returns-in_err-fill : goal.returns-in_err-fill
+returns-in_err-fill g c = record {
+  hears = record {
+    taken = search rules;
+    misheard = search rules;
+    log = search rules;
+    refused =
+        let fault = c.in_err-fill.field-0.0 in
+        handed c.from_residual.result fault _ c.from_residual.ensures.1
+        (hears_refused c.args.child c.args.buffer.now fault (g.H.Host.log c.args.host.now)
+        (g.H.Host.log c.fill.new.host) c.in-Part.ensures.shown.0 c.in_err-fill.ensures.fills.refused);
+    kept = search rules;
+    running = search rules;
+    cause = search rules;
+  };
+}
 
-pub returns-in-Line-clause-refused : goal.returns-in-Line-clause-refused
-returns-in-Line-clause-refused g c =
-    IfErr-weaker c.take_line.result _ _ (λ fault is.
-    hears_none c.args.child c.args.buffer.now fault
-    (g.H.Host.log c.args.host.now) (tells_refused c.args.session.now.slots c.args.child c.in-Line.line.now fault is))
-    c.take_line.ensures.refused
-
-pub returns-in-TooLong-clause-refused : goal.returns-in-TooLong-clause-refused
-returns-in-TooLong-clause-refused g c =
-    hears_none c.args.child c.args.buffer.now c.take_too_long.result (g.H.Host.log c.args.host.now)
-    (tells_blamed (number_at c.args.session.now.slots c.args.child) TooLong c.take_too_long.result c.take_too_long.ensures.blamed)
-
-pub returns-in_err-fill-clause-refused : goal.returns-in_err-fill-clause-refused
-returns-in_err-fill-clause-refused g c =
-    let fault = c.in_err-fill.field-0.0 in
-    handed c.from_residual.result fault _ c.from_residual.ensures.1
-    (hears_refused c.args.child c.args.buffer.now fault (g.H.Host.log c.args.host.now)
-    (g.H.Host.log c.fill.new.host) c.in-Part.ensures.shown.0 c.in_err-fill.ensures.refused)
-
-pub returns-in-Line-next_line-clause-refused : goal.returns-in-Line-next_line-clause-refused
-returns-in-Line-next_line-clause-refused g c =
-    let log = c.in_ok-fill.ensures.log in
-    IfErr-weaker c.take_line-in-Line-next_line.result _ _
-    (λ fault is. hears_given c.args.child c.args.buffer.now log.0 fault (g.H.Host.log c.args.host.now)
-    (g.H.Host.log c.fill.new.host) c.in-Part.ensures.shown.0
-    (tells_refused c.args.session.now.slots c.args.child c.in-Line-next_line.line.now fault is) log.1)
-    c.take_line-in-Line-next_line.ensures.refused
+pub returns-in-Line-next_line : goal.returns-in-Line-next_line
+returns-in-Line-next_line g c =
+    let log = c.in_ok-fill.ensures.fills.log in
+    record {
+      hears = record {
+        taken = search rules;
+        misheard = search rules;
+        log = on_ok c.take_line-in-Line-next_line.result _
+            (reads_given c.args.child c.args.buffer.now log.0 (g.H.Host.log c.args.host.now)
+            (g.H.Host.log c.fill.new.host) c.in-Part.ensures.shown.0 log.1);
+        refused = IfErr-weaker c.take_line-in-Line-next_line.result _ _
+            (λ fault is. hears_given c.args.child c.args.buffer.now log.0 fault (g.H.Host.log c.args.host.now)
+            (g.H.Host.log c.fill.new.host) c.in-Part.ensures.shown.0
+            (tells_refused c.args.session.now.slots c.args.child c.in-Line-next_line.line.now fault is) log.1)
+            c.take_line-in-Line-next_line.ensures.takes.refused;
+        kept = search rules;
+        running = search rules;
+        cause = search rules;
+      };
+    }
 
 pub returns-in-Part-next_line : goal.returns-in-Part-next_line
 returns-in-Part-next_line g c =
-    let log = c.in_ok-fill.ensures.log in
+    let log = c.in_ok-fill.ensures.fills.log in
     let fault = c.take_too_long-in-Part-next_line.result in
     record {
-      taken = tt;
-      misheard = search rules;
-      log = tt;
-      refused = hears_given c.args.child c.args.buffer.now log.0 fault (g.H.Host.log c.args.host.now) (g.H.Host.log c.fill.new.host)
-          c.in-Part.ensures.shown.0
-          (tells_blamed (number_at c.args.session.now.slots c.args.child) TooLong fault c.take_too_long-in-Part-next_line.ensures.blamed)
-          log.1;
-      kept = search rules;
-      running = search rules;
-      cause = search rules;
+      hears = record {
+        taken = tt;
+        misheard = search rules;
+        log = tt;
+        refused = hears_given c.args.child c.args.buffer.now log.0 fault (g.H.Host.log c.args.host.now) (g.H.Host.log c.fill.new.host)
+            c.in-Part.ensures.shown.0
+            (tells_blamed (number_at c.args.session.now.slots c.args.child) TooLong fault c.take_too_long-in-Part-next_line.ensures.blamed)
+            log.1;
+        kept = search rules;
+        running = search rules;
+        cause = search rules;
+      };
     }

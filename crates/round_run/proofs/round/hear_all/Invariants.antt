@@ -15,7 +15,7 @@ invariant-loop-place g l = record {
       (l.initial.session.entries ++ l.initial.session.asks ++ take l.place (finished l.session.slots)) (g.O.Sink.taken l.initial.out)
       (g.O.Sink.taken l.out);
   said : (task : Task) → IsSession task l.initial.session
-      → IsTalking task l.initial.session l.count 0 (held_of l.initial.lines) (g.H.Host.spoken l.initial.host)
+      → IsTalking task l.initial.session (length l.initial.session.slots) 0 (held_of l.initial.lines) (g.H.Host.spoken l.initial.host)
       → IsTalking task l.session (length l.session.slots) l.place (held_of l.lines) (g.H.Host.spoken l.host)
       × Calls task l.initial.session.pools (l.initial.session.entries ++ l.initial.session.asks)
       (l.initial.session.entries ++ l.initial.session.asks ++ take l.place (finished l.session.slots)) (g.H.Host.log l.initial.host)

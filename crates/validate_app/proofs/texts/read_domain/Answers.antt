@@ -1,4 +1,4 @@
-use Rattle.std.proofs.Common.{subst, sym}
+use Rattle.std.proofs.Common.{refl, subst, sym}
 use Rattle.task_reader.specs.Fitness.{IsShort}
 use Rattle.task_reader.specs.Texts.{SpellsDomain}
 use Rattle.validate_app.proofs.InputsLemmas.{domain_refused, stops_there}
@@ -6,7 +6,7 @@ use Rattle.validate_app.specs.declared.stop.FileRole.TheVariants.{Domain}
 use Rattle.validate_app.proofs.texts.read_domain.Goals as goal
 
 pub returns-in-Err-clause-stop : goal.returns-in-Err-clause-stop
-returns-in-Err-clause-stop g c = stops_there _ _ Domain tt c.in-Err.stop c.in-Err.ensures.stop
+returns-in-Err-clause-stop g c = stops_there _ _ Domain tt _ refl c.in-Err.stop c.in-Err.ensures.stop
 
 pub returns-clause-stop : goal.returns-clause-stop
 returns-clause-stop g c =
@@ -15,6 +15,8 @@ returns-clause-stop g c =
 
 pub returns-in-Ok-domain_in-clause-domain : goal.returns-in-Ok-domain_in-clause-domain
 returns-in-Ok-domain_in-clause-domain g c = record {
+  path = _;
+  named = refl;
   bytes = c.in-Ok.bytes.items;
   has = c.in-Ok.ensures.bytes;
   so = subst (λ text. SpellsDomain text c.in-Ok-domain_in.domain) c.as_slice.ensures.value c.in-Ok-domain_in.ensures.read;

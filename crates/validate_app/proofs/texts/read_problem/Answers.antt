@@ -1,4 +1,4 @@
-use Rattle.std.proofs.Common.{subst, sym}
+use Rattle.std.proofs.Common.{refl, subst, sym}
 use Rattle.task_reader.specs.Fitness.{IsShort}
 use Rattle.task_reader.specs.Texts.{SpellsProblem}
 use Rattle.validate_app.proofs.InputsLemmas.{problem_refused, stops_there}
@@ -7,7 +7,7 @@ use Rattle.validate_app.proofs.texts.read_problem.Goals as goal
 
 pub returns-in-Err-clause-stop : goal.returns-in-Err-clause-stop
 returns-in-Err-clause-stop g c =
-    stops_there _ _ Problem (c.args.domain.now, c.requires.domain) c.in-Err.stop c.in-Err.ensures.stop
+    stops_there _ _ Problem (c.args.domain.now, c.requires.domain) _ refl c.in-Err.stop c.in-Err.ensures.stop
 
 pub returns-clause-stop : goal.returns-clause-stop
 returns-clause-stop g c =
@@ -16,6 +16,8 @@ returns-clause-stop g c =
 
 pub returns-in-Ok-problem_in-clause-problem : goal.returns-in-Ok-problem_in-clause-problem
 returns-in-Ok-problem_in-clause-problem g c = record {
+  path = _;
+  named = refl;
   bytes = c.in-Ok.bytes.items;
   has = c.in-Ok.ensures.bytes;
   so = subst (λ text. SpellsProblem c.args.domain.now text c.in-Ok-problem_in.problem) c.as_slice.ensures.value

@@ -6,7 +6,10 @@ use Rattle.validate_app.proofs.words.validate_command.Goals as goal
 
 pub returns : goal.returns
 unfolding validate_app
-returns c = IfOk-weaker c.arg-3.result _ _ (λ r h. h.shape c.positional-3.ensures.local
+returns c = IfOk-weaker c.arg-5.result _ _ (λ r h. h.shape c.optional-2.ensures.local
+    ∙ ap₂ with_rule (c.in_ok-arg-4.ensures.shape c.optional.ensures.local
+    ∙ ap₂ with_rule (c.in_ok-arg-3.ensures.shape c.positional-3.ensures.local
     ∙ ap₂ with_rule (c.in_ok-arg-2.ensures.shape c.positional-2.ensures.local
     ∙ ap₂ with_rule (c.in_ok-arg.ensures.shape c.positional.ensures.local
-    ∙ ap₂ with_rule c.new.ensures.app c.positional.ensures.rule) c.positional-2.ensures.rule) c.positional-3.ensures.rule) c.arg-3.ensures
+    ∙ ap₂ with_rule c.new.ensures.app c.positional.ensures.rule) c.positional-2.ensures.rule) c.positional-3.ensures.rule)
+    c.optional.ensures.rule) c.optional-2.ensures.rule) c.arg-5.ensures

@@ -34,7 +34,7 @@ loop-child-preserved g c =
       done = elim c.match-pool_with.branch as (λ w. RunBefore pools (child + 1) (is_child_running c.match-pool_with.self)) [
         | in-Some+in_ok-start_child w ↦
             subst (λ (s : Held). RunBefore pools (child + 1) (is_child_running s)) (sym w.self-is)
-            (runs_more pools child was (is_child_running w.start_child.new.self) w.in_ok-start_child.ensures.running
+            (runs_more pools child was (is_child_running w.start_child.new.self) w.in_ok-start_child.ensures.starts.running
             c.loop-child.invariant.done)
         | in_default w ↦
             subst (λ (s : Held). RunBefore pools (child + 1) (is_child_running s)) (sym w.self-is)
@@ -43,7 +43,7 @@ loop-child-preserved g c =
       left = elim c.match-pool_with.branch as (λ w. IdleFrom pools (child + 1) (is_child_running c.match-pool_with.self)) [
         | in-Some+in_ok-start_child w ↦
             subst (λ (s : Held). IdleFrom pools (child + 1) (is_child_running s)) (sym w.self-is)
-            (idle_further pools child was (is_child_running w.start_child.new.self) w.in_ok-start_child.ensures.running
+            (idle_further pools child was (is_child_running w.start_child.new.self) w.in_ok-start_child.ensures.starts.running
             c.loop-child.invariant.left)
         | in_default w ↦
             subst (λ (s : Held). IdleFrom pools (child + 1) (is_child_running s)) (sym w.self-is)
@@ -59,7 +59,7 @@ loop-child-preserved g c =
                 (g.H.Host.spoken h)) (sym w.host-is)
                 (keeps_then c.args.self.now c.loop-child.self w.start_child.new.self (g.H.Host.spoken c.args.host.now)
                 (g.H.Host.spoken c.loop-child.host) (g.H.Host.spoken w.start_child.new.host) c.loop-child.invariant.quiet
-                w.start_child.ensures.quiet))
+                w.start_child.ensures.starts.quiet))
             | in_default w ↦
                 subst (λ (s : Held). KeepsSilent c.args.self.now s (g.H.Host.spoken c.args.host.now)
                 (g.H.Host.spoken c.match-pool_with.host)) (sym w.self-is)
@@ -79,7 +79,7 @@ loop-child-preserved g c =
                 (sym (ap option_copied w.in-Some.is) ∙ c.pool_with.ensures)
                 (subst (λ ws. Logs (g.H.Host.log c.loop-child.host)
                 (g.H.Host.log w.start_child.new.host) (started child (map string_bytes ws) (Ok tt))) w.as_slice.ensures
-                w.in_ok-start_child.ensures.log)))
+                w.in_ok-start_child.ensures.starts.log)))
             | in_default w ↦
                 subst (λ h. Extends (g.H.Host.log c.args.host.now)
                 (g.H.Host.log h) (flat_map (start_at pools) (numbers_from 0 (child + 1))))
@@ -92,31 +92,43 @@ loop-child-preserved g c =
       host = search rules;
     }
 
-pub returns-clause-running : goal.returns-clause-running
-returns-clause-running g c = λ k child p at is.
-    c.loop-child.invariant.done k child p
-    (omega (arith, c.loop-child-test.false, worker_low c.args.pools.now c.requires.pools k child p at is)) at is
+pub returns : goal.returns
+returns g c = record {
+  starts = record {
+    state = c.loop-child.invariant.state;
+    running = λ k child p at is.
+        c.loop-child.invariant.done k child p
+        (omega (arith, c.loop-child-test.false, worker_low c.args.pools.now c.requires.pools k child p at is)) at is;
+    quiet = c.loop-child.invariant.quiet;
+    log = subst (Extends (g.H.Host.log c.args.host.now) (g.H.Host.log c.loop-child.host))
+        (starts_whole c.args.pools.now c.loop-child.child (omega (arith, c.loop-child-test.false, c.loop-child.auto.child-end)))
+        c.loop-child.invariant.log;
+    refused = tt;
+    only = tt;
+    cause = search rules;
+  };
+}
 
-pub returns-clause-log : goal.returns-clause-log
-returns-clause-log g c =
-    subst (Extends (g.H.Host.log c.args.host.now) (g.H.Host.log c.loop-child.host))
-    (starts_whole c.args.pools.now c.loop-child.child (omega (arith, c.loop-child-test.false, c.loop-child.auto.child-end)))
-    c.loop-child.invariant.log
-
-pub returns-in_err-start_child-clause-refused : goal.returns-in_err-start_child-clause-refused
-returns-in_err-start_child-clause-refused g c =
+pub returns-in_err-start_child : goal.returns-in_err-start_child
+returns-in_err-start_child g c =
     let fault = c.in_err-start_child.field-0.0 in
     let child = c.loop-child.child in
-    handed c.from_residual.result fault _ c.from_residual.ensures.1
-    (child_refused c.args.pools.now child c.in-Some.pool.now fault (g.H.Host.log c.args.host.now)
-    (g.H.Host.log c.loop-child.host) (g.H.Host.log c.start_child.new.host)
-    c.loop-child-test.true (sym c.pool_with.ensures ∙ ap option_copied c.in-Some.is) c.loop-child.invariant.log
-    (subst (λ ws. (cause : HostFault) × IsHostFault cause fault
-    × Logs (g.H.Host.log c.loop-child.host) (g.H.Host.log c.start_child.new.host) (started child (map string_bytes ws) (Err cause)))
-    c.as_slice.ensures c.in_err-start_child.ensures.refused))
-
-pub returns-in_err-start_child-clause-quiet : goal.returns-in_err-start_child-clause-quiet
-returns-in_err-start_child-clause-quiet g c =
-    keeps_then c.args.self.now c.loop-child.self c.start_child.new.self (g.H.Host.spoken c.args.host.now)
-    (g.H.Host.spoken c.loop-child.host) (g.H.Host.spoken c.start_child.new.host) c.loop-child.invariant.quiet
-    c.start_child.ensures.quiet
+    let starts = c.in_err-start_child.ensures.starts in
+    record {
+      starts = record {
+        state = starts.state;
+        running = search rules;
+        quiet = keeps_then c.args.self.now c.loop-child.self c.start_child.new.self (g.H.Host.spoken c.args.host.now)
+            (g.H.Host.spoken c.loop-child.host) (g.H.Host.spoken c.start_child.new.host) c.loop-child.invariant.quiet starts.quiet;
+        log = search rules;
+        refused = handed c.from_residual.result fault _ c.from_residual.ensures.1
+            (child_refused c.args.pools.now child c.in-Some.pool.now fault (g.H.Host.log c.args.host.now)
+            (g.H.Host.log c.loop-child.host) (g.H.Host.log c.start_child.new.host)
+            c.loop-child-test.true (sym c.pool_with.ensures ∙ ap option_copied c.in-Some.is) c.loop-child.invariant.log
+            (subst (λ ws. (cause : HostFault) × IsHostFault cause fault
+            × Logs (g.H.Host.log c.loop-child.host) (g.H.Host.log c.start_child.new.host) (started child (map string_bytes ws) (Err cause)))
+            c.as_slice.ensures starts.refused));
+        only = search rules;
+        cause = search rules;
+      };
+    }

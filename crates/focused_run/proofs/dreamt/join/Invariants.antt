@@ -1,7 +1,0 @@
-use Rattle.std.proofs.Common.{◌≡◌, ◌++◌, take}
-use Rattle.instance_queue.specs.Level.{instances_of}
-use Rattle.focused_run.proofs.dreamt.join.Given as goal
-
--- the first of them are there
-abbrev pub invariant-loop-ask : goal.invariant-loop-ask
-invariant-loop-ask l = l.tried ≡ l.fn.tried ++ instances_of (take l.ask-index l.asks)

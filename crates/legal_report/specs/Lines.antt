@@ -1,0 +1,13 @@
+-- The lines of a report, from 1.
+use Rattle.std.specs.Prelude.{ℕ, ◌+◌, length, take}
+use Rattle.std.specs.List.{flat_map}
+use Rattle.report_text.specs.Texts.{entry_lines}
+use Rattle.transcript_model.specs.declared.report.Report.{Report}
+
+-- the first line behind the pools
+abbrev pub line_behind_pools : Report → ℕ
+line_behind_pools r = length r.pools + 3
+
+-- the first line of the entry at this place, from 0
+abbrev pub line_of : Report → ℕ → ℕ
+line_of r place = line_behind_pools r + length (flat_map entry_lines (take place r.entries))

@@ -1,0 +1,121 @@
+//! The entries of a report, one after another.
+ghost use Rattle.std.specs.Prelude.{◌≡◌, ◌<◌, IfOk, IfSome, Some, length, slice_get};
+ghost use Rattle.legal_report.specs.Walks.{IsReadable, IsTaken, IsWalked, StandsAt};
+ghost use Rattle.transcript_model.specs.Legal.{answered_number as number_in};
+ghost use Rattle.transcript_model.specs.declared.entry.Entry.TheVariants as entry;
+
+use crate::flaw::ReportFlaw;
+use crate::right_answers::may_answer;
+use crate::right_asks::asked_by;
+use learning::{Ledger, answered};
+use std::alloc::{AllocError, Global};
+use task_model::Task;
+use transcript_model::{Call, Entry, MOST_CALLS};
+
+/// The entries of a report over a task.
+#[derive(Clone, Copy)]
+pub(crate) struct Walk<'a> {
+    pub(crate) alloc: Global,
+    pub(crate) task: &'a Task,
+    /// The report's version.
+    pub(crate) version: u8,
+    pub(crate) entries: &'a [Entry],
+}
+
+/// What the entries come to.
+#[derive(Drop)]
+pub(crate) enum Walked {
+    /// They are legal, and this is kept of them.
+    Ends(Ledger),
+    /// Those before this place, from 0, are legal, and the one there is wrong for this.
+    Stops(usize, ReportFlaw),
+}
+
+impl Walk<'_> {
+    /// Takes the request at this place, and answers what is wrong with it.
+    fn take_ask(
+        &self,
+        ledger: &mut Ledger,
+        place: usize,
+        number: u32,
+        turn: u32,
+        call: &Call,
+    ) -> Result<Option<ReportFlaw>, AllocError>
+        requires readable { IsReadable self.now }
+        requires stands { StandsAt self.now place ledger.old }
+        requires here { slice_get self.now.entries.now place
+            ≡ Some (entry.Ask number turn call.now) }
+        ensures { IfOk result (IsTaken self.now place ledger.new) }
+    {
+        let calls = MOST_CALLS;
+        match asked_by(self.alloc, self.task, ledger, calls, number, turn, call)? {
+            Some(instance) => {
+                ledger.ask(instance)?;
+                Ok(None)
+            }
+            None => Ok(Some(ReportFlaw::Ask)),
+        }
+    }
+
+    /// Takes the answer at this place to the request of this number, and answers what is wrong with
+    /// it.
+    fn take_answer(
+        &self,
+        ledger: &mut Ledger,
+        place: usize,
+        number: u32,
+    ) -> Result<Option<ReportFlaw>, AllocError>
+        requires readable { IsReadable self.now }
+        requires stands { StandsAt self.now place ledger.old }
+        requires within { place < length self.now.entries.now }
+        requires here { IfSome (slice_get self.now.entries.now place)
+            (λ e. number_in e ≡ Some number) }
+        ensures { IfOk result (IsTaken self.now place ledger.new) }
+    {
+        if !may_answer(self.task, ledger, number, &self.entries[place]) {
+            return Ok(Some(ReportFlaw::Answer));
+        }
+        ledger.answer(
+            self.alloc,
+            self.task,
+            self.version,
+            number,
+            self.entries,
+            place,
+        )?;
+        Ok(None)
+    }
+
+    /// Takes the entry at this place, and answers what is wrong with it.
+    fn take(&self, ledger: &mut Ledger, place: usize) -> Result<Option<ReportFlaw>, AllocError>
+        requires readable { IsReadable self.now }
+        requires stands { StandsAt self.now place ledger.old }
+        requires within { place < length self.now.entries.now }
+        ensures { IfOk result (IsTaken self.now place ledger.new) }
+    {
+        let entry = &self.entries[place];
+        if let Some(number) = answered(entry) {
+            return self.take_answer(ledger, place, number);
+        }
+        match entry {
+            Entry::Ask { number, turn, call } => {
+                self.take_ask(ledger, place, *number, *turn, call)
+            }
+            _ => Ok(None),
+        }
+    }
+
+    /// Takes all entries, up to the first that is wrong.
+    pub(crate) fn walk(&self) -> Result<Walked, AllocError>
+        requires { IsReadable self.now }
+        ensures { IfOk result (IsWalked self.now) }
+    {
+        let mut ledger = Ledger::new(self.alloc, self.task)?;
+        for place in 0..self.entries.len() {
+            if let Some(flaw) = self.take(&mut ledger, place)? {
+                return Ok(Walked::Stops(place, flaw));
+            }
+        }
+        Ok(Walked::Ends(ledger))
+    }
+}

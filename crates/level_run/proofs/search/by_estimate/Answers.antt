@@ -1,0 +1,13 @@
+use Rattle.level_run.proofs.search.by_estimate.Goals as goal
+
+pub returns-then-branch : goal.returns-then-branch
+returns-then-branch c = record { found = c.in_ok-out_of_reach.ensures c.if-branch.true }
+
+pub returns : goal.returns
+returns c = record {
+  found = record {
+    plan = c.in_ok-found.ensures.plan;
+    nothing = c.in_ok-found.ensures.nothing;
+    past = c.in_ok-found.ensures.limit;
+  };
+}

@@ -1,0 +1,48 @@
+//! How a mode looks for plans.
+ghost use Rattle.std.specs.Prelude.{IfOk};
+ghost use Rattle.level_run.specs.Deciding.{MayFindPlan};
+ghost use Rattle.round_run.specs.Batches.{IsRunnable};
+ghost use Rattle.task_model.specs.Fit.{IsFit};
+
+use best_first::{Found, RelaxedPlan, out_of_reach, search};
+use fact_store::Facts;
+use std::alloc::{AllocError, Global};
+use task_model::Task;
+use transcript_model::Head;
+
+/// How a mode looks for plans over what is known, before each of its turns.
+pub trait PlanSearch {
+    /// Looks for a plan among the states that are reached, at most as many as the head allows, or
+    /// answers None where the goal is out of reach, so that there is none. Fails only where memory is
+    /// wanting.
+    fn find(
+        &self,
+        alloc: Global,
+        task: &Task,
+        head: &Head,
+        facts: &Facts,
+    ) -> Result<Option<Found>, AllocError>
+        requires fit { IsFit task.now }
+        requires runnable { IsRunnable task.now head.now }
+        ensures found { IfOk result (MayFindPlan task.now facts.now.known head.now.states) };
+}
+
+/// Looks for a plan by relaxed plans, which say how much is left and which steps help, where they
+/// don't show that the goal is out of reach. Fails only where memory is wanting.
+pub fn by_estimate(
+    alloc: Global,
+    task: &Task,
+    head: &Head,
+    facts: &Facts,
+) -> Result<Option<Found>, AllocError>
+    requires fit { IsFit task.now }
+    requires runnable { IsRunnable task.now head.now }
+    ensures found { IfOk result (MayFindPlan task.now facts.now.known head.now.states) }
+{
+    let mut estimate = Box::new(alloc, RelaxedPlan::new(alloc, task, facts)?)?;
+    if out_of_reach(alloc, task, facts, &*estimate)? {
+        return Ok(None);
+    }
+    let found = search(alloc, task, facts, head.states, &mut *estimate)?;
+    Ok(Some(found))
+}

@@ -1,0 +1,10 @@
+pub mod AgreeLemmas
+pub mod SwapLemmas
+pub mod OrderLemmas
+pub mod StageLemmas
+pub mod OccurringLemmas
+pub mod ClashLemmas
+pub mod PairLemmas
+pub mod StagingLemmas
+pub mod NamedLemmas
+pub mod ActionLemmas

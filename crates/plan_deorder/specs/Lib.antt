@@ -1,0 +1,5 @@
+pub mod Clashes
+pub mod Laws
+pub mod Occurring
+pub mod Orders
+pub mod Touches

@@ -1,0 +1,16 @@
+use Rattle.std.proofs.Common.{◌≡◌, ◌∙◌, ap, sym, subst, arith, replicate}
+use Rattle.spread_state.proofs.CellsLemmas.{empty_is, empty_spread}
+use Rattle.spread_state.specs.Cells.{IsSpread, atoms_of}
+use Rattle.spread_state.specs.declared.cells.TheConstants.{CELLS}
+use Rattle.task_model.specs.State.{empty}
+use Rattle.spread_state.proofs.cells.SpreadState.new.Goals as goal
+
+pub invariant_of-result : goal.invariant_of-result
+invariant_of-result c =
+    let all : c.loop.counter ≡ CELLS = omega (arith, c.loop-test.false) in
+    subst IsSpread (sym (c.loop.invariant ∙ ap (λ n. replicate n empty) all)) empty_spread
+
+pub returns : goal.returns
+returns c =
+    let all : c.loop.counter ≡ CELLS = omega (arith, c.loop-test.false) in
+    ap atoms_of (c.loop.invariant ∙ ap (λ n. replicate n empty) all) ∙ empty_is

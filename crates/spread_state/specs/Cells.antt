@@ -1,0 +1,23 @@
+-- Sets of atoms that are spread over cells.
+use Rattle.std.specs.Prelude.{◌≡◌, ℕ, ◌+◌, ◌*◌, ◌%◌, List, length, get_or, fold, true}
+use Rattle.std.specs.List.{flat_map}
+use Rattle.spread_state.specs.declared.cells.TheConstants.{CELLS}
+use Rattle.task_model.specs.State.{Atoms, contains, empty, from_list, items}
+use Rattle.task_model.specs.declared.fact.Atom.{Atom}
+
+-- the cell of an atom
+abbrev pub cell_of : Atom → ℕ
+cell_of atom = fold (λ cell object. (cell * 1021 + object) % CELLS) (atom.pred % CELLS) atom.args
+
+-- what a cell holds
+abbrev pub cell_at : List Atoms → ℕ → Atoms
+cell_at cells k = get_or cells k empty
+
+-- all atoms of the cells
+abbrev pub atoms_of : List Atoms → Atoms
+atoms_of cells = from_list (flat_map items cells)
+
+-- Each atom stands in its cell.
+pub record IsSpread (cells : List Atoms) : Type 0 where
+  pub many : length cells ≡ CELLS
+  pub own : (k : ℕ) (atom : Atom) → contains (cell_at cells k) atom ≡ true → cell_of atom ≡ k
