@@ -92,7 +92,7 @@ if [ "$can_run" = yes ]; then
     same "light, the report" "$work/light" "$here/examples/light/report"
 fi
 
-# ---- arms and kitchen: samplers in Python
+# ---- arms, kitchen and bin: samplers in Python
 # stored NAME WORDS: the example's stored report is valid, and comes out
 stored() {
     local name=$1 folder=$here/examples/$1
@@ -109,6 +109,45 @@ stored() {
 if [ "$can_run" = yes ]; then
     stored arms --algorithm focused -- python3 arms.py
     stored kitchen --algorithm adaptive -- python3 kitchen.py scene.json
+    stored bin --protocol 2 -- python3 bin.py 4
+fi
+
+# ---- bin: the same by one tuple a line, in protocol 1 and 2, and its report of version 1 migrated
+bin=$here/examples/bin
+if [ "$can_run" = yes ]; then
+    "$program" migrate "$bin/earlier" > "$work/migrated"
+    same "bin, the report of version 1 in version 2" "$work/migrated" "$bin/migrated"
+    "$program" migrate "$bin/report" > "$work/again"
+    same "bin, a report of version 2 in version 2" "$work/again" "$bin/report"
+    for report in earlier migrated; do
+        replay "$bin" "$bin/$report" > "$work/said"
+        same "bin, its stored report is valid, $report" "$work/said" "$work/valid"
+    done
+    if has python3; then
+        (cd "$bin" && solve . -- python3 bin.py) > "$work/earlier"
+        same "bin, the report of one tuple a line" "$work/earlier" "$bin/earlier"
+        (cd "$bin" && solve . --protocol 2 -- python3 bin.py) > "$work/later"
+        same "bin, the report of one tuple a line in protocol 2" "$work/later" "$bin/migrated"
+    else
+        echo "skipped: the runs of the bin by one tuple a line, since there is no python3"
+    fi
+fi
+
+# ---- pack: a sampler in the shell, and a picture of the stages of its plan
+pack=$here/examples/pack
+if [ "$can_run" = yes ]; then
+    solve "$pack" -- sh "$pack/grip.sh" > "$work/pack"
+    same "pack, the report" "$work/pack" "$pack/report"
+    replay "$pack" "$pack/report" > "$work/said"
+    same "pack, its stored report is valid" "$work/said" "$work/valid"
+    "$program" deorder "$pack/domain.pddl" "$pack/problem.pddl" "$pack/streams.pddl" "$pack/report" > "$work/order"
+    same "pack, what of its plan must stay in order" "$work/order" "$pack/order"
+fi
+if has python3; then
+    python3 "$pack/stages.py" "$pack/order" --svg > "$work/stages"
+    same "pack, the picture of its stages" "$work/stages" "$pack/stages.svg"
+else
+    echo "skipped: the picture of the stages, since there is no python3"
 fi
 
 # ---- tray: places that are sampled in Python
@@ -134,12 +173,16 @@ if [ "$can_run" = yes ]; then
     same "grid, the report" "$work/grid" "$grid/report"
     replay "$grid" "$grid/report" > "$work/said"
     same "grid, its stored report is valid" "$work/said" "$work/valid"
+    "$program" play "$grid/domain.pddl" "$grid/problem.pddl" "$grid/streams.pddl" "$grid/report" "$grid/grid.txt" > "$work/play"
+    same "grid, its plan acted out" "$work/play" "$grid/play"
 fi
 if has python3; then
     python3 "$grid/draw.py" "$grid/report" "$grid/grid.txt" > "$work/picture"
     same "grid, the picture of its plan" "$work/picture" "$grid/picture"
+    python3 "$grid/frames.py" "$grid/play" "$grid/grid.txt" --svg > "$work/play.svg"
+    same "grid, the page of its blocks in motion" "$work/play.svg" "$grid/play.svg"
 else
-    echo "skipped: the picture of the grid, since there is no python3"
+    echo "skipped: the pictures of the grid, since there is no python3"
 fi
 
 # ---- the commands of the guides

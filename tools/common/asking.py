@@ -10,6 +10,7 @@ from collections import defaultdict
 from dataclasses import dataclass, field
 
 AFTER = 0.005       # how long a second line is waited for, in seconds
+WHOLE = 1.0         # how long the rest of a second line is waited for once it has begun
 REST = 0.2          # how long more is waited for behind what came before the first request
 LINE = 1024         # the most bytes of a line
 
@@ -146,6 +147,8 @@ def _ask_one(child: Child, one: Asked, seconds: float, findings: Findings) -> bo
     elif one.said is not None and " ".join(normal(line).split()) != one.said:
         findings.faults.append(f"request {one.number}: {one.request}\n  now:    {normal(line)}\n  before: {one.said}")
     if child.held or child.hear(AFTER):
+        while b"\n" not in child.held and len(child.held) <= LINE and child.hear(WHOLE):
+            pass
         findings.faults.append(f"request {one.number}: {one.request}\n  more than one line; behind the first: "
                                f"{child.rest()!r}")
     return True

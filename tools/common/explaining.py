@@ -15,8 +15,8 @@ from .texts import Source, TextFault
 USAGE = [
     "The words mean no command (status 3). `explain.py --words` with the same words behind it says the likely reason. "
     "It is one of:",
-    "  the first word is none of solve, replay and generate",
-    "  a text is missing, or replay or generate has a word too many",
+    "  the first word is none of solve, replay, generate, migrate, deorder and play",
+    "  a text is missing, or a command other than solve has a word too many",
     "  an option that the command hasn't, or that is misspelled; none is shortened",
     "  an option that stands twice",
     "  an option without its value, or a number that isn't one to seven digits or is out of its range",
@@ -33,6 +33,13 @@ ALONE = re.compile("|".join((
     r"fault read (domain|problem|streams|map|grid|report) (failed|too-long)",
     rf"fault input (domain|problem|streams) ({'|'.join(TEXT_FAULTS)}) \d+",
     rf"fault input map ({'|'.join(MAP_FAULTS)})", rf"fault input grid ({'|'.join(GRID_FAULTS)}) \d+")))
+
+# What came of a plan that was acted out: the line before `done`.
+PLAYED = {r"safe": "Nothing went wrong (status 0).",
+          r"strange (\d+)": "Step {} is no move that could be made (status 10).",
+          r"outside (\d+) (\S+)": "Step {} left {} with a cell outside of the grid (status 10).",
+          r"obstacle (\d+) (\S+)": "Step {} left {} on an obstacle (status 10).",
+          r"clash (\d+) (\S+) (\S+)": "After step {}, {} and {} shared a cell (status 10)."}
 
 
 @dataclass
@@ -61,6 +68,8 @@ def explained(run: Run) -> list[str]:
         return _verdict(run, words)
     if words[0] == "generate":
         return _generated(words)
+    if re.match(r"(order|play|held|at|safe|strange|outside|obstacle|clash)\b", lines[0]):
+        return _of_plan([line for line in lines if line])
     if ALONE.fullmatch(last) and words[1:2] in (["input"], ["read"], ["memory"]):
         return _fault(run, words[1:])
     if last == lines[0] == "fault generator":
@@ -92,6 +101,24 @@ def _generated(words: list[str]) -> list[str]:
     number, outcome, levels, asks = words[1], words[2].replace("-", " "), words[4], words[6]
     return [f"The grid's task with {number} blocks ended with `{outcome}` after {levels} levels and {asks} requests "
             f"(status {STATUSES[outcome]})."]
+
+
+def _of_plan(lines: list[str]) -> list[str]:
+    """What `deorder` or `play` printed of a right report."""
+    if lines in (["order none"], ["play none"]):
+        return ["The report is right and has no plan (status 0)."]
+    if lines == ["order too-long"]:
+        return ["The report is right, and its plan has more than 2,000 steps, whose order isn't told (status 2)."]
+    if lines[-1] != "done":
+        return [f"This ends within a line or before `done`: {shown(lines[-1])}"]
+    order = re.fullmatch(r"order (\d+) (\d+) (\d+)", lines[0])
+    if order:
+        steps, pairs, stages = (int(number) for number in order.groups())
+        return [f"The plan has {steps} {_plural(steps, 'step')} in {stages} {_plural(stages, 'stage')}, and {pairs} "
+                f"{_plural(pairs, 'pair')} of them must stay in order; steps of one stage may change places (status 0)."]
+    played = [(re.fullmatch(pattern, lines[-2]), said) for pattern, said in PLAYED.items()]
+    said = [said.format(*match.groups()) for match, said in played if match]
+    return said or [f"This is no line that the planner prints: {shown(lines[-2])}"]
 
 
 def _fault(run: Run, words: list[str]) -> list[str]:

@@ -4,10 +4,12 @@ from __future__ import annotations
 from dataclasses import dataclass
 
 MODES = ("incremental", "focused", "binding", "adaptive")
-NUMBERS = {"--calls": 100_000, "--states": 200_000, "--depth": 8, "--workers": 16}
+NUMBERS = {"--calls": 100_000, "--states": 200_000, "--depth": 8, "--workers": 16, "--protocol": 2}
 TEXTS = {"solve": ["DOMAIN", "PROBLEM", "STREAMS"], "replay": ["DOMAIN", "PROBLEM", "STREAMS", "REPORT"],
-         "generate": ["N"]}
-OPTIONS: dict[str, list[str]] = {"solve": ["--map", "--algorithm", *NUMBERS], "replay": ["--states"], "generate": []}
+         "generate": ["N"], "migrate": ["REPORT"], "deorder": ["DOMAIN", "PROBLEM", "STREAMS", "REPORT"],
+         "play": ["DOMAIN", "PROBLEM", "STREAMS", "REPORT", "GRID"]}
+OPTIONS: dict[str, list[str]] = {"solve": ["--map", "--algorithm", *NUMBERS], "replay": ["--states"], "generate": [],
+                                 "migrate": [], "deorder": ["--states"], "play": ["--states"]}
 
 
 @dataclass
@@ -50,7 +52,7 @@ def usage_cause(words: list[str]) -> str | None:
     """The likely reason why words mean no command, or nothing where they mean one."""
     if not words or words[0] not in TEXTS:
         first = f"`{words[0]}`" if words else "nothing"
-        return f"the first word is {first}; the commands are solve, replay and generate, and there is no help"
+        return f"the first word is {first}; the commands are {', '.join(TEXTS)}, and there is no help"
     command, texts = words[0], TEXTS[words[0]]
     split = split_words(command, words[1:])
     causes = [_option_cause(command, name, value) for name, value in split.options]

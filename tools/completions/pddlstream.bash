@@ -5,7 +5,7 @@ _pddlstream() {
     local word=${COMP_WORDS[COMP_CWORD]} before=${COMP_WORDS[COMP_CWORD-1]} command=${COMP_WORDS[1]} place
     COMPREPLY=()
     if [ "$COMP_CWORD" -eq 1 ]; then
-        COMPREPLY=($(compgen -W "solve replay generate" -- "$word"))
+        COMPREPLY=($(compgen -W "solve replay generate migrate deorder play" -- "$word"))
         return
     fi
     for ((place = 2; place < COMP_CWORD; place++)); do
@@ -16,11 +16,13 @@ _pddlstream() {
     done
     case $before in
         --algorithm) COMPREPLY=($(compgen -W "incremental focused binding adaptive" -- "$word")); return ;;
+        --protocol) COMPREPLY=($(compgen -W "1 2" -- "$word")); return ;;
         --calls | --states | --depth | --workers) return ;;
     esac
     case $command:$word in
-        solve:-*) COMPREPLY=($(compgen -W "--map --algorithm --calls --states --depth --workers --" -- "$word")) ;;
-        replay:-*) COMPREPLY=($(compgen -W "--states" -- "$word")) ;;
+        solve:-*) COMPREPLY=($(compgen -W "--map --algorithm --calls --states --depth --workers --protocol --" -- "$word")) ;;
+        migrate:-*) ;;
+        replay:-* | deorder:-* | play:-*) COMPREPLY=($(compgen -W "--states" -- "$word")) ;;
         generate:*) COMPREPLY=($(compgen -W "1 2 3 4 5 6 7 8 9 10 11 12" -- "$word")) ;;
         *) COMPREPLY=($(compgen -f -- "$word")) ;;
     esac

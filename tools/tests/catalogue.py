@@ -167,7 +167,9 @@ FILES = ("domain", "problem", "streams", "map", "grid", "report")
 OTHERS: dict[str, int] = {
     "": 8,
     "fault usage\nusage: pddlstream solve DOMAIN PROBLEM STREAMS [OPTIONS] [-- PROGRAM WORDS]\n"
-    "usage: pddlstream replay DOMAIN PROBLEM STREAMS REPORT [--states N]\nusage: pddlstream generate N\n": 3,
+    "usage: pddlstream replay DOMAIN PROBLEM STREAMS REPORT [--states N]\nusage: pddlstream generate N\n"
+    "usage: pddlstream deorder DOMAIN PROBLEM STREAMS REPORT [--states N]\n"
+    "usage: pddlstream play DOMAIN PROBLEM STREAMS REPORT GRID [--states N]\n": 3,
     **{f"fault input {text} {kind} 0\n": 4 for text in FILES[:3] for kind in TEXT_KINDS},
     **{f"fault input map {kind}\n": 4 for kind in MAP_KINDS},
     **{f"fault input grid {kind} 1\n": 4 for kind in GRID_KINDS},
@@ -179,6 +181,15 @@ OTHERS: dict[str, int] = {
     "limit states\n": 2,
     **{f"generate 3 {outcome} levels 2 asks 54\n": status for outcome, status in (
         ("plan", 0), ("no-plan", 1), ("limit-calls", 2), ("limit-states", 2), ("limit-instances", 2))},
+    "order 2 1 2\ndo take cup\ndo drop cup\nbefore 1 2\nstage 1 1\nstage 2 2\ndone\n": 0,
+    "order 0 0 0\ndone\n": 0,
+    "order none\n": 0,
+    "order too-long\n": 2,
+    "play none\n": 0,
+    "held 1 b1\nat 2 b1 0 4\nsafe\ndone\n": 0,
+    **{f"held 1 b1\nat 2 b1 0 4\n{fault}\ndone\n": 10 for fault in ("outside 2 b1", "obstacle 2 b1", "clash 2 b1 b2")},
+    "clash 0 b1 b2\ndone\n": 10,
+    "strange 1\ndone\n": 10,
 }
 
 

@@ -34,7 +34,13 @@ class Check(Folder):
         self.assertIn("request 1: next 0 grip cup\n  now:    yield right\n  before: yield left", out)
 
     def test_a_second_line(self):
-        status, out = self.asked(GOOD.replace("flush=True)", "flush=True); print('end', flush=True)"))
+        status, out = self.asked(GOOD.replace("flush=True)", "end='\\nend\\n', flush=True)"))
+        self.assertEqual(status, 1)
+        self.assertIn("more than one line; behind the first: b'end\\n'", out)
+
+    def test_a_second_line_in_two_pieces(self):
+        pieces = "end='\\ne', flush=True); __import__('time').sleep(0.1); print('nd', flush=True)"
+        status, out = self.asked(GOOD.replace("flush=True)", pieces))
         self.assertEqual(status, 1)
         self.assertIn("more than one line; behind the first: b'end\\n'", out)
 

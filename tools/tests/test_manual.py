@@ -69,6 +69,7 @@ class Completions(unittest.TestCase):
         self.assertEqual(self.completed("solve", "d", "p", "s", "--a"), ["--algorithm"])
         self.assertEqual(set(self.completed("solve", "--")), {*OPTIONS["solve"], "--"})
         self.assertEqual(self.completed("solve", "--algorithm", ""), list(MODES))
+        self.assertEqual(self.completed("solve", "--protocol", ""), ["1", "2"])
         self.assertEqual(self.completed("replay", "-"), ["--states"])
         self.assertEqual(self.completed("generate", "1"), ["1", "10", "11", "12"])
 

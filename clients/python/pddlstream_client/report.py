@@ -6,12 +6,13 @@ from dataclasses import dataclass, field
 
 @dataclass
 class Asked:
-    """A request of a report and its answer: `got` with values, `value` with a number, `end`, or none yet (empty)."""
+    """A request of a report and its answer: `got` with tuples, `value` with a number, `end`, or none yet (empty)."""
 
     stream: str
     inputs: tuple[str, ...]
     answer: str = ""
-    values: tuple[str, ...] = ()
+    tuples: tuple[tuple[str, ...], ...] = ()
+    value: int = 0
 
 
 @dataclass
@@ -37,9 +38,14 @@ def _take(report: Report, fields: list[str]) -> None:
     match fields:
         case ["ask", _, _, stream, *inputs]:
             report.asked.append(Asked(stream, tuple(inputs)))
-        case ["got" | "value" | "end" as kind, number, *values]:
+        case ["got", number, *values]:
             asked = report.asked[int(number) - 1]
-            asked.answer, asked.values = kind, tuple(values)
+            asked.answer, asked.tuples = "got", _tuples(values)
+        case ["value", number, value]:
+            asked = report.asked[int(number) - 1]
+            asked.answer, asked.value = "value", int(value)
+        case ["end", number]:
+            report.asked[int(number) - 1].answer = "end"
         case ["plan", _]:
             report.outcome, report.steps = "plan", []
         case ["do", *step] if report.steps is not None:
@@ -48,3 +54,14 @@ def _take(report: Report, fields: list[str]) -> None:
             report.cost = int(number)
         case ["no", "plan"] | ["limit", _]:
             report.outcome = " ".join(fields)
+
+
+def _tuples(values: list[str]) -> tuple[tuple[str, ...], ...]:
+    """The tuples of a `got` line, of which version 1 has one."""
+    tuples: list[list[str]] = [[]]
+    for value in values:
+        if value == "|":
+            tuples.append([])
+        else:
+            tuples[-1].append(value)
+    return tuple(map(tuple, tuples))

@@ -38,6 +38,7 @@ def solve(
     states: int | None = None,
     depth: int | None = None,
     workers: int = 1,
+    protocol: int = 1,
     seed: object = "",
     types: Mapping[str, Iterable[Any]] | None = None,
     program: str | os.PathLike[str] | None = None,
@@ -56,6 +57,7 @@ def solve(
         streams has, at least 3.
     workers: how many requests are answered at once, each in a thread. With more than one the functions have to bear
         that, and draw from `chance()`.
+    protocol: 2 tells up to 16 tuples of a list function in one line.
     seed: another seed gives other draws.
     types: for a domain with :types, the initial values of each type.
     program: the planner; where None, `$PDDLSTREAM` or `pddlstream` on PATH.
@@ -72,12 +74,13 @@ def solve(
     problem = PDDLProblem(*problem)
     problem = problem._replace(init=list(problem.init))
     task = task_of(problem, types, unit_costs)
-    responder = _responder(problem.stream_map, task, seed, workers)
+    responder = _responder(problem.stream_map, task, seed, workers, protocol)
     options = {
         "algorithm": algorithm,
         "calls": calls,
         "states": states,
         "depth": task.depth if depth is None else depth,
+        "protocol": None if protocol == 1 else protocol,
     }
     options |= {"workers": workers} if task.forms else {}
     with _folder() as folder:
@@ -88,7 +91,9 @@ def solve(
     return _solution(problem, task, responder, ended, report)
 
 
-def _responder(stream_map: Mapping[str, Any], task: Task, seed: object, workers: int) -> Responder:
+def _responder(
+    stream_map: Mapping[str, Any], task: Task, seed: object, workers: int, protocol: int
+) -> Responder:
     """What answers the requests of a task."""
     return Responder(
         _streams_of(stream_map, task.forms),
@@ -96,6 +101,7 @@ def _responder(stream_map: Mapping[str, Any], task: Task, seed: object, workers:
         objects=task.objects,
         widths={form.name: len(form.outputs) for form in task.forms.values() if form.value is None},
         seed=seed,
+        protocol=protocol,
         is_alone=workers == 1,
     )
 
@@ -187,7 +193,7 @@ def _solution(problem: PDDLProblem, task: Task, responder: Responder, ended: End
     if report.steps is not None and ended.status is not None:
         plan = [Action(name, tuple(map(responder.value_of, args))) for name, *args in report.steps]
     facts = [tuple(fact) for fact in problem.init]
-    names = {f"#{value}" for asked in report.asked if asked.answer == "got" for value in asked.values}
+    names = {f"#{value}" for asked in report.asked for values in asked.tuples for value in values}
     for asked in report.asked:
         facts += _certified(asked, task.forms[asked.stream], responder)
     objects = {**task.objects, **{name: responder.value_of(name) for name in sorted(names)}}
@@ -200,11 +206,12 @@ def _certified(asked: Asked, form: StreamForm, responder: Responder) -> list[tup
     """What an answer makes known."""
     terms = dict(zip(form.inputs, map(responder.value_of, asked.inputs)))
     if asked.answer == "value" and form.value is not None:
-        return [("=", _fact(form.value, terms, responder), int(asked.values[0]))]
-    if asked.answer != "got":
-        return []
-    terms.update(zip(form.outputs, (responder.value_of(f"#{value}") for value in asked.values)))
-    return [_fact(atom, terms, responder) for atom in form.certified]
+        return [("=", _fact(form.value, terms, responder), asked.value)]
+    facts = []
+    for values in asked.tuples:
+        terms.update(zip(form.outputs, (responder.value_of(f"#{value}") for value in values)))
+        facts += [_fact(atom, terms, responder) for atom in form.certified]
+    return facts
 
 
 def _fact(atom: Group, terms: Mapping[str, Any], responder: Responder) -> tuple[Any, ...]:

@@ -177,6 +177,16 @@ class OutcomesTest(InFolder):
         self.assertIn("pool 6 grip\n", many.report)
         self.assertEqual((one.plan, one.certificate.all_facts), (many.plan, many.certificate.all_facts))
 
+    def test_a_list_function_tells_its_tuples_in_one_line(self) -> None:
+        problem = fetch_problem(from_list_fn(lambda cup: [(0.25,), (0.5,)]))
+        for algorithm in ALGORITHMS:
+            solution = solved(problem, algorithm, protocol=2, keep=self.folder / algorithm)
+            self.assertTrue(solution.report.startswith(f"pddlstream 2 {algorithm}\n"))
+            self.assertIn("got 1 =0.25 | =0.5\n", solution.report)
+            self.assertEqual(solution.certificate.all_facts[2:], (("grip", "cup", 0.25), ("grip", "cup", 0.5)))
+            self.assertEqual(solution.outcome, "plan")
+            self.assertEqual(self.replayed(self.folder / algorithm), "valid\n")
+
     def test_it_may_be_called_from_several_solves_at_once(self) -> None:
         def fetch(item: str) -> tuple[Any]:
             inner = solved(fetch_problem(from_list_fn(lambda cup: [("inner",)])))

@@ -5,10 +5,10 @@ use Rattle.std.specs.Cmp.{first_so, second_so}
 use Rattle.std.specs.Str.Parse.{digits_value}
 use Rattle.transcript_model.proofs.NamesLemmas.{map_some}
 use Rattle.clap.specs.Words.{App, Row, Text, first_of, matches_of}
-use Rattle.command_line.specs.Apps.{generate_app, is_taken, replay_app, solve_app}
+use Rattle.command_line.specs.Apps.{deorder_app, generate_app, is_taken, migrate_app, play_app, replay_app, solve_app}
 use Rattle.command_line.specs.Numbers.{are_few_digits, count_in, count_of, count_or, is_count}
 use Rattle.command_line.specs.Ranges.{AreInRange, IsBetween, IsInRange}
-use Rattle.command_line.specs.Words.{Command, GivenLimits, ReplayWords, SolveWords, are_apart, command_of, files_in, generate, generate_in, generate_of, limits_in, mode_or, path_in, program_in, read_by, replay, replay_in, replay_of, solve, solve_in, solve_of}
+use Rattle.command_line.specs.Words.{Command, GivenLimits, PlayWords, ReplayWords, SolveWords, are_apart, command_of, deorder, deorder_of, files_in, generate, generate_in, generate_of, limits_in, migrate, migrate_in, migrate_of, mode_or, path_in, play, play_in, play_of, program_in, read_by, replay, replay_in, replay_of, solve, solve_in, solve_of}
 use Rattle.lemmas.proofs.Options.{and_then_some, where_true}
 use Rattle.std.proofs.lemmas.Option.{same_Some}
 
@@ -64,6 +64,7 @@ solve_between rows w e =
     let mode = and_then_some _ (mode_or (first_of (codes "algorithm") rows)) w files.2 in
     let limits = and_then_some _ (limits_in rows) w mode.2 in
     let workers = and_then_some _ (count_in (codes "workers") 16 1 rows) w limits.2 in
+    let protocol = and_then_some _ (count_in (codes "protocol") 2 1 rows) w workers.2 in
     let made : SolveWords = record {
       files = files.0;
       path = path_in rows;
@@ -71,15 +72,17 @@ solve_between rows w e =
       workers = workers.0;
       mode = mode.0;
       limits = limits.0;
+      protocol = protocol.0;
     } in
     let apart = are_apart (path_in rows) (first_of (codes "workers") rows) (program_in rows) in
-    let found = where_true apart (Some made) w workers.2 in
+    let found = where_true apart (Some made) w protocol.2 in
     let few = limits_between rows limits.0 limits.1 in
     let ranges : AreInRange made = record {
       calls = few.0;
       states = few.1;
       depth = few.2;
       workers = or_between 16 1 (omega arith, omega arith) (first_of (codes "workers") rows) workers.0 workers.1;
+      protocol = or_between 2 1 (omega arith, omega arith) (first_of (codes "protocol") rows) protocol.0 protocol.1;
       alone = alone_from (path_in rows) (first_of (codes "workers") rows) (program_in rows) found.0;
     } in
     subst AreInRange (same_Some made w found.1) ranges
@@ -91,6 +94,15 @@ replay_between rows w e =
     let report = and_then_some _ (first_of (codes "report") rows) w files.2 in
     let states = and_then_some _ (count_in (codes "states") 200000 100000 rows) w report.2 in
     subst (λ (x : ReplayWords). IsBetween 200000 x.states) (same_Some _ w states.2)
+    (or_between 200000 100000 (omega arith, omega arith) (first_of (codes "states") rows) states.0 states.1)
+
+play_between : (rows : List Row) (w : PlayWords) → play_in rows ≡ Some w → IsBetween 200000 w.states
+play_between rows w e =
+    let files = and_then_some _ (files_in rows) w e in
+    let report = and_then_some _ (first_of (codes "report") rows) w files.2 in
+    let grid = and_then_some _ (first_of (codes "grid") rows) w report.2 in
+    let states = and_then_some _ (count_in (codes "states") 200000 100000 rows) w grid.2 in
+    subst (λ (x : PlayWords). IsBetween 200000 x.states) (same_Some _ w states.2)
     (or_between 200000 100000 (omega arith, omega arith) (first_of (codes "states") rows) states.0 states.1)
 
 generate_between : (rows : List Row) (n : ℕ) → generate_in rows ≡ Some n → IsBetween 12 n
@@ -126,17 +138,44 @@ generate_found words c e =
     let read = read_some generate_app generate_in words found.0 found.1 in
     subst IsInRange found.2 (generate_between (matches_of generate_app words) found.0 read)
 
+migrate_found : (words : List Text) (c : Command)
+    → option_map migrate (migrate_of words) ≡ Some c → IsInRange c
+migrate_found words c e =
+    let found = map_some migrate (migrate_of words) c e in
+    subst IsInRange found.2 tt
+
+deorder_found : (words : List Text) (c : Command) → option_map deorder (deorder_of words) ≡ Some c
+    → IsInRange c
+deorder_found words c e =
+    let found = map_some deorder (deorder_of words) c e in
+    let read = read_some deorder_app replay_in words found.0 found.1 in
+    subst IsInRange found.2 (replay_between (matches_of deorder_app words) found.0 read)
+
+play_found : (words : List Text) (c : Command) → option_map play (play_of words) ≡ Some c
+    → IsInRange c
+play_found words c e =
+    let found = map_some play (play_of words) c e in
+    let read = read_some play_app play_in words found.0 found.1 in
+    subst IsInRange found.2 (play_between (matches_of play_app words) found.0 read)
+
 pub in_range : (words : List Text) (c : Command) → command_of words ≡ Some c → IsInRange c
 unfolding command_of
 in_range [] c e = absurd (cc)
 in_range (name ∷ words) c e =
-    by (bytes_eq name (codes "solve")) (bytes_eq name (codes "replay")) (bytes_eq name (codes "generate")) e
+    by (bytes_eq name (codes "solve")) (bytes_eq name (codes "replay")) (bytes_eq name (codes "generate"))
+    (bytes_eq name (codes "migrate")) (bytes_eq name (codes "deorder")) (bytes_eq name (codes "play")) e
   where
-    by : (solves replays generates : Bool)
+    by : (solves replays generates migrates deorders plays : Bool)
         → (if solves then option_map solve (solve_of (name ∷ words))
         else if replays then option_map replay (replay_of (name ∷ words))
-        else if generates then option_map generate (generate_of (name ∷ words)) else None) ≡ Some c → IsInRange c
-    by true replays generates said = solve_found (name ∷ words) c said
-    by false true generates said = replay_found (name ∷ words) c said
-    by false false true said = generate_found (name ∷ words) c said
-    by false false false said = absurd (cc)
+        else if generates then option_map generate (generate_of (name ∷ words))
+        else if migrates then option_map migrate (migrate_of (name ∷ words))
+        else if deorders then option_map deorder (deorder_of (name ∷ words))
+        else if plays then option_map play (play_of (name ∷ words)) else None) ≡ Some c → IsInRange c
+    by true replays generates migrates deorders plays said = solve_found (name ∷ words) c said
+    by false true generates migrates deorders plays said = replay_found (name ∷ words) c said
+    by false false true migrates deorders plays said = generate_found (name ∷ words) c said
+    by false false false true deorders plays said = migrate_found (name ∷ words) c said
+    by false false false false true plays said = deorder_found (name ∷ words) c said
+    by false false false false false true said = play_found (name ∷ words) c said
+    by false false false false false false said = absurd (cc)

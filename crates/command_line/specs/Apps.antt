@@ -22,20 +22,38 @@ task_app name =
     (positional (codes "streams"))
 
 -- solve DOMAIN PROBLEM STREAMS [--map FILE] [--algorithm NAME] [--calls N] [--states N] [--depth N] [--workers N]
--- [-- PROGRAM WORDS]
+-- [--protocol N] [-- PROGRAM WORDS]
 unfoldable pub solve_app : App
 solve_app =
-    with_rule (with_rule (with_rule (with_rule (with_rule (with_rule (with_rule (task_app (codes "solve"))
+    with_rule (with_rule (with_rule (with_rule (with_rule (with_rule (with_rule (with_rule (task_app (codes "solve"))
     (trailing (codes "program"))) (option (codes "map"))) (option (codes "algorithm"))) (option (codes "calls")))
-    (option (codes "states"))) (option (codes "depth"))) (option (codes "workers"))
+    (option (codes "states"))) (option (codes "depth"))) (option (codes "workers"))) (option (codes "protocol"))
+
+-- DOMAIN PROBLEM STREAMS REPORT [--states N]
+abbrev pub report_app : Text → App
+report_app name = with_rule (with_rule (task_app name) (positional (codes "report"))) (option (codes "states"))
 
 -- replay DOMAIN PROBLEM STREAMS REPORT [--states N]
 unfoldable pub replay_app : App
-replay_app = with_rule (with_rule (task_app (codes "replay")) (positional (codes "report"))) (option (codes "states"))
+replay_app = report_app (codes "replay")
 
 -- generate N
 unfoldable pub generate_app : App
 generate_app = with_rule (new_app (codes "generate")) (positional (codes "number"))
+
+-- migrate REPORT
+unfoldable pub migrate_app : App
+migrate_app = with_rule (new_app (codes "migrate")) (positional (codes "report"))
+
+-- deorder DOMAIN PROBLEM STREAMS REPORT [--states N]
+unfoldable pub deorder_app : App
+deorder_app = report_app (codes "deorder")
+
+-- play DOMAIN PROBLEM STREAMS REPORT GRID [--states N]
+unfoldable pub play_app : App
+play_app =
+    with_rule (with_rule (with_rule (task_app (codes "play")) (positional (codes "report"))) (positional (codes "grid")))
+    (option (codes "states"))
 
 -- of no kind is there a fault
 abbrev pub are_none : Kinds → Bool

@@ -1,8 +1,9 @@
 -- What holds of every command that words mean.
-use Rattle.std.specs.Prelude.{◌≡◌, ◌≤◌, ℕ, List, [], Some}
+use Rattle.std.specs.Prelude.{◌≡◌, ◌≤◌, ℕ, List, [], Some, ⊤}
 use Rattle.clap.specs.Words.{Text}
 use Rattle.transcript_model.specs.declared.limits.TheConstants.{MOST_CALLS, MOST_DEPTH, WORKERS}
-use Rattle.command_line.specs.Words.{Command, SolveWords, command_of, generate, replay, solve}
+use Rattle.command_line.specs.Words.{Command, SolveWords, command_of, deorder, generate, migrate, play, replay, solve}
+use Rattle.command_line.specs.declared.number.TheConstants.{LATEST_PROTOCOL}
 use Rattle.task_model.specs.declared.limits.TheConstants.{MOST_STATES}
 
 -- from 1 to the most
@@ -15,6 +16,7 @@ pub record AreInRange (w : SolveWords) : Type 0 where
   pub states : IsBetween MOST_STATES w.limits.states
   pub depth : IsBetween MOST_DEPTH w.limits.depth
   pub workers : IsBetween WORKERS w.workers
+  pub protocol : IsBetween LATEST_PROTOCOL w.protocol
   pub alone : (path : Text) → w.path ≡ Some path → w.program ≡ []
 
 -- the numbers of the command are in their ranges
@@ -22,6 +24,9 @@ abbrev pub IsInRange : Command → Type 0
 IsInRange (solve w) = AreInRange w
 IsInRange (replay w) = IsBetween MOST_STATES w.states
 IsInRange (generate n) = IsBetween 12 n
+IsInRange (migrate path) = ⊤
+IsInRange (deorder w) = IsBetween MOST_STATES w.states
+IsInRange (play w) = IsBetween MOST_STATES w.states
 
 -- whatever the words are
 abbrev pub WordsAreInRange : Type 0

@@ -2,7 +2,8 @@
 use Rattle.std.specs.Prelude.{List, Option, map, option_map}
 use Rattle.std.specs.Borrow.{Bor}
 use Rattle.clap.specs.Words.{Text}
-use Rattle.command_line.specs.Words.{GivenLimits, ReplayWords, SolveWords, TaskFiles, words_or}
+use Rattle.command_line.specs.Words.{GivenLimits, PlayWords, ReplayWords, SolveWords, TaskFiles, words_or}
+use Rattle.command_line.specs.declared.play.PlayWords as code_play
 use Rattle.command_line.specs.declared.replay.ReplayWords as code_replay
 use Rattle.command_line.specs.declared.solve.Limits as code_limits
 use Rattle.command_line.specs.declared.solve.SolveWords as code_solve
@@ -35,14 +36,22 @@ lent_solve w = record {
   workers = w.workers;
   mode = w.mode;
   limits = lent_limits w.limits;
+  protocol = w.protocol;
 }
 
 abbrev pub shown_solve : Option code_solve.SolveWords → Option SolveWords
 shown_solve = option_map lent_solve
 
--- `replay`
+-- `replay` or `deorder`
 abbrev pub lent_replay : code_replay.ReplayWords → ReplayWords
 lent_replay w = record { files = lent_files w.files; report = w.report.now; states = w.states }
 
 abbrev pub shown_replay : Option code_replay.ReplayWords → Option ReplayWords
 shown_replay = option_map lent_replay
+
+-- `play`
+abbrev pub lent_play : code_play.PlayWords → PlayWords
+lent_play w = record { files = lent_files w.files; report = w.report.now; grid = w.grid.now; states = w.states }
+
+abbrev pub shown_play : Option code_play.PlayWords → Option PlayWords
+shown_play = option_map lent_play

@@ -10,6 +10,15 @@ replay_usage = codes "usage: pddlstream replay DOMAIN PROBLEM STREAMS REPORT [--
 abbrev pub generate_usage : List ℕ
 generate_usage = codes "usage: pddlstream generate N\n"
 
+abbrev pub migrate_usage : List ℕ
+migrate_usage = codes "usage: pddlstream migrate REPORT\n"
+
+abbrev pub deorder_usage : List ℕ
+deorder_usage = codes "usage: pddlstream deorder DOMAIN PROBLEM STREAMS REPORT [--states N]\n"
+
+abbrev pub play_usage : List ℕ
+play_usage = codes "usage: pddlstream play DOMAIN PROBLEM STREAMS REPORT GRID [--states N]\n"
+
 -- a line for each command
 abbrev pub usage_text : List ℕ
-usage_text = solve_usage ++ replay_usage ++ generate_usage
+usage_text = solve_usage ++ replay_usage ++ generate_usage ++ migrate_usage ++ deorder_usage ++ play_usage

@@ -4,9 +4,9 @@ use Rattle.clap.specs.Words.{App, Row, Text, all_of, first_of, matches_of}
 use Rattle.transcript_model.specs.declared.head.Mode.{Mode}
 use Rattle.transcript_model.specs.declared.head.Mode.TheVariants.{Incremental, Focused, Binding, Adaptive}
 use Rattle.transcript_model.specs.declared.limits.TheConstants.{MOST_CALLS, MOST_DEPTH, WORKERS}
-use Rattle.command_line.specs.Apps.{generate_app, is_taken, replay_app, solve_app}
+use Rattle.command_line.specs.Apps.{deorder_app, generate_app, is_taken, migrate_app, play_app, replay_app, solve_app}
 use Rattle.command_line.specs.Numbers.{count_in, count_of}
-use Rattle.command_line.specs.declared.number.TheConstants.{DEFAULT_CALLS, DEFAULT_DEPTH, DEFAULT_STATES}
+use Rattle.command_line.specs.declared.number.TheConstants.{DEFAULT_CALLS, DEFAULT_DEPTH, DEFAULT_STATES, LATEST_PROTOCOL}
 use Rattle.task_model.specs.declared.limits.TheConstants.{MOST_STATES}
 
 -- the paths of a task's three texts
@@ -21,7 +21,8 @@ pub record GivenLimits : Type 0 where
   pub states : ℕ
   pub depth : ℕ
 
--- `solve` with a task, a map or a program, the program's number of workers, a mode, and limits
+-- `solve` with a task, a map or a program, the program's number of workers, a mode, limits, and the version of the
+-- protocol
 pub record SolveWords : Type 0 where
   pub files : TaskFiles
   pub path : Option Text
@@ -29,11 +30,19 @@ pub record SolveWords : Type 0 where
   pub workers : ℕ
   pub mode : Mode
   pub limits : GivenLimits
+  pub protocol : ℕ
 
--- `replay` with a task, a report, and the most states
+-- `replay` or `deorder` with a task, a report, and the most states
 pub record ReplayWords : Type 0 where
   pub files : TaskFiles
   pub report : Text
+  pub states : ℕ
+
+-- `play` with a task, a report, a grid, and the most states
+pub record PlayWords : Type 0 where
+  pub files : TaskFiles
+  pub report : Text
+  pub grid : Text
   pub states : ℕ
 
 -- what may be asked for
@@ -41,6 +50,9 @@ pub data Command : Type 0 where
   solve : SolveWords → Command
   replay : ReplayWords → Command
   generate : ℕ → Command
+  migrate : Text → Command
+  deorder : ReplayWords → Command
+  play : PlayWords → Command
 
 -- ---- what is read of the rows that clap makes of the words
 
@@ -100,6 +112,7 @@ solve_in rows =
     given (mode_or (first_of (codes "algorithm") rows)) (λ mode.
     given (limits_in rows) (λ limits.
     given (count_in (codes "workers") WORKERS 1 rows) (λ workers.
+    given (count_in (codes "protocol") LATEST_PROTOCOL 1 rows) (λ protocol.
     if are_apart (path_in rows) (first_of (codes "workers") rows) (program_in rows)
     then Some (record {
       files = files;
@@ -108,10 +121,11 @@ solve_in rows =
       workers = workers;
       mode = mode;
       limits = limits;
+      protocol = protocol;
     })
-    else None))))
+    else None)))))
 
--- the words of `replay`
+-- the words of `replay` and `deorder`
 abbrev pub replay_in : List Row → Option ReplayWords
 replay_in rows =
     given (files_in rows) (λ files.
@@ -119,9 +133,22 @@ replay_in rows =
     given (count_in (codes "states") MOST_STATES DEFAULT_STATES rows) (λ states.
     Some (record { files = files; report = report; states = states }))))
 
+-- the words of `play`
+abbrev pub play_in : List Row → Option PlayWords
+play_in rows =
+    given (files_in rows) (λ files.
+    given (first_of (codes "report") rows) (λ report.
+    given (first_of (codes "grid") rows) (λ grid.
+    given (count_in (codes "states") MOST_STATES DEFAULT_STATES rows) (λ states.
+    Some (record { files = files; report = report; grid = grid; states = states })))))
+
 -- the words of `generate`
 abbrev pub generate_in : List Row → Option ℕ
 generate_in rows = given (first_of (codes "number") rows) (count_of 12)
+
+-- the words of `migrate`: the path of the report
+abbrev pub migrate_in : List Row → Option Text
+migrate_in = first_of (codes "report")
 
 -- ---- the words, the command's name first
 
@@ -141,6 +168,18 @@ replay_of = read_by replay_app replay_in
 abbrev pub generate_of : List Text → Option ℕ
 generate_of = read_by generate_app generate_in
 
+-- what words mean of which the first is `migrate`
+abbrev pub migrate_of : List Text → Option Text
+migrate_of = read_by migrate_app migrate_in
+
+-- what words mean of which the first is `deorder`
+abbrev pub deorder_of : List Text → Option ReplayWords
+deorder_of = read_by deorder_app replay_in
+
+-- what words mean of which the first is `play`
+abbrev pub play_of : List Text → Option PlayWords
+play_of = read_by play_app play_in
+
 -- the command that the words mean, and none where they are refused
 unfoldable pub command_of : List Text → Option Command
 command_of [] = None
@@ -148,4 +187,7 @@ command_of (name ∷ words) =
     if bytes_eq name (codes "solve") then option_map solve (solve_of (name ∷ words))
     else if bytes_eq name (codes "replay") then option_map replay (replay_of (name ∷ words))
     else if bytes_eq name (codes "generate") then option_map generate (generate_of (name ∷ words))
+    else if bytes_eq name (codes "migrate") then option_map migrate (migrate_of (name ∷ words))
+    else if bytes_eq name (codes "deorder") then option_map deorder (deorder_of (name ∷ words))
+    else if bytes_eq name (codes "play") then option_map play (play_of (name ∷ words))
     else None

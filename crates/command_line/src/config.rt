@@ -28,10 +28,13 @@ pub struct SolveConfig {
     /// The depth of dreams, 1 to 8: `--depth`, and 3 without it. It has no meaning in incremental
     /// mode.
     pub depth: u8,
+    /// The version of the protocol and of the report, 1 or 2: `--protocol`, and 1 without it.
+    pub protocol: u8,
 }
 
-/// A report is to be judged: `replay DOMAIN PROBLEM STREAMS REPORT [--states N]` (this project).
-/// Paths are as the words give them, and may be empty; no file is looked at here.
+/// A report is to be judged: `replay DOMAIN PROBLEM STREAMS REPORT [--states N]`, or its plan's order
+/// is to be told: `deorder`, with the same words (this project). Paths are as the words give them,
+/// and may be empty; no file is looked at here.
 #[derive(Debug, Drop)]
 pub struct ReplayConfig {
     /// DOMAIN, the path of the domain's text.
@@ -46,6 +49,25 @@ pub struct ReplayConfig {
     pub states: u32,
 }
 
+/// A report's plan is to be acted out on a grid: `play DOMAIN PROBLEM STREAMS REPORT GRID [--states
+/// N]` (this project). Paths are as the words give them, and may be empty; no file is looked at
+/// here.
+#[derive(Debug, Drop)]
+pub struct PlayConfig {
+    /// DOMAIN, the path of the domain's text.
+    pub domain: String,
+    /// PROBLEM, the path of the problem's text.
+    pub problem: String,
+    /// STREAMS, the path of the streams' text.
+    pub streams: String,
+    /// REPORT, the path of the report.
+    pub report: String,
+    /// GRID, the path of the grid's text.
+    pub grid: String,
+    /// The most states of a search of the judge, 1 to 200,000: `--states`, and 100,000 without it.
+    pub states: u32,
+}
+
 /// What the words ask for.
 #[derive(Debug, Drop)]
 pub enum Config {
@@ -56,4 +78,13 @@ pub enum Config {
     /// The grid task of this number, 1 to 12, is to be made and solved: `generate N` (this
     /// project).
     Generate(u32),
+    /// The report of this path is to be printed in version 2: `migrate REPORT` (this project). The
+    /// path may be empty; no file is looked at here.
+    Migrate(String),
+    /// What must stay in order of a report's plan is to be told: `deorder DOMAIN PROBLEM STREAMS
+    /// REPORT [--states N]` (this project).
+    Deorder(ReplayConfig),
+    /// A report's plan is to be acted out on a grid: `play DOMAIN PROBLEM STREAMS REPORT GRID
+    /// [--states N]` (this project).
+    Play(PlayConfig),
 }

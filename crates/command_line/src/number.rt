@@ -16,6 +16,9 @@ pub const DEFAULT_STATES: u32 = 100_000;
 /// The depth where the words don't say. The number is this project's.
 pub const DEFAULT_DEPTH: u32 = 3;
 
+/// The latest version of the protocol and of reports. The number is this project's.
+pub const LATEST_PROTOCOL: u32 = 2;
+
 /// The number from 1 to the most that a word of one to seven digits writes, and nothing where the
 /// word writes none.
 #[tactic(auto, unfolding(crate::specs::Numbers::is_count))]

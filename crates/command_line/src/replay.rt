@@ -1,10 +1,10 @@
-//! The words of `replay DOMAIN PROBLEM STREAMS REPORT [--states N]`.
-ghost use Rattle.std.specs.Prelude.{◌≡◌, IfOk, IfErr, None, Some, map, string_bytes};
-ghost use Rattle.clap.specs.Words.{app_of, found_of, rows_of};
-ghost use Rattle.command_line.specs.Apps.{replay_app};
+//! The words of `replay DOMAIN PROBLEM STREAMS REPORT [--states N]`, and of `deorder`.
+ghost use Rattle.std.specs.Prelude.{◌≡◌, IfOk, IfErr, None, Some, map, string_bytes, true};
+ghost use Rattle.clap.specs.Words.{app_of, found_of, is_simple_and_free, rows_of};
+ghost use Rattle.command_line.specs.Apps.{report_app};
 ghost use Rattle.command_line.specs.Held.{held_replay};
 ghost use Rattle.command_line.specs.Shown.{lent_replay, shown_replay};
-ghost use Rattle.command_line.specs.Words.{replay_in, replay_of};
+ghost use Rattle.command_line.specs.Words.{deorder_of, read_by, replay_in, replay_of};
 
 use crate::line::{matches_of_words, option, positional, text_in};
 use crate::number::{DEFAULT_STATES, count_in};
@@ -14,7 +14,7 @@ use clap::{ArgMatches, Command};
 use std::alloc::{AllocError, Global};
 use task_model::MOST_STATES;
 
-/// What the words of `replay` say, as they stand.
+/// What the words of `replay` or `deorder` say, as they stand.
 #[derive(Clone, Copy)]
 struct ReplayWords<'a> {
     files: TaskFiles<'a>,
@@ -22,10 +22,10 @@ struct ReplayWords<'a> {
     states: u32,
 }
 
-fn replay_command<'a>(alloc: Global) -> Result<Command<'a>, AllocError>
-    ensures { IfOk result (λ c. app_of c ≡ replay_app) }
+fn report_command<'a>(alloc: Global, name: &'static str) -> Result<Command<'a>, AllocError>
+    ensures { IfOk result (λ c. app_of c ≡ report_app name.entry.now) }
 {
-    task_command(alloc, "replay")?
+    task_command(alloc, name)?
         .arg(positional(alloc, "report"))?
         .arg(option(alloc, "states"))
 }
@@ -55,6 +55,26 @@ fn replay_held(alloc: Global, words: ReplayWords<'_>) -> Result<ReplayConfig, Al
     })
 }
 
+/// What words ask for of a command of this name.
+fn report_words(
+    alloc: Global,
+    name: &'static str,
+    words: &[String],
+) -> Result<ReplayConfig, WordsFault>
+    requires { is_simple_and_free (report_app name.now) ≡ true }
+    ensures config { IfOk result (λ c. read_by (report_app name.entry.now) replay_in
+        (map string_bytes words.now) ≡ Some (held_replay c)) }
+    ensures usage { IfErr result (λ why. why ≡ WordsFault.Usage
+        → read_by (report_app name.entry.now) replay_in (map string_bytes words.now) ≡ None) }
+{
+    let command = report_command(alloc, name)?;
+    let matches = matches_of_words(command, words)?;
+    let Some(read) = replay_in(&matches) else {
+        return Err(WordsFault::Usage);
+    };
+    Ok(replay_held(alloc, read)?)
+}
+
 /// What words ask for of which the first is `replay`.
 pub(crate) fn replay(alloc: Global, words: &[String]) -> Result<ReplayConfig, WordsFault>
     ensures config { IfOk result (λ c.
@@ -62,10 +82,15 @@ pub(crate) fn replay(alloc: Global, words: &[String]) -> Result<ReplayConfig, Wo
     ensures usage { IfErr result (λ why. why ≡ WordsFault.Usage
         → replay_of (map string_bytes words.now) ≡ None) }
 {
-    let command = replay_command(alloc)?;
-    let matches = matches_of_words(command, words)?;
-    let Some(read) = replay_in(&matches) else {
-        return Err(WordsFault::Usage);
-    };
-    Ok(replay_held(alloc, read)?)
+    report_words(alloc, "replay", words)
+}
+
+/// What words ask for of which the first is `deorder`.
+pub(crate) fn deorder(alloc: Global, words: &[String]) -> Result<ReplayConfig, WordsFault>
+    ensures config { IfOk result (λ c.
+        deorder_of (map string_bytes words.now) ≡ Some (held_replay c)) }
+    ensures usage { IfErr result (λ why. why ≡ WordsFault.Usage
+        → deorder_of (map string_bytes words.now) ≡ None) }
+{
+    report_words(alloc, "deorder", words)
 }

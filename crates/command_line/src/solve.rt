@@ -7,7 +7,7 @@ ghost use Rattle.command_line.specs.Shown.{lent_solve, shown_limits, shown_progr
 ghost use Rattle.command_line.specs.Words.{are_apart, limits_in, mode_or, solve_in, solve_of};
 
 use crate::line::{matches_of_words, option, text_in, trailing, words_in};
-use crate::number::{DEFAULT_CALLS, DEFAULT_DEPTH, DEFAULT_STATES, count_in};
+use crate::number::{DEFAULT_CALLS, DEFAULT_DEPTH, DEFAULT_STATES, LATEST_PROTOCOL, count_in};
 use crate::task::{TaskFiles, files_in, task_command};
 use crate::{SolveConfig, WordsFault};
 use clap::{ArgMatches, Command};
@@ -32,6 +32,7 @@ struct SolveWords<'m, 'a> {
     workers: u8,
     mode: Mode,
     limits: Limits,
+    protocol: u8,
 }
 
 fn solve_command<'a>(alloc: Global) -> Result<Command<'a>, AllocError>
@@ -44,7 +45,8 @@ fn solve_command<'a>(alloc: Global) -> Result<Command<'a>, AllocError>
         .arg(option(alloc, "calls"))?
         .arg(option(alloc, "states"))?
         .arg(option(alloc, "depth"))?
-        .arg(option(alloc, "workers"))
+        .arg(option(alloc, "workers"))?
+        .arg(option(alloc, "protocol"))
 }
 
 /// The mode of this name, and incremental mode where the words name none.
@@ -104,6 +106,7 @@ fn solve_in<'m, 'a>(matches: &'m ArgMatches<'a>) -> Option<SolveWords<'m, 'a>>
     let mode = mode_or(text_in(matches, "algorithm"))?;
     let limits = limits_in(matches)?;
     let workers = count_in(matches, "workers", WORKERS as u32, 1)?;
+    let protocol = count_in(matches, "protocol", LATEST_PROTOCOL, 1)?;
     let map = text_in(matches, "map");
     let program = words_in(matches, "program");
     if are_apart(map, text_in(matches, "workers"), program) {
@@ -114,6 +117,7 @@ fn solve_in<'m, 'a>(matches: &'m ArgMatches<'a>) -> Option<SolveWords<'m, 'a>>
             workers: workers as u8,
             mode,
             limits,
+            protocol: protocol as u8,
         })
     } else {
         None
@@ -156,6 +160,7 @@ fn solve_held(alloc: Global, words: SolveWords<'_, '_>) -> Result<SolveConfig, A
         calls: words.limits.calls,
         states: words.limits.states,
         depth: words.limits.depth,
+        protocol: words.protocol,
     })
 }
 

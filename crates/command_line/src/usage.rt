@@ -10,5 +10,8 @@ pub fn usage_text() -> &'static str
     "usage: pddlstream solve DOMAIN PROBLEM STREAMS [OPTIONS] [-- PROGRAM WORDS]
 usage: pddlstream replay DOMAIN PROBLEM STREAMS REPORT [--states N]
 usage: pddlstream generate N
+usage: pddlstream migrate REPORT
+usage: pddlstream deorder DOMAIN PROBLEM STREAMS REPORT [--states N]
+usage: pddlstream play DOMAIN PROBLEM STREAMS REPORT GRID [--states N]
 "
 }

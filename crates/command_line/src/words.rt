@@ -4,7 +4,9 @@ ghost use Rattle.command_line.specs.Held.{held};
 ghost use Rattle.command_line.specs.Words.{command_of};
 
 use crate::generate::generate;
-use crate::replay::replay;
+use crate::migrate::migrate;
+use crate::play::play;
+use crate::replay::{deorder, replay};
 use crate::solve::solve;
 use crate::{Config, WordsFault};
 use std::alloc::Global;
@@ -46,6 +48,18 @@ pub fn read_words(alloc: Global, words: &[String]) -> Result<Config, WordsFault>
     if name.as_str() == "generate" {
         let number = generate(alloc, words)?;
         return Ok(Config::Generate(number));
+    }
+    if name.as_str() == "migrate" {
+        let path = migrate(alloc, words)?;
+        return Ok(Config::Migrate(path));
+    }
+    if name.as_str() == "deorder" {
+        let config = deorder(alloc, words)?;
+        return Ok(Config::Deorder(config));
+    }
+    if name.as_str() == "play" {
+        let config = play(alloc, words)?;
+        return Ok(Config::Play(config));
     }
     Err(WordsFault::Usage)
 }

@@ -6,7 +6,8 @@ use Rattle.command_line.specs.declared.number.TheConstants.{DEFAULT_CALLS}
 use Rattle.grid_laws.proofs.OtherLemmas.{other_plain}
 use Rattle.grid_laws.proofs.StreamLemmas.{made_have_streams}
 use Rattle.grid_laws.proofs.TalkLemmas.{grid_talks}
-use Rattle.grid_laws.specs.Grid.{HasGridStreams, grid_replies}
+use Rattle.grid_laws.specs.Grid.{HasGridStreams}
+use Rattle.grid_play.specs.Replies.{grid_replies}
 use Rattle.grid_laws.specs.Laws.{GridRunsArePlain, GridsAnswerMadeRuns}
 use Rattle.grid_laws.specs.Runs.{end_word}
 use Rattle.grid_text.specs.Tasks.{grid_task}

@@ -3,7 +3,7 @@ use Rattle.std.proofs.Common.{◌≡◌, ℕ, suc, ◌-◌, ◌&&◌, ◌==◌, 
 use Rattle.std.proofs.lemmas.Bool.{and_from, and_parts}
 use Rattle.std.proofs.lemmas.List.Elements.{Contains-append_left, Contains-append_right}
 use Rattle.std.specs.List.{filter}
-use Rattle.grid_laws.specs.Grid.{grid_replies}
+use Rattle.grid_play.specs.Replies.{grid_replies}
 use Rattle.grid_laws.specs.Laws.{GridTablesAnswer}
 use Rattle.grid_text.specs.Grids.{GridFile}
 use Rattle.lemmas.proofs.Ascending.{contains_cases, contains_here, contains_later, contains_none}

@@ -8,7 +8,8 @@ use Rattle.gen_lines.specs.declared.answer.Wanted.TheVariants.{Outputs}
 use Rattle.grid_laws.proofs.AnswerLemmas.{NameSays, Which, is_clear, is_grasp, is_other, is_place, is_reach, name_says, which, width_of}
 use Rattle.grid_laws.proofs.BoundLemmas.{IsSmallGrid, read_is_small}
 use Rattle.grid_laws.proofs.ValueLemmas.{Says, end_reads, end_says}
-use Rattle.grid_laws.specs.Grid.{HasGridStreams, HasStream, grid_replies, reply_of_answer}
+use Rattle.grid_laws.specs.Grid.{HasGridStreams, HasStream}
+use Rattle.grid_play.specs.Replies.{grid_replies, reply_of_answer}
 use Rattle.grid_laws.specs.Laws.{GridTalksAreTheGrid}
 use Rattle.grid_text.specs.Grids.{GridFile}
 use Rattle.grid_text.specs.Numbers.{is_decimal}

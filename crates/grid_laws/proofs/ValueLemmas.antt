@@ -11,7 +11,7 @@ use Rattle.gen_lines.specs.Laws.{is_word}
 use Rattle.gen_lines.specs.Reply.{fields, is_space, is_value, is_value_byte, reply_of, reply_of_fields, yields}
 use Rattle.gen_lines.specs.declared.answer.Wanted.{Wanted}
 use Rattle.gen_lines.specs.declared.answer.Wanted.TheVariants.{Outputs}
-use Rattle.grid_laws.specs.Grid.{reply_of_answer}
+use Rattle.grid_play.specs.Replies.{reply_of_answer}
 use Rattle.grid_world.specs.AnswerLines.{line_of_answer}
 use Rattle.grid_world.specs.declared.answer.GridAnswer.{GridAnswer}
 use Rattle.grid_world.specs.declared.answer.GridAnswer.TheVariants as answer

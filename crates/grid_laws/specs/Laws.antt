@@ -2,7 +2,8 @@
 -- proved.
 use Rattle.std.specs.Prelude.{◌≡◌, ℕ, ◌<◌, List, Some}
 use Rattle.command_line.specs.Words.{command_of, generate}
-use Rattle.grid_laws.specs.Grid.{HasGridStreams, grid_replies}
+use Rattle.grid_laws.specs.Grid.{HasGridStreams}
+use Rattle.grid_play.specs.Replies.{grid_replies}
 use Rattle.grid_laws.specs.Runs.{AreGridAnswers, AreGridTalks, IsGridTable, PrintsPlain}
 use Rattle.grid_text.specs.Files.{IsGridOf}
 use Rattle.grid_text.specs.Grids.{GridFile}

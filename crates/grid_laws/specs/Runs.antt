@@ -2,7 +2,7 @@
 use Rattle.std.specs.Prelude.{◌≡◌, ℕ, ◌<◌, List, ◌++◌, codes, All, Contains, Option, Some, count_by}
 use Rattle.std.specs.Fmt.{decimal}
 use Rattle.command_line.specs.declared.number.TheConstants.{DEFAULT_CALLS}
-use Rattle.grid_laws.specs.Grid.{grid_replies}
+use Rattle.grid_play.specs.Replies.{grid_replies}
 use Rattle.grid_text.specs.Files.{IsGridOf}
 use Rattle.grid_text.specs.Grids.{GridFile}
 use Rattle.grid_world.specs.Sessions.{SessionState, talk_of}

@@ -1,5 +1,10 @@
-//! That all readers take the texts of the grid tasks of all numbers.
+//! That all readers take the texts of the grid tasks of all numbers, and read what these are by
+//! definition.
 #![tactic(auto)]
 
 #[cfg(test)]
+mod made;
+#[cfg(test)]
 mod tasks;
+#[cfg(test)]
+mod values;

@@ -1,7 +1,7 @@
 //! Lines of words, and what they ask for.
 use crate::out::Out;
 use crate::word::words_of;
-use command_line::{Config, ReplayConfig, SolveConfig, WordsFault, read_words};
+use command_line::{Config, PlayConfig, ReplayConfig, SolveConfig, WordsFault, read_words};
 use std::alloc::Global;
 use transcript_model::Mode;
 
@@ -33,7 +33,8 @@ fn mode_word(mode: Mode) -> &'static str {
     }
 }
 
-/// Writes paths, calls, states, depth, workers and mode, and then the map or the program.
+/// Writes paths, calls, states, depth, workers and mode, the protocol where it isn't 1, and then the
+/// map or the program.
 fn write_solve(out: &mut Out, config: &SolveConfig) {
     out.put("solve");
     write_word(out, config.domain.as_str());
@@ -44,6 +45,10 @@ fn write_solve(out: &mut Out, config: &SolveConfig) {
     write_number(out, u32::from(config.depth));
     write_number(out, u32::from(config.workers));
     out.put(mode_word(config.mode));
+    if config.protocol != 1 {
+        out.put(" protocol");
+        write_number(out, u32::from(config.protocol));
+    }
     if let Some(map) = &config.map {
         out.put(" map");
         write_word(out, map.as_str());
@@ -51,9 +56,9 @@ fn write_solve(out: &mut Out, config: &SolveConfig) {
     write_words(out, config.program.as_slice());
 }
 
-/// Writes paths and states.
-fn write_replay(out: &mut Out, config: &ReplayConfig) {
-    out.put("replay");
+/// Writes the command's name, paths and states.
+fn write_judged(out: &mut Out, name: &str, config: &ReplayConfig) {
+    out.put(name);
     write_word(out, config.domain.as_str());
     write_word(out, config.problem.as_str());
     write_word(out, config.streams.as_str());
@@ -61,15 +66,32 @@ fn write_replay(out: &mut Out, config: &ReplayConfig) {
     write_number(out, config.states);
 }
 
+/// Writes paths and states.
+fn write_play(out: &mut Out, config: &PlayConfig) {
+    out.put("play");
+    write_word(out, config.domain.as_str());
+    write_word(out, config.problem.as_str());
+    write_word(out, config.streams.as_str());
+    write_word(out, config.report.as_str());
+    write_word(out, config.grid.as_str());
+    write_number(out, config.states);
+}
+
 /// Writes a command.
 fn write_config(out: &mut Out, config: &Config) {
     match config {
         Config::Solve(config) => write_solve(out, config),
-        Config::Replay(config) => write_replay(out, config),
+        Config::Replay(config) => write_judged(out, "replay", config),
         Config::Generate(number) => {
             out.put("generate");
             write_number(out, *number);
         }
+        Config::Migrate(path) => {
+            out.put("migrate");
+            write_word(out, path.as_str());
+        }
+        Config::Deorder(config) => write_judged(out, "deorder", config),
+        Config::Play(config) => write_play(out, config),
     }
 }
 

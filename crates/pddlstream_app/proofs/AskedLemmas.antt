@@ -7,23 +7,22 @@ use Rattle.round_run.specs.declared.fault.RunFault.TheVariants as fault
 use Rattle.transcript_model.specs.declared.outcome.Outcome.{Outcome}
 use Rattle.transcript_model.specs.declared.outcome.Outcome.TheVariants as outcome
 use Rattle.pddlstream_app.proofs.RunsLemmas.{before_last}
+use Rattle.pddlstream_app.proofs.SaidLemmas.{answer_said, said_asks}
+use Rattle.pddlstream_app.specs.AnswerOf.{HasAnswer}
 use Rattle.pddlstream_app.specs.Asked.{AsksAll, AsksAllOf, AsksBefore, AsksFiles, AsksSome, AsksToNamed, AsksUpTo}
-use Rattle.command_line.specs.Words.{Command, SolveWords, command_of, generate, replay, solve}
+use Rattle.command_line.specs.Words.{Command, SolveWords, command_of, generate, solve}
 use Rattle.pddlstream_app.proofs.InputsLemmas.{is_of_input, made_nothing}
 use Rattle.pddlstream_app.specs.Files.{file_of}
 use Rattle.pddlstream_app.specs.Inputs.{EndsReading, HasNoInput, ReadsNothing, SolvesNothing, file_at, files_named, seen_made}
 use Rattle.pddlstream_app.specs.declared.stop.FileRole.TheVariants as role
 use Rattle.pddlstream_app.specs.declared.stop.Text.TheVariants.{Domain, Problem, Streams}
 use Rattle.pddlstream_app.specs.Outside.{FilesSeen, Outside, Written}
-use Rattle.pddlstream_app.specs.Replays.{kind_of_verdict}
-use Rattle.pddlstream_app.specs.Runs.{ClosesRun, HasOutcome, HasVerdict, IsBeforeLast, IsCompleted, IsLined, IsVerdictSaid, IsStopped, outcome_status}
+use Rattle.pddlstream_app.specs.Runs.{ClosesRun, HasOutcome, IsBeforeLast, IsCompleted, IsLined, IsStopped, outcome_status}
 use Rattle.level_run.specs.declared.mode_run.Ran.{Ran}
 use Rattle.pddlstream_app.specs.Solving.{HasNoReport, IsSolved}
 use Rattle.pddlstream_app.specs.Works.{made_words}
 use Rattle.io_world.specs.Faults.{Extends}
 use Rattle.io_world.specs.Talks.{Event, Talk}
-use Rattle.replay_check.specs.declared.verdict.Verdict.{Verdict}
-use Rattle.replay_check.specs.declared.verdict.Verdict.TheVariants as verdict
 use Rattle.pddlstream_app.specs.Stop.{is_write, status_at, last_text}
 use Rattle.pddlstream_app.specs.declared.status.Status.{Status}
 use Rattle.pddlstream_app.specs.declared.stop.Stop.{Stop}
@@ -66,8 +65,8 @@ module _ (words : List (List ℕ)) (files : FilesSeen) where
   command_some : (command : Command) → command_of words ≡ Some command → (why : Stop)
       → ReadsNothing command files why → AsksSome words files
   command_some (solve w) meant why n = inr (inr (solving_up_to w meant why n))
-  command_some (replay w) meant why n = inr (inr (reading_up_to (replay w) meant why n))
   command_some (generate number) meant why n = inl n.asked_for
+  command_some command meant why n = inr (inr (reading_up_to command meant why n))
 
   up_to : (why : Stop) → HasNoInput words files why → AsksSome words files
   up_to why n = command_some n.command n.meant why n.cause
@@ -94,15 +93,6 @@ module _ (words : List (List ℕ)) (files : FilesSeen) where
   asked_reading (stop.Run fault.Write) n =
       absurd (is_of_input words files (stop.Run fault.Write) n)
   asked_reading (stop.Run fault.Memory) n = up_to (stop.Run fault.Memory) n
-
-  -- the verdict was written, or not
-  pub asked_said : (IsSo : Verdict → Type 0) (written : Written) (r : Result Status Stop)
-      → IsVerdictSaid IsSo written r → AsksAll words files → IfErr r (AsksBefore words files)
-  asked_said IsSo written (Ok status) said all = tt
-  asked_said IsSo written (Err why) (inl x) all = subst (AsksBefore words files) (sym x.0) (inr (inl all))
-  asked_said IsSo written (Err why) (inr (v, is, inl x)) all =
-      subst (AsksBefore words files) (sym x.0) (inr (inl all))
-  asked_said IsSo written (Err why) (inr (v, is, inr x)) all = subst (AsksBefore words files) (sym x.0) all
 
   -- the line of a run was written, or not
   pub asked_lined : (kind : Status) (line : List ℕ) (written : Written) (r : Result Status Stop)
@@ -160,7 +150,7 @@ module _ (words : List (List ℕ)) (files : FilesSeen) (number : ℕ) (meant : c
   asked_unmade made are w same spoken was now written why (inr u) =
       subst (AsksBefore words files) (sym u.is) (asked_running words files u.fault asks_making)
 
--- the run has an outcome, or a verdict
+-- the run has an outcome, or the command answers
 pub asked_completed : (words : List (List ℕ)) (outside : Outside) (some written : Written) (status : Status)
     → IsCompleted words outside some status → AsksAll words outside.files
     → AsksFiles words outside.files written status
@@ -171,15 +161,10 @@ asked_completed words outside some written status c all = of c.has
     solved outcome.NoPlan = all
     solved (outcome.Limit kind) = all
 
-    judged : (v : Verdict) → AsksFiles words outside.files written (kind_of_verdict v)
-    judged verdict.Valid = all
-    judged (verdict.Invalid line kind) = all
-    judged verdict.Limit = all
-
-    of : HasOutcome words outside status c.text ⊎ HasVerdict words outside status c.text
+    of : HasOutcome words outside status c.text ⊎ HasAnswer words outside status c.text
         → AsksFiles words outside.files written status
     of (inl h) = subst (AsksFiles words outside.files written) h.kind (solved h.outcome)
-    of (inr h) = subst (AsksFiles words outside.files written) h.kind (judged h.verdict)
+    of (inr h) = said_asks words outside.files written status (answer_said words outside status c.text h) all
 
 module _ (words : List (List ℕ)) (outside : Outside) (before mid now : Option (List ℕ)) where
   -- nothing was written before the last line of a run that ends at a file

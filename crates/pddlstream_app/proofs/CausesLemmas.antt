@@ -2,13 +2,11 @@
 use Rattle.std.proofs.Common.{◌≡◌, ℕ, ◌≤◌, arith, List, true, false, refl, sym, ap, ◌∙◌, inl, inr, subst, Result, Ok, Err, IfErr}
 use Rattle.io_world.specs.Faults.{HasCause, last_count}
 use Rattle.pddlstream_app.specs.Outside.{Written}
-use Rattle.pddlstream_app.specs.Runs.{IsLined, IsVerdictSaid, IsShown}
-use Rattle.replay_check.specs.declared.verdict.Verdict.{Verdict}
+use Rattle.pddlstream_app.specs.Runs.{IsLined}
 use Rattle.pddlstream_app.specs.Stop.{IsOfInput, is_write}
 use Rattle.round_run.proofs.StoppedLemmas.{same_err}
 use Rattle.round_run.specs.declared.fault.RunFault.TheVariants as fault
 use Rattle.pddlstream_app.specs.declared.status.Status.{Status}
-use Rattle.pddlstream_app.specs.declared.status.Status.TheVariants.{Memory}
 use Rattle.pddlstream_app.specs.declared.stop.Stop.{Stop}
 use Rattle.pddlstream_app.specs.declared.stop.Stop.TheVariants as stop
 
@@ -28,12 +26,6 @@ write_stop (stop.Run fault.Memory) e = absurd (cc)
 
 pub other_stop : (why : Stop) → is_write why ≡ false → why ≡ stop.Run fault.Write → ⊥
 other_stop why e is = let both : true ≡ false = sym (ap is_write is) ∙ e in absurd (cc)
-
--- the verdict was written, or not
-pub said_of : (IsSo : Verdict → Type 0) (v : Verdict) (written : Written) (r : Result Status Stop)
-    → IsSo v → IsShown v written r → IsVerdictSaid IsSo written r
-said_of IsSo v written (Ok status) is shown = (v, is, shown)
-said_of IsSo v written (Err why) is shown = inr (v, is, shown)
 
 -- ---- made tasks
 

@@ -17,9 +17,10 @@ use Rattle.pddlstream_app.specs.Files.{AreBytes, FileWanted, HasBytes}
 use Rattle.pddlstream_app.specs.Heads.{AreServed, HaveText, MeansBy, MeansPools}
 use Rattle.pddlstream_app.specs.Inputs.{EndsReading, HasNoInput, HasNoPool, IsInputRefused, IsRefusedMap, IsTaskOf, IsTooLong, MayBeFilesOf, ReadsNothing, SolvesNothing, file_at, files_named}
 use Rattle.pddlstream_app.specs.Outside.{Outside, Written}
-use Rattle.pddlstream_app.specs.Runs.{ClosesRun, HasOutcome, HasVerdict, IsBeforeLast, IsCompleted, outcome_status}
+use Rattle.pddlstream_app.specs.AnswerOf.{AnswerOf, HasAnswer}
+use Rattle.pddlstream_app.specs.Runs.{ClosesRun, HasOutcome, IsBeforeLast, IsCompleted, outcome_status}
 use Rattle.pddlstream_app.specs.Stop.{status_at}
-use Rattle.command_line.specs.Words.{Command, ReplayWords, SolveWords, command_of, replay, solve}
+use Rattle.command_line.specs.Words.{Command, SolveWords, command_of, solve}
 use Rattle.grid_text.specs.Files.{BlamesGridText, IsGridOf}
 use Rattle.grid_text.specs.Grids.{GridFile}
 use Rattle.grid_text.specs.declared.fault.GridFault.TheVariants as grid
@@ -108,10 +109,11 @@ same_command : (words : List (List ℕ)) (a b : Command) → command_of words �
     → command_of words ≡ Some b → a ≡ b
 same_command words a b x y = let both = sym x ∙ y in cc
 
-other_command : (words : List (List ℕ)) (a : SolveWords) (b : ReplayWords)
-    → command_of words ≡ Some (solve a)
-    → command_of words ≡ Some (replay b) → ⊥
-other_command words a b x y = let both = sym x ∙ y in absurd (cc)
+-- where a task is to be solved the command doesn't answer
+no_answer : {words : List (List ℕ)} {outside : Outside} {status : Status} {text : List ℕ} (asked : SolveWords)
+    → command_of words ≡ Some (solve asked) → HasAnswer words outside status text → ⊥
+no_answer {words} {outside} {status} {text} asked meant h =
+    subst (λ c. AnswerOf c h.answer.texts status text) (same_command words h.command (solve asked) h.meant meant) h.answer.so
 
 -- ---- outcomes that are no limit
 
@@ -295,10 +297,10 @@ module _ {words : List (List ℕ)} {outside : Outside} {host_rose sink_rose : Ty
       solved outcome.NoPlan = tt
       solved (outcome.Limit kind) = tt
 
-      of : HasOutcome words outside status c.text ⊎ HasVerdict words outside status c.text
+      of : HasOutcome words outside status c.text ⊎ HasAnswer words outside status c.text
           → EndsWell status
       of (inl h) = subst EndsWell h.kind (solved h.outcome)
-      of (inr h) = absurd (other_command words asked h.asked well.meant h.meant)
+      of (inr h) = absurd (no_answer asked well.meant h)
 
   -- it has one that is no limit, where generators answer by a table that keeps it within its limits
   answered_settled : {written : Written} (status : Status) (answers : Answers)
@@ -306,10 +308,10 @@ module _ {words : List (List ℕ)} {outside : Outside} {host_rose sink_rose : Ty
       → IsCompleted words outside written status → SettlesBy words outside.files.told answers status
   answered_settled status answers given c = of c.has
     where
-      of : HasOutcome words outside status c.text ⊎ HasVerdict words outside status c.text
+      of : HasOutcome words outside status c.text ⊎ HasAnswer words outside status c.text
           → SettlesBy words outside.files.told answers status
       of (inl h) = subst (SettlesBy words outside.files.told answers) h.kind (outcome_settles answers given h h.outcome refl)
-      of (inr h) = absurd (other_command words asked h.asked well.meant h.meant)
+      of (inr h) = absurd (no_answer asked well.meant h)
 
 -- ---- last lines
 
@@ -326,7 +328,7 @@ answered_close IsSo lacks why written status is sink (inr (inr x)) = absurd (sin
 -- ---- the whole clause
 
 module _ {words : List (List ℕ)} {outside : Outside} {host_rose sink_rose : Type 0} where
-  -- the run has an outcome, or a verdict
+  -- the run has an outcome, or the command answers
   pub completes_done : {written : Written} (status : Status) → IsCompleted words outside written status
       → Completes words outside host_rose sink_rose status
   completes_done status c = record {

@@ -3,14 +3,12 @@ use Rattle.std.proofs.Common.{◌≡◌, ◌∙◌, inl, inr, ℕ, List, Bool, t
 use Rattle.std.specs.Io.KnownBytes.{Appends}
 use Rattle.level_run.specs.Reports as reports
 use Rattle.round_run.specs.declared.fault.RunFault.TheVariants as fault
-use Rattle.replay_check.specs.declared.verdict.Verdict.{Verdict}
-use Rattle.replay_check.specs.declared.verdict.Verdict.TheVariants as verdict
 use Rattle.transcript_model.specs.declared.outcome.Outcome.{Outcome}
 use Rattle.transcript_model.specs.declared.outcome.Outcome.TheVariants as outcome
 use Rattle.pddlstream_app.proofs.RunsLemmas.{taken_all}
+use Rattle.pddlstream_app.proofs.SaidLemmas.{answer_said, is_said}
 use Rattle.pddlstream_app.specs.Headline.{PrintsNoPlan, PrintsPlan}
 use Rattle.pddlstream_app.specs.Outside.{Outside, Written}
-use Rattle.pddlstream_app.specs.Replays.{kind_of_verdict}
 use Rattle.pddlstream_app.specs.Runs.{Ends, HasOutcome, ProgramRun, RunWrites, outcome_status, shown_text}
 use Rattle.pddlstream_app.specs.Stop.{status_at}
 use Rattle.pddlstream_app.specs.declared.status.Status.{Status}
@@ -24,10 +22,10 @@ is_found Plan = true
 is_found NoPlan = true
 is_found status = false
 
-verdict_not_found : (v : Verdict) → is_found (kind_of_verdict v) ≡ false
-verdict_not_found verdict.Valid = refl
-verdict_not_found (verdict.Invalid line kind) = refl
-verdict_not_found verdict.Limit = refl
+said_not_found : (status : Status) → is_said status ≡ true → is_found status ≡ false
+said_not_found Plan e = absurd (cc)
+said_not_found NoPlan e = absurd (cc)
+said_not_found status e = refl
 
 stop_not_found : (why : Stop) → is_found (status_at why) ≡ false
 stop_not_found stop.Usage = refl
@@ -83,7 +81,7 @@ module _ (words : List (List ℕ)) (outside : Outside) (written : Written) where
       → RunWrites words outside status text → HasOutcome words outside status text
   outcome_in status text found (inl h) = h
   outcome_in status text found (inr (inl h)) =
-      absurd (not_both (kind_of_verdict h.verdict) status h.kind (verdict_not_found h.verdict) found)
+      absurd (not_both status status refl (said_not_found status (answer_said words outside status text h)) found)
   outcome_in status text found (inr (inr h)) =
       absurd (not_both (status_at h.stop) status h.kind (stop_not_found h.stop) found)
 

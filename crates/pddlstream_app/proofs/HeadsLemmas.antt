@@ -160,8 +160,8 @@ module _ (task : Task) (told : Option FileMap) (w : SolveWords) where
       let whole = served_whole head.pools headed.pools in
       record {
         fit = record {
-          some_version = omega (arith, headed.version);
-          version = omega (arith, headed.version);
+          some_version = omega (arith, headed.version, within.protocol.0);
+          version = omega (arith, headed.version, within.protocol.1);
           some_calls = omega (arith, headed.calls, within.calls.0);
           calls = omega (arith, headed.calls, within.calls.1);
           pools = fit_pools task head.pools whole;

@@ -13,7 +13,7 @@ use Rattle.task_reader.specs.Refusals.{Refuses}
 use Rattle.task_reader.specs.Texts.{SpellsDomain, SpellsProblem, RefusesDomain, RefusesProblem, RefusesStreams}
 use Rattle.task_reader.specs.declared.refusal.InputRefusal.{InputRefusal}
 use Rattle.task_reader.specs.declared.refusal.InputRefusal.TheVariants as refusal
-use Rattle.command_line.specs.Words.{Command, ReplayWords, SolveWords, TaskFiles, command_of, generate, replay, solve}
+use Rattle.command_line.specs.Words.{Command, SolveWords, TaskFiles, command_of, generate, solve}
 use Rattle.pddlstream_app.specs.Files.{AreBytes, FileWanted, HasBytes, file_of}
 use Rattle.pddlstream_app.specs.Inputs.{AreAccepted, EndsAtFile, EndsHere, EndsReading, HasNoInput, IsInputRefused, IsTaskOf, MayEnd, ReadsNothing, SolvesNothing, ask, files_named, reads, seen_made, stop_for, task_files}
 use Rattle.pddlstream_app.specs.Outside.{FilesSeen}
@@ -53,7 +53,7 @@ module _ (told : Option FileMap) (first mid last : ℕ) (earlier : first ≤ mid
 
   -- a run ends at a file behind those that were read
   pub ends_behind : (later : Option FileMap) → later ≡ told → (before : List FileWanted)
-      → Extends old middle (reads before) → (texts : List (List ℕ)) → AreBytes told before texts → AreAccepted texts
+      → Extends old middle (reads before) → (texts : List (List ℕ)) → AreBytes told before texts → AreAccepted before texts
       → (wanted : FileWanted) (more : List FileWanted) (why : Stop)
       → EndsHere (looks later mid last middle new) texts wanted why
       → EndsAtFile (looks told first last old new) (before ++ wanted ∷ more) why
@@ -142,11 +142,11 @@ solving_input : (w : SolveWords) (files : FilesSeen) (why : Stop) → SolvesNoth
 solving_input w files why (inl n) = reading_input (solve w) files why n
 solving_input w files why (inr n) = subst IsOfInput (sym n.is) tt
 
-command_input : (command : Command) (files : FilesSeen) (why : Stop) → ReadsNothing command files why
+pub command_input : (command : Command) (files : FilesSeen) (why : Stop) → ReadsNothing command files why
     → IsOfInput why
 command_input (solve w) files why n = solving_input w files why n
-command_input (replay w) files why n = reading_input (replay w) files why n
 command_input (generate number) files why n = solving_input made_words (seen_made number) why n.cause
+command_input command files why n = reading_input command files why n
 
 pub is_of_input : (words : List (List ℕ)) (files : FilesSeen) (why : Stop) → HasNoInput words files why
     → IsOfInput why
@@ -185,20 +185,17 @@ fit_if_spelled told paths (Ok task) is =
 fit_if_spelled told paths (Err why) is = tt
 
 -- a run ends at the report of a task that was read
-pub ends_at_report : (words : List (List ℕ)) (asked : ReplayWords) → command_of words ≡ Some (replay asked) → (task : Task)
-    → (told later : Option FileMap) → later ≡ told → (first mid last : ℕ) → first ≤ mid → (old middle new : Option (List Asked))
-    → IsTaskOf told asked.files task → Extends old middle (reads (task_files asked.files)) → (why : Stop)
-    → ((texts : List (List ℕ)) → EndsHere (looks later mid last middle new) texts (file_of role.Report asked.report) why)
-    → HasNoInput words (looks told first last old new) why
-ends_at_report words asked meant task told later same first mid last earlier old middle new t read why ends =
+pub ends_at_report : (paths : TaskFiles) (report : List ℕ) (more : List FileWanted) (task : Task) (told later : Option FileMap)
+    → later ≡ told → (first mid last : ℕ) → first ≤ mid → (old middle new : Option (List Asked)) → IsTaskOf told paths task
+    → Extends old middle (reads (task_files paths)) → (why : Stop)
+    → ((texts : List (List ℕ)) → EndsHere (looks later mid last middle new) texts (file_of role.Report report) why)
+    → EndsAtFile (looks told first last old new) (task_files paths ++ file_of role.Report report ∷ more) why
+ends_at_report paths report more task told later same first mid last earlier old middle new t read why ends =
     let texts = t.domain ∷ t.problem ∷ t.streams ∷ [] in
-    record {
-      command = replay asked;
-      meant = meant;
-      cause = record {
-        all = files_named (replay asked);
-        are = inl refl;
-        stopped = ends_behind told first mid last earlier old middle new later same (task_files asked.files) read texts t.are
-            (task, t.spelled) (file_of role.Report asked.report) [] why (ends texts);
-      };
-    }
+    ends_behind told first mid last earlier old middle new later same (task_files paths) read texts t.are
+    (task, t.spelled) (file_of role.Report report) more why (ends texts)
+
+-- a run ends at one of the files that the words name
+pub ends_reading : (command : Command) (files : FilesSeen) (why : Stop) → EndsAtFile files (files_named command) why
+    → EndsReading command files why
+ends_reading command files why ends = record { all = files_named command; are = inl refl; stopped = ends }

@@ -1,20 +1,19 @@
 -- When the host is as it was, and why a file was not read.
-use Rattle.std.proofs.Common.{◌≡◌, ◌⊎◌, ℕ, arith, List, refl, sym, subst, ◌∙◌, inl, inr, None, Some, Result, Ok, Err, IfErr}
+use Rattle.std.proofs.Common.{◌≡◌, ◌⊎◌, ℕ, arith, List, true, false, refl, sym, subst, ap, ◌∙◌, inl, inr, None, Some, Result, Ok, Err, IfErr}
 use Rattle.std.specs.Io.KnownBytes.{Appends}
-use Rattle.command_line.specs.Words.{Command, SolveWords, command_of, generate, replay, solve}
+use Rattle.command_line.specs.Words.{Command, SolveWords, command_of, generate, solve}
+use Rattle.pddlstream_app.proofs.SaidLemmas.{answer_said, said_behind}
+use Rattle.pddlstream_app.specs.AnswerOf.{HasAnswer, only_reads}
 use Rattle.pddlstream_app.specs.Asked.{AsksFiles, HasReadCause}
 use Rattle.pddlstream_app.specs.Inputs.{EndsReading, HasNoInput, ReadsNothing, SolvesNothing, seen_made}
 use Rattle.pddlstream_app.specs.Outside.{FilesSeen, HaveFailed, Outside, Written}
-use Rattle.pddlstream_app.specs.Replays.{kind_of_verdict}
-use Rattle.pddlstream_app.specs.Runs.{ClosesRun, HasOutcome, HasVerdict, IsAtText, IsBeforeHost, IsCompleted, IsLined, LeavesHost, SparesHost, outcome_status}
+use Rattle.pddlstream_app.specs.Runs.{ClosesRun, HasOutcome, IsAtText, IsBeforeHost, IsCompleted, IsLined, LeavesHost, SparesHost, outcome_status}
 use Rattle.pddlstream_app.specs.Stop.{last_text, status_at}
 use Rattle.pddlstream_app.specs.declared.status.Status.{Status}
 use Rattle.pddlstream_app.specs.declared.status.Status.TheVariants.{ReadFault}
 use Rattle.pddlstream_app.specs.declared.stop.FileRole.{FileRole}
 use Rattle.pddlstream_app.specs.declared.stop.Stop.{Stop}
 use Rattle.pddlstream_app.specs.declared.stop.Stop.TheVariants as stop
-use Rattle.replay_check.specs.declared.verdict.Verdict.{Verdict}
-use Rattle.replay_check.specs.declared.verdict.Verdict.TheVariants as verdict
 use Rattle.round_run.specs.declared.fault.RunFault.TheVariants as fault
 use Rattle.transcript_model.specs.declared.outcome.Outcome.{Outcome}
 use Rattle.transcript_model.specs.declared.outcome.Outcome.TheVariants as outcome
@@ -24,26 +23,30 @@ use Rattle.transcript_model.specs.declared.outcome.Outcome.TheVariants as outcom
 -- no call was made on it
 pub spares_same : {H : Type 0} (words : List (List ℕ)) (result : Result Status Stop) (host : H)
     → SparesHost words result host host
-spares_same {H} words result host = record { replay = λ asked e. refl; usage = λ e. refl; input = of result }
+spares_same {H} words result host = record { answer = λ c e reads. refl; usage = λ e. refl; input = of result }
   where
     of : (r : Result Status Stop) → IfErr r (λ why. IsAtText why → host ≡ host)
     of (Ok status) = tt
     of (Err why) = λ t. refl
 
--- the words mean another command than `replay`
-module _ {H : Type 0} (words : List (List ℕ)) (result : Result Status Stop) (old new : H)
-    (input : IfErr result (λ why. IsAtText why → new ≡ old)) where
-  pub spares_solving : (w : SolveWords) → command_of words ≡ Some (solve w) → SparesHost words result old new
-  spares_solving w meant = record {
-    replay = λ asked e. let both : Some (solve w) ≡ Some (replay asked) = sym meant ∙ e in absurd (cc);
-    usage = λ e. let both : Some (solve w) ≡ None = sym meant ∙ e in absurd (cc);
-    input = input;
-  }
+-- the words mean a command that doesn't answer
+module _ (words : List (List ℕ)) (command : Command) (meant : command_of words ≡ Some command)
+    (runs : only_reads command ≡ false) where
+  no_answer : (c : Command) → command_of words ≡ Some c → only_reads c ≡ true → ⊥
+  no_answer c e reads =
+      let both : Some command ≡ Some c = sym meant ∙ e in
+      let same : command ≡ c = cc in
+      let other : false ≡ true = sym runs ∙ ap only_reads same ∙ reads in
+      absurd (cc)
 
-  pub spares_making : (n : ℕ) → command_of words ≡ Some (generate n) → SparesHost words result old new
-  spares_making n meant = record {
-    replay = λ asked e. let both : Some (generate n) ≡ Some (replay asked) = sym meant ∙ e in absurd (cc);
-    usage = λ e. let both : Some (generate n) ≡ None = sym meant ∙ e in absurd (cc);
+  pub leaves_running : (P : Type 0) (c : Command) → command_of words ≡ Some c → only_reads c ≡ true → P
+  leaves_running P c e reads = absurd (no_answer c e reads)
+
+  pub spares_running : {H : Type 0} (result : Result Status Stop) (old new : H) → IfErr result (λ why. IsAtText why → new ≡ old)
+      → SparesHost words result old new
+  spares_running result old new input = record {
+    answer = λ c e reads. absurd (no_answer c e reads);
+    usage = λ e. let both : Some command ≡ None = sym meant ∙ e in absurd (cc);
     input = input;
   }
 
@@ -68,29 +71,24 @@ at_text (stop.Run fault.Write) b = absurd b
 at_text (stop.Run fault.Memory) b = absurd b
 
 module _ {H : Type 0} (words : List (List ℕ)) (old new : H) where
-  -- the run has an outcome or a verdict
+  -- the run has an outcome, or the command answers
   pub leaves_completed : (outside : Outside) (written : Written) (status : Status)
       → SparesHost words (Ok status) old new → IsCompleted words outside written status → LeavesHost words status old new
-  leaves_completed outside written status s c = record { replay = s.replay; usage = s.usage; input = λ b. absurd (of c.has b) }
+  leaves_completed outside written status s c = record { answer = s.answer; usage = s.usage; input = λ b. absurd (of c.has b) }
     where
       ran : (o : Outcome) → IsBeforeHost (outcome_status o) → ⊥
       ran (outcome.Plan steps cost from) b = b
       ran outcome.NoPlan b = b
       ran (outcome.Limit kind) b = b
 
-      judged : (v : Verdict) → IsBeforeHost (kind_of_verdict v) → ⊥
-      judged verdict.Valid b = b
-      judged (verdict.Invalid line kind) b = b
-      judged verdict.Limit b = b
-
-      of : HasOutcome words outside status c.text ⊎ HasVerdict words outside status c.text → IsBeforeHost status → ⊥
+      of : HasOutcome words outside status c.text ⊎ HasAnswer words outside status c.text → IsBeforeHost status → ⊥
       of (inl h) b = ran h.outcome (subst IsBeforeHost (sym h.kind) b)
-      of (inr h) b = judged h.verdict (subst IsBeforeHost (sym h.kind) b)
+      of (inr h) b = said_behind status (answer_said words outside status c.text h) b
 
   -- the last line was written, or a part of it, or that memory is wanting
   pub leaves_closed : (why : Stop) (written : Written) (status : Status)
       → SparesHost words (Err why) old new → ClosesRun why written status → LeavesHost words status old new
-  leaves_closed why written status s closed = record { replay = s.replay; usage = s.usage; input = of closed }
+  leaves_closed why written status s closed = record { answer = s.answer; usage = s.usage; input = of closed }
     where
       of : ClosesRun why written status → IsBeforeHost status → new ≡ old
       of (inl (inl x)) b = s.input (at_text why (subst IsBeforeHost x.0 b))
@@ -111,9 +109,9 @@ module _ (files : FilesSeen) (which : FileRole) where
 failed_command : (files : FilesSeen) (which : FileRole) (command : Command) → ReadsNothing command files (stop.Failed which)
     → HaveFailed files
 failed_command files which (solve w) n = failed_solving files which w n
-failed_command files which (replay w) n = failed_reading files which (replay w) n
 failed_command files which (generate number) n =
     let rose = failed_solving (seen_made number) which _ n.cause in absurd (omega (arith, rose))
+failed_command files which command n = failed_reading files which command n
 
 -- what could not be read is told only where the count rose, or of a file that is too long
 pub read_cause : (words : List (List ℕ)) (files : FilesSeen) (written : Written) → AsksFiles words files written ReadFault

@@ -29,6 +29,7 @@ made_in_range w is = subst AreInRange (sym is) (record {
   states = (omega arith, omega arith);
   depth = (omega arith, omega arith);
   workers = (omega arith, omega arith);
+  protocol = (omega arith, omega arith);
   alone = λ path e. absurd (cc);
 })
 

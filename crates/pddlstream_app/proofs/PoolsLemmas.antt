@@ -211,7 +211,7 @@ module _ (asked : SolveWords) where
     record AreRead (files : List FileWanted) : Type 0 where
       texts : List (List ℕ)
       are : AreBytes told files texts
-      accepted : AreAccepted texts
+      accepted : AreAccepted files texts
 
     are_read : (path : Option (List ℕ)) → MeansBy path told asked task pools
         → AreRead (task_files asked.files ++ file_at role.Map path)
@@ -219,7 +219,7 @@ module _ (asked : SolveWords) where
     are_read (Some path) m = record {
       texts = t.domain ∷ t.problem ∷ t.streams ∷ m.bytes ∷ [];
       are = (t.are.0, (t.are.1.0, (t.are.1.1.0, (m.has, tt))));
-      accepted = (task, pools, t.spelled, m.so);
+      accepted = (task, t.spelled, (pools, m.so));
     }
 
     -- the grid's file wasn't read, or holds no grid

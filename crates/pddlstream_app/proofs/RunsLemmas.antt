@@ -1,5 +1,5 @@
 -- How runs end.
-use Rattle.std.proofs.Common.{◌≡◌, ℕ, ◌+◌, arith, List, [], ◌++◌, length, take, true, false, MatchBool, Option, Some, refl, sym, subst, ap, ◌∙◌, ◌⊎◌, inl, inr, Result, Ok, Err, IfOk, IfErr}
+use Rattle.std.proofs.Common.{◌≡◌, ℕ, ◌+◌, arith, List, [], ◌++◌, length, take, true, false, MatchBool, Option, Some, refl, sym, subst, ap, ◌∙◌, ◌⊎◌, inl, inr}
 use Rattle.std.proofs.Math.Seq.{take-append-add}
 use Rattle.std.proofs.lemmas.List.{length-append}
 use Rattle.std.specs.Io.KnownBytes.{Appends}
@@ -11,7 +11,6 @@ use Rattle.level_run.specs.Reports as reports
 use Rattle.level_run.specs.Reports.{IsBroken, IsPart, IsReported, WasToWrite, TookTo, begins_last}
 use Rattle.level_run.specs.declared.mode_run.Ran.{Ran}
 use Rattle.table_runs.specs.Tabled.{IsTabled}
-use Rattle.task_model.specs.Fit.{IsFit}
 use Rattle.task_model.specs.declared.task.Task.{Task}
 use Rattle.transcript_model.specs.Legal.{IsLegal}
 use Rattle.transcript_model.specs.declared.entry.Entry.{Entry}
@@ -19,23 +18,19 @@ use Rattle.transcript_model.specs.declared.head.Head.{Head}
 use Rattle.transcript_model.specs.declared.outcome.Outcome.{Outcome}
 use Rattle.transcript_model.specs.declared.outcome.Outcome.TheVariants as outcome
 use Rattle.pddlstream_app.proofs.InputsLemmas.{is_of_input}
-use Rattle.pddlstream_app.specs.Files.{HasBytes, file_of}
-use Rattle.pddlstream_app.specs.Inputs.{HasNoInput, IsTaskOf}
+use Rattle.pddlstream_app.proofs.SaidLemmas.{answer_said, said_whole}
+use Rattle.pddlstream_app.specs.AnswerOf.{HasAnswer}
+use Rattle.pddlstream_app.specs.Inputs.{HasNoInput}
 use Rattle.pddlstream_app.specs.Outside.{IsUntouched, Outside, Written}
-use Rattle.pddlstream_app.specs.Replays.{kind_of_verdict, verdict_text}
-use Rattle.pddlstream_app.specs.Runs.{ClosesRun, Ends, RunHasFault, HasOutcome, HasVerdict, IsBefore, IsBeforeLast, IsCompleted, IsPartOfRun, IsVerdictSaid, IsStopped, IsUnneeded, ProgramRun, TellsStatus, TookAll, TookPart, outcome_status, shown_so_far, shown_text}
-use Rattle.replay_check.specs.Verdicts.{IsVerdict}
-use Rattle.replay_check.specs.declared.verdict.Verdict.{Verdict}
-use Rattle.replay_check.specs.declared.verdict.Verdict.TheVariants as verdict
+use Rattle.pddlstream_app.specs.Runs.{ClosesRun, Ends, RunHasFault, HasOutcome, IsBefore, IsBeforeLast, IsCompleted, IsPartOfRun, IsStopped, IsUnneeded, ProgramRun, TellsStatus, TookAll, TookPart, outcome_status, shown_so_far, shown_text}
 use Rattle.pddlstream_app.specs.Stop.{is_write, is_write_fault, status_at, last_text}
-use Rattle.command_line.specs.Words.{ReplayWords, SolveWords, command_of, replay, solve}
+use Rattle.command_line.specs.Words.{SolveWords, command_of, solve}
 use Rattle.pddlstream_app.specs.Solving.{HasNoReport, IsPosed, IsSolved}
 use Rattle.pddlstream_app.specs.Works.{Work, command_for, files_of, solving, words_of}
 use Rattle.round_run.specs.declared.fault.RunFault.{RunFault}
 use Rattle.round_run.specs.declared.fault.RunFault.TheVariants as fault
 use Rattle.pddlstream_app.specs.declared.status.Status.{Status}
 use Rattle.pddlstream_app.specs.declared.status.Status.TheVariants.{WriteFault}
-use Rattle.pddlstream_app.specs.declared.stop.FileRole.TheVariants as role
 use Rattle.pddlstream_app.specs.declared.stop.Stop.{Stop}
 use Rattle.pddlstream_app.specs.declared.stop.Stop.TheVariants as stop
 
@@ -45,11 +40,6 @@ pub outcome_whole : (o : Outcome) → is_write_fault (outcome_status o) ≡ fals
 outcome_whole (outcome.Plan steps cost from) = refl
 outcome_whole outcome.NoPlan = refl
 outcome_whole (outcome.Limit kind) = refl
-
-pub verdict_whole : (v : Verdict) → is_write_fault (kind_of_verdict v) ≡ false
-verdict_whole verdict.Valid = refl
-verdict_whole (verdict.Invalid line kind) = refl
-verdict_whole verdict.Limit = refl
 
 stop_kind : (why : Stop) → is_write_fault (status_at why) ≡ is_write why
 stop_kind stop.Usage = refl
@@ -85,16 +75,16 @@ module _ (words : List (List ℕ)) (outside : Outside) (written : Written) where
       → Ends words outside written WriteFault
   ends_written why other s = subst (λ b. MatchBool b (TookPart words outside written) (IsBeforeLast words outside written why)) other s
 
-  -- the run has an outcome, or a verdict
+  -- the run has an outcome, or the command answers
   pub ends_completed : (status : Status) → IsCompleted words outside written status
       → Ends words outside written status
   ends_completed status c = of c.has c.unneeded
     where
-      of : (has : HasOutcome words outside status c.text ⊎ HasVerdict words outside status c.text)
+      of : (has : HasOutcome words outside status c.text ⊎ HasAnswer words outside status c.text)
           → IsUnneeded has → Ends words outside written status
       of (inl h) none = all_taken status (ap is_write_fault (sym h.kind) ∙ outcome_whole h.outcome)
           (record { text = c.text; writes = inl h; unneeded = none; took = c.took })
-      of (inr h) none = all_taken status (ap is_write_fault (sym h.kind) ∙ verdict_whole h.verdict)
+      of (inr h) none = all_taken status (said_whole status (answer_said words outside status c.text h))
           (record { text = c.text; writes = inr (inl h); unneeded = tt; took = c.took })
 
 -- ---- reports
@@ -133,52 +123,6 @@ module _ (words : List (List ℕ)) (outside : Outside) where
       → IsStopped words outside written (stop.Run fault.Memory)
   stopped_early written nothing none =
       record { text = []; cause = inl (refl, none); took = nothing }
-
-  -- a report is to be judged
-  module _ (asked : ReplayWords) (meant : command_of words ≡ Some (replay asked)) (task : Task)
-      (spelled : IsTaskOf outside.files.told asked.files task) (fit : IsFit task) (none : IsUntouched outside) (bytes : List ℕ)
-      (has : HasBytes outside.files.told (file_of role.Report asked.report) bytes) (written : Written) where
-    has_verdict : (v : Verdict) → IsVerdict asked.states task bytes v
-        → HasVerdict words outside (kind_of_verdict v) (verdict_text v)
-    has_verdict v is = record {
-      asked = asked;
-      meant = meant;
-      task = task;
-      spelled = spelled;
-      fit = fit;
-      verdict = v;
-      report = record { bytes = bytes; has = has; so = is };
-      kind = refl;
-      untouched = none;
-      is = refl;
-    }
-
-    -- the verdict was written
-    pub completed_said : (r : Result Status Stop) → IsVerdictSaid (IsVerdict asked.states task bytes) written r
-        → IfOk r (IsCompleted words outside written)
-    completed_said (Ok status) (v, is, shown) = subst (IsCompleted words outside written) (sym shown.0)
-        (record { text = verdict_text v; has = inr (has_verdict v is); unneeded = tt; took = shown.1 })
-    completed_said (Err why) said = tt
-
-    -- it was not written, or in part
-    pub stopped_said : LogStops outside.was outside.now → (r : Result Status Stop)
-        → IsVerdictSaid (IsVerdict asked.states task bytes) written r
-        → IfErr r (IsStopped words outside written)
-    stopped_said stops (Ok status) said = tt
-    stopped_said stops (Err why) (inl x) =
-        subst (IsStopped words outside written) (sym x.0) (stopped_early written x.1 stops)
-    stopped_said stops (Err why) (inr (v, is, inl x)) =
-        subst (IsStopped words outside written) (sym x.0) (stopped_early written x.1 stops)
-    stopped_said stops (Err why) (inr (v, is, inr (failed, n, less, app))) = subst (IsStopped words outside written) (sym failed)
-        (record {
-          text = verdict_text v;
-          was = inl
-              (kind_of_verdict v, inr (inl (has_verdict v is)));
-          count = n;
-          whole = omega arith;
-          less = less;
-          took = app;
-        })
 
   -- a task is to be solved, or made and solved
   module _ (work : Work) (meant : command_of words ≡ Some (command_for work)) (task : Task) (head : Head)

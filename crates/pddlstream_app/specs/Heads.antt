@@ -42,9 +42,9 @@ pub record AreServed (told : Option FileMap) (w : SolveWords) (task : Task) (poo
   pub means : MeansPools told w task meant
   pub text : HaveText (grid_file (map plain meant)) told meant pools
 
--- The head has the mode and the limits of the words, and the pools that they mean.
+-- The head has the protocol, the mode and the limits of the words, and the pools that they mean.
 pub record IsHeadOf (told : Option FileMap) (w : SolveWords) (task : Task) (head : Head) : Type 0 where
-  pub version : head.version ≡ 1
+  pub version : head.version ≡ w.protocol
   pub mode : head.mode ≡ w.mode
   pub calls : head.calls ≡ w.limits.calls
   pub states : head.states ≡ w.limits.states

@@ -13,7 +13,7 @@ use Rattle.task_reader.specs.declared.refusal.FaultKind.{FaultKind}
 use Rattle.task_reader.specs.declared.refusal.InputRefusal.{InputRefusal}
 use Rattle.task_reader.specs.declared.refusal.InputRefusal.TheVariants as refusal
 use Rattle.pddlstream_app.specs.Outside.{FilesSeen, HaveFailed, unread}
-use Rattle.command_line.specs.Words.{Command, SolveWords, TaskFiles, command_of, generate, replay, solve}
+use Rattle.command_line.specs.Words.{Command, SolveWords, TaskFiles, command_of, deorder, generate, migrate, play, replay, solve}
 use Rattle.grid_text.specs.Files.{BlamesGridText}
 use Rattle.grid_text.specs.declared.fault.GridFault.{GridFault}
 use Rattle.grid_text.specs.declared.fault.GridFault.TheVariants as grid
@@ -61,6 +61,9 @@ abbrev pub files_named : Command → List FileWanted
 files_named (solve w) = task_files w.files ++ file_at role.Map w.path
 files_named (replay w) = task_files w.files ++ file_of role.Report w.report ∷ []
 files_named (generate n) = []
+files_named (migrate path) = file_of role.Report path ∷ []
+files_named (deorder w) = task_files w.files ++ file_of role.Report w.report ∷ []
+files_named (play w) = task_files w.files ++ file_of role.Report w.report ∷ file_of role.Grid w.grid ∷ []
 
 -- the same, and then the grid's, if one of the pools names it that the words mean
 abbrev pub AreFilesOf : Option FileMap → Command → List FileWanted → Type 0
@@ -75,15 +78,22 @@ MayBeFilesOf told command files = (files ≡ files_named command) ⊎ AreFilesOf
 
 -- ---- texts
 
--- the first texts of a command are accepted: a domain, then a problem and then streams over it
-abbrev pub AreAccepted : List (List ℕ) → Type 0
-AreAccepted [] = ⊤
-AreAccepted (domain ∷ []) = (d : domains.Domain) × SpellsDomain domain d
-AreAccepted (domain ∷ problem ∷ []) =
+-- a text that is read for this is accepted over the task: a map is one of it
+abbrev pub IsAcceptedAs : FileRole → Task → List ℕ → Type 0
+IsAcceptedAs role.Map task text = (pools : List Pool) × AcceptedMap task text pools
+IsAcceptedAs which task text = ⊤
+
+-- the first texts of a command are accepted, which stand in these files: a domain, then a problem and then streams
+-- over it, and then what is read for a map, or for a report
+abbrev pub AreAccepted : List FileWanted → List (List ℕ) → Type 0
+AreAccepted files [] = ⊤
+AreAccepted files (domain ∷ []) = (d : domains.Domain) × SpellsDomain domain d
+AreAccepted files (domain ∷ problem ∷ []) =
     (d : domains.Domain) × (p : problems.Problem) × SpellsDomain domain d × SpellsProblem d problem p
-AreAccepted (domain ∷ problem ∷ streams ∷ []) = (task : Task) × Spells domain problem streams task
-AreAccepted (domain ∷ problem ∷ streams ∷ text ∷ texts) =
-    (task : Task) × (pools : List Pool) × Spells domain problem streams task × AcceptedMap task text pools
+AreAccepted files (domain ∷ problem ∷ streams ∷ []) = (task : Task) × Spells domain problem streams task
+AreAccepted (first ∷ second ∷ third ∷ wanted ∷ files) (domain ∷ problem ∷ streams ∷ text ∷ texts) =
+    (task : Task) × Spells domain problem streams task × IsAcceptedAs wanted.role task text
+AreAccepted files texts = ⊥
 
 -- behind these texts, which are accepted, this one is refused for this fault
 abbrev pub IsInputRefused : List (List ℕ) → Text → List ℕ → FaultKind → ℕ → Type 0
@@ -165,7 +175,7 @@ pub record EndsAtFile (files : FilesSeen) (all : List FileWanted) (why : Stop) :
   pub order : all ≡ before ++ wanted ∷ later
   pub texts : List (List ℕ)
   pub are : AreBytes files.told before texts
-  pub accepted : AreAccepted texts
+  pub accepted : AreAccepted before texts
   pub cause : MayEnd files texts wanted why
   pub answer : FileAnswer
   pub answered : IsFileAnswer why answer
@@ -204,8 +214,8 @@ pub record MakesNothing (number : ℕ) (files : FilesSeen) (why : Stop) : Type 0
 -- what a command reads is no input, for this cause
 abbrev pub ReadsNothing : Command → FilesSeen → Stop → Type 0
 ReadsNothing (solve w) files why = SolvesNothing w files why
-ReadsNothing (replay w) files why = EndsReading (replay w) files why
 ReadsNothing (generate n) files why = MakesNothing n files why
+ReadsNothing command files why = EndsReading command files why
 
 -- The words mean a command, and what it reads is no input, for this cause.
 pub record HasNoInput (words : List (List ℕ)) (files : FilesSeen) (why : Stop) : Type 0 where

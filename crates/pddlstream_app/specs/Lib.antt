@@ -1,3 +1,5 @@
+pub mod AnswerOf
+pub mod Answering
 pub mod Asked
 pub mod Codes
 pub mod Complete
@@ -7,6 +9,8 @@ pub mod Heads
 pub mod Inputs
 pub mod Outside
 pub mod Paths
+pub mod Plans
+pub mod Plays
 pub mod Replays
 pub mod Runs
 pub mod Solving

@@ -22,17 +22,13 @@ use Rattle.transcript_model.specs.declared.entry.Entry.{Entry}
 use Rattle.transcript_model.specs.declared.head.Head.{Head}
 use Rattle.transcript_model.specs.declared.outcome.Outcome.{Outcome}
 use Rattle.transcript_model.specs.declared.outcome.Outcome.TheVariants as outcome
-use Rattle.command_line.specs.Words.{ReplayWords, command_of, generate, replay}
+use Rattle.command_line.specs.Words.{Command, command_of, generate}
+use Rattle.pddlstream_app.specs.AnswerOf.{HasAnswer, only_reads}
 use Rattle.pddlstream_app.specs.Heads.{IsHeadOf}
-use Rattle.pddlstream_app.specs.Files.{HoldsFile, file_of}
 use Rattle.pddlstream_app.specs.Inputs.{HasNoInput, IsTaskOf}
 use Rattle.pddlstream_app.specs.Outside.{IsUntouched, Outside, Written}
 use Rattle.pddlstream_app.specs.Stop.{is_write, is_write_fault, last_text, status_at}
-use Rattle.pddlstream_app.specs.Replays.{kind_of_verdict, verdict_text}
 use Rattle.pddlstream_app.specs.Works.{Work, command_for, files_of, made_line, making, solving, words_of}
-use Rattle.replay_check.specs.Verdicts.{IsVerdict}
-use Rattle.replay_check.specs.declared.verdict.Verdict.{Verdict}
-use Rattle.pddlstream_app.specs.declared.stop.FileRole.TheVariants as role
 use Rattle.round_run.specs.declared.fault.RunFault.{RunFault}
 use Rattle.round_run.specs.declared.fault.RunFault.TheVariants as fault
 use Rattle.pddlstream_app.specs.declared.status.Status.{Status}
@@ -88,21 +84,6 @@ pub record HasOutcome (words : List (List ℕ)) (outside : Outside) (status : St
   pub tabled : IsTabled run.task run.head run.entries outside.spoken outcome
   pub calls : LogRan run.task run.head run.entries outside.was outside.now
   pub is : text ≡ shown_text run.work run.task run.head run.entries outcome
-
--- The words mean that a report is to be judged, and the text says what is said of the report's bytes, of the task that
--- the told files spell, and of the limit of the words. No call was made on a child.
-pub record HasVerdict (words : List (List ℕ)) (outside : Outside) (status : Status) (text : List ℕ) : Type 0 where
-  pub asked : ReplayWords
-  pub meant : command_of words ≡ Some (replay asked)
-  pub task : Task
-  pub spelled : IsTaskOf outside.files.told asked.files task
-  pub fit : IsFit task
-  pub verdict : Verdict
-  pub report : HoldsFile outside.files.told (file_of role.Report asked.report)
-      (λ bytes. IsVerdict asked.states task bytes verdict)
-  pub kind : kind_of_verdict verdict ≡ status
-  pub untouched : IsUntouched outside
-  pub is : text ≡ verdict_text verdict
 
 -- ---- faults
 
@@ -168,7 +149,7 @@ pub record RunHasFault (words : List (List ℕ)) (outside : Outside) (status : S
 -- what a run writes in all that ends so
 abbrev pub RunWrites : List (List ℕ) → Outside → Status → List ℕ → Type 0
 RunWrites words outside status text =
-    HasOutcome words outside status text ⊎ HasVerdict words outside status text ⊎ RunHasFault words outside status text
+    HasOutcome words outside status text ⊎ HasAnswer words outside status text ⊎ RunHasFault words outside status text
 
 -- where what is written is a run's outcome, and its transcript has no request, no call was made on a child
 abbrev pub IsUnneeded : {words : List (List ℕ)} {outside : Outside} {status : Status} {text : List ℕ} {Other : Type 0}
@@ -194,10 +175,10 @@ abbrev pub shows_last : Work → Task → Head → List Entry → ℕ
 shows_last (solving w) task head entries = last_begins task head entries
 shows_last (making n) task head entries = 0
 
--- where the lines begin that were to be written last: those of the outcome, the verdict, the fault or the last entry
+-- where the lines begin that were to be written last: those of the outcome, the answer, the fault or the last entry
 abbrev pub ends_shown : {words : List (List ℕ)} {outside : Outside} {text : List ℕ} → WasShown words outside text → ℕ
 ends_shown (inl (other, inl h)) = length (shown_so_far h.run.work h.run.task h.run.head h.run.entries)
-ends_shown (inl (other, inr (inl v))) = 0
+ends_shown (inl (other, inr (inl a))) = 0
 ends_shown (inl (other, inr (inr f))) = length f.before
 ends_shown (inr p) = shows_last p.run.work p.run.task p.run.head p.run.entries
 
@@ -221,10 +202,10 @@ pub record Caused (IsSo : Type 0) (last before now : ℕ) : Type 0 where
   pub later : before ≤ now
   pub cause : IsSo → Rose last before now
 
--- a replay makes no call on a child, however it ends
-abbrev pub LeavesReplays : List (List ℕ) → Outside → Type 0
-LeavesReplays words outside =
-    (asked : ReplayWords) → command_of words ≡ Some (replay asked) → IsUntouched outside
+-- a command that answers makes no call on a child, however it ends
+abbrev pub LeavesAnswers : List (List ℕ) → Outside → Type 0
+LeavesAnswers words outside =
+    (command : Command) → command_of words ≡ Some command → only_reads command ≡ true → IsUntouched outside
 
 -- the words, a file or a text ended the run, before a child was to be asked
 abbrev pub IsBeforeHost : Status → Type 0
@@ -233,10 +214,10 @@ IsBeforeHost Input = ⊤
 IsBeforeHost ReadFault = ⊤
 IsBeforeHost status = ⊥
 
--- The host is as it was: of a replay and of words that mean no command, however the call ends; and where the words, a
--- file or a text ended the run.
+-- The host is as it was: of a command that answers and of words that mean no command, however the call ends; and where
+-- the words, a file or a text ended the run.
 pub record LeavesHost {H : Type 0} (words : List (List ℕ)) (status : Status) (old new : H) : Type 0 where
-  pub replay : (asked : ReplayWords) → command_of words ≡ Some (replay asked) → new ≡ old
+  pub answer : (command : Command) → command_of words ≡ Some command → only_reads command ≡ true → new ≡ old
   pub usage : command_of words ≡ None → new ≡ old
   pub input : IsBeforeHost status → new ≡ old
 
@@ -249,14 +230,14 @@ IsAtText why = ⊤
 
 -- the same of the host where a run stops, or not
 pub record SparesHost {H : Type 0} (words : List (List ℕ)) (result : Result Status Stop) (old new : H) : Type 0 where
-  pub replay : (asked : ReplayWords) → command_of words ≡ Some (replay asked) → new ≡ old
+  pub answer : (command : Command) → command_of words ≡ Some command → only_reads command ≡ true → new ≡ old
   pub usage : command_of words ≡ None → new ≡ old
   pub input : IfErr result (λ why. IsAtText why → new ≡ old)
 
--- The run has an outcome, and its report was written; or the report was judged, and the verdict was written.
+-- The run has an outcome, and its report was written; or the command answers, and its text was written.
 pub record IsCompleted (words : List (List ℕ)) (outside : Outside) (written : Written) (status : Status) : Type 0 where
   pub text : List ℕ
-  pub has : HasOutcome words outside status text ⊎ HasVerdict words outside status text
+  pub has : HasOutcome words outside status text ⊎ HasAnswer words outside status text
   pub unneeded : IsUnneeded has
   pub took : Appends written.before written.after text
 
@@ -289,14 +270,3 @@ IsLined kind line written (Ok status) = (status ≡ kind) × Appends written.bef
 IsLined kind line written (Err why) =
     ((why ≡ stop.Run fault.Memory) × Appends written.before written.after [])
     ⊎ ((why ≡ stop.Run fault.Write) × (n : ℕ) × (n < length line) × Appends written.before written.after (take n line))
-
--- the same of the line of a verdict
-abbrev pub IsShown : Verdict → Written → Result Status Stop → Type 0
-IsShown v = IsLined (kind_of_verdict v) (verdict_text v)
-
--- what is said was written of which this is so; or memory was wanting, or the sink failed and took a part of it
-abbrev pub IsVerdictSaid : (Verdict → Type 0) → Written → Result Status Stop → Type 0
-IsVerdictSaid IsSo written (Ok status) = (v : Verdict) × IsSo v × IsShown v written (Ok status)
-IsVerdictSaid IsSo written (Err why) =
-    ((why ≡ stop.Run fault.Memory) × Appends written.before written.after [])
-    ⊎ ((v : Verdict) × IsSo v × IsShown v written (Err why))

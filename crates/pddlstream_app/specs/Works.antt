@@ -32,6 +32,7 @@ made_words = record {
   workers = 1;
   mode = Incremental;
   limits = record { calls = DEFAULT_CALLS; states = DEFAULT_STATES; depth = DEFAULT_DEPTH };
+  protocol = 1;
 }
 
 abbrev pub file_with : List ℕ → List ℕ → StoredFile

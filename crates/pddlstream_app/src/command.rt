@@ -5,17 +5,19 @@ ghost use Rattle.pddlstream_app.specs.Asked.{AsksAll, AsksBefore, AsksFiles, Has
 ghost use Rattle.pddlstream_app.specs.Complete.{Completes};
 ghost use Rattle.pddlstream_app.specs.Headline.{PrintsNoPlan, PrintsPlan};
 ghost use Rattle.pddlstream_app.specs.Outside.{outside_of, seen_of, written_of};
-ghost use Rattle.pddlstream_app.specs.Runs.{Caused, ClosesRun, Ends, IsCompleted, IsStopped, LeavesHost, LeavesReplays, SparesHost, TellsStatus};
+ghost use Rattle.pddlstream_app.specs.Plays.{PlaysSafely};
+ghost use Rattle.pddlstream_app.specs.Runs.{Caused, ClosesRun, Ends, IsCompleted, IsStopped, LeavesAnswers, LeavesHost, SparesHost, TellsStatus};
 ghost use Rattle.round_run.specs.declared.fault.RunFault.TheVariants as fault;
 ghost use Rattle.pddlstream_app.specs.declared.status.Status.TheVariants.{GeneratorFault, NoPlan, Plan, ReadFault, WriteFault};
 ghost use Rattle.pddlstream_app.specs.declared.stop.Stop.TheVariants.{Run};
 
-use crate::judge::judge;
+use crate::answer::answer;
+use crate::job::{Job, job_of};
 use crate::make::make;
 use crate::solve::solve;
 use crate::status::Status;
 use crate::stop::{MEMORY, Stop};
-use command_line::{Config, WordsFault, read_words};
+use command_line::{WordsFault, read_words};
 use io_world::{Files, Host, Sink, write_all};
 use level_run::RunFault;
 use std::alloc::Global;
@@ -61,7 +63,7 @@ fn attempt<F: Files, H: Host, O: Sink>(
         (outside_of (seen_of F.told F.faults F.asked files.old files.new) H.spoken H.log host.old
         host.new) (written_of O.taken out.old out.new)) }
     ensures idle { (k : ℕ) → H.running host.new k ≡ false }
-    ensures replays { LeavesReplays (map string_bytes words.now)
+    ensures answers { LeavesAnswers (map string_bytes words.now)
         (outside_of (seen_of F.told F.faults F.asked files.old files.new) H.spoken H.log host.old
         host.new) }
     ensures leaves { SparesHost (map string_bytes words.now) result host.old host.new }
@@ -79,10 +81,10 @@ fn attempt<F: Files, H: Host, O: Sink>(
         Err(WordsFault::Usage) => return Err(Stop::Usage),
         Err(WordsFault::Memory) => return Err(Stop::Run(RunFault::Memory)),
     };
-    match config {
-        Config::Solve(words) => solve(alloc, &words, files, host, out),
-        Config::Replay(words) => judge(alloc, &words, files, out),
-        Config::Generate(number) => make(alloc, number, host, out),
+    match job_of(config) {
+        Job::Solve(words) => solve(alloc, &words, files, host, out),
+        Job::Make(number) => make(alloc, number, host, out),
+        Job::Answer(words) => answer(alloc, &words, files, out),
     }
 }
 
@@ -139,12 +141,17 @@ pub fn run<F: Files, H: Host, O: Sink>(
     ensures ends { Ends (map string_bytes words.now)
         (outside_of (seen_of F.told F.faults F.asked files.old files.new) H.spoken H.log host.old
         host.new) (written_of O.taken out.old out.new) result }
-    // A replay makes no call on a child, however it ends, also where the sink fails.
-    ensures replays { LeavesReplays (map string_bytes words.now)
+    // A command that answers with one text, as a replay, makes no call on a child, however it ends,
+    // also where the sink fails.
+    ensures answers { LeavesAnswers (map string_bytes words.now)
         (outside_of (seen_of F.told F.faults F.asked files.old files.new) H.spoken H.log host.old
         host.new) }
-    // The host itself is as it was, whatever it tells: of a replay, where the words mean no
-    // command, and where the words, a file or a text ended the run.
+    // Where the files of `play` are told and true, a right report with the grid's own answers on a
+    // task of that grid, the run doesn't end so that something is wrong: no line is refused, and no
+    // step of the plan has a fault.
+    ensures safe { PlaysSafely (map string_bytes words.now) (F.told files.old) result }
+    // The host itself is as it was, whatever it tells: of a command that answers, where the words
+    // mean no command, and where the words, a file or a text ended the run.
     ensures leaves { LeavesHost (map string_bytes words.now) result host.old host.new }
     // A file that couldn't be read is told only where the files' count of faults rose, or where
     // the file that the last line names is too long.

@@ -16,7 +16,7 @@ pub(crate) fn head_of(words: &SolveConfig, pools: Seq<Pool>) -> Head
         → IsHeadOf told (held_solve words.now) task result }
 {
     Head {
-        version: 1,
+        version: words.protocol,
         mode: words.mode,
         calls: words.calls,
         states: words.states,

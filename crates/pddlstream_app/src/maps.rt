@@ -20,7 +20,7 @@ ghost use Rattle.pddlstream_app.specs.declared.stop.FileRole.TheVariants as role
 use crate::stop::{FileRole, Stop};
 use crate::texts::read_file;
 use command_line::SolveConfig;
-use grid_text::{GridFault, read_grid};
+use grid_text::{Grid, GridFault, read_grid};
 use io_world::Files;
 use level_run::RunFault;
 use std::alloc::Global;
@@ -115,6 +115,30 @@ pub(crate) fn meant_pools<F: Files>(
     match &words.map {
         None => program_pools(alloc, words, task),
         Some(path) => map_pools(alloc, files, path.as_str(), task),
+    }
+}
+
+/// Reads the grid of this path's file.
+pub(crate) fn read_grid_file<F: Files>(
+    alloc: Global,
+    files: &mut F,
+    path: &str,
+) -> Result<Grid, Stop>
+    ensures grid { IfOk result (λ grid. HoldsFile (F.told files.old) (file_of role.Grid path.now)
+        (λ bytes. IsGridOf bytes grid)) }
+    ensures asked { IfOk result (λ _. Extends (F.asked files.old) (F.asked files.new)
+        (ask (Ok tt) (file_of role.Grid path.now) ∷ [])) }
+    ensures stop { IfErr result (λ why. (texts : List (List ℕ))
+        → EndsHere (seen_of F.told F.faults F.asked files.old files.new) texts
+        (file_of role.Grid path.now) why) }
+    ensures same { F.told files.new ≡ F.told files.old }
+    ensures later { F.faults files.old ≤ F.faults files.new }
+    ensures input { IfErr result IsOfInput }
+{
+    let bytes = read_file(files, FileRole::Grid, path)?;
+    match read_grid(alloc, bytes.as_slice()) {
+        Ok(grid) => Ok(grid),
+        Err(fault) => Err(stop_of_grid(fault)),
     }
 }
 

@@ -2,6 +2,7 @@
 ghost use Rattle.std.specs.Prelude.{◌≡◌, ◌≤◌, ◌++◌, Ok, Err, [], ◌∷◌, ℕ, List, IfOk, IfErr};
 ghost use Rattle.std.specs.Fn.{FnOnceReturnsAt};
 ghost use Rattle.io_world.specs.Faults.{Extends};
+ghost use Rattle.pddlstream_app.specs.Answering.{AreReported};
 ghost use Rattle.pddlstream_app.specs.Inputs.{EndsAtFile, EndsHere, IsInputRefused, IsTaskOf, ask, reads, stop_for, task_files};
 ghost use Rattle.pddlstream_app.specs.Files.{FileWanted, HasBytes, HoldsFile, file_of};
 ghost use Rattle.pddlstream_app.specs.Outside.{seen_of};
@@ -54,6 +55,15 @@ pub(crate) struct TaskPaths<'a> {
     pub(crate) problem: &'a str,
     /// The streams'.
     pub(crate) streams: &'a str,
+}
+
+/// A task, and a report on it.
+#[derive(Drop)]
+pub(crate) struct Reported {
+    /// The task that the three texts spell.
+    pub(crate) task: Task,
+    /// The bytes of the report's file.
+    pub(crate) bytes: Vec<u8>,
 }
 
 /// Why the run stops whose text is refused so.
@@ -144,4 +154,27 @@ pub(crate) fn read_task<F: Files>(
     ensures input { IfErr result IsOfInput }
 {
     read_spelled(alloc, files, paths)
+}
+
+/// Reads the task that the files spell, and then the bytes of a report on it.
+pub(crate) fn read_reported<F: Files>(
+    alloc: Global,
+    files: &mut F,
+    paths: &TaskPaths<'_>,
+    report: &str,
+) -> Result<Reported, Stop>
+    ensures read { IfOk result
+        (AreReported (F.told files.old) (held_files paths.now) report.now) }
+    ensures asked { IfOk result (λ _. Extends (F.asked files.old) (F.asked files.new)
+        (reads (task_files (held_files paths.now) ++ file_of role.Report report.now ∷ []))) }
+    ensures stop { IfErr result (λ why. (more : List FileWanted)
+        → EndsAtFile (seen_of F.told F.faults F.asked files.old files.new)
+        (task_files (held_files paths.now) ++ file_of role.Report report.now ∷ more) why) }
+    ensures same { F.told files.new ≡ F.told files.old }
+    ensures later { F.faults files.old ≤ F.faults files.new }
+    ensures input { IfErr result IsOfInput }
+{
+    let task = read_task(alloc, files, paths)?;
+    let bytes = read_file(files, FileRole::Report, report)?;
+    Ok(Reported { task, bytes })
 }

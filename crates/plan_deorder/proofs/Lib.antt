@@ -8,3 +8,4 @@ pub mod PairLemmas
 pub mod StagingLemmas
 pub mod NamedLemmas
 pub mod ActionLemmas
+pub mod ListedLemmas

@@ -1,5 +1,6 @@
 pub mod Clashes
 pub mod Laws
+pub mod Listed
 pub mod Occurring
 pub mod Orders
 pub mod Touches

@@ -2,6 +2,7 @@
 //! the program prints its name and the answers.
 #![tactic(auto)]
 
+mod cheapest;
 mod dreams;
 mod fault;
 mod fitness;
@@ -45,7 +46,7 @@ enum Subject {
 }
 
 /// The files of rows, in the order in which they are read.
-const FILES: [(&str, Subject); 14] = [
+const FILES: [(&str, Subject); 15] = [
     ("grid.rows", Subject::Sessions),
     ("answers.rows", Subject::Sessions),
     ("values.rows", Subject::Sessions),
@@ -60,6 +61,7 @@ const FILES: [(&str, Subject); 14] = [
     ("joins.rows", Subject::Planning),
     ("searches.rows", Subject::Planning),
     ("reach.rows", Subject::Planning),
+    ("cheapest.rows", Subject::Planning),
 ];
 
 /// Adds what comes of the parts of a row.

@@ -1,8 +1,11 @@
 //! What is known and noted of a task, and what follows of it.
 ghost use Rattle.task_model.specs.Fit.{IsFit};
 
+use crate::cheapest::{add_cheapest, add_cheapest_steps};
 use crate::fault::Fault;
-use crate::plans::{add_applicable, add_applied, add_checked, add_goal, add_kept, add_order};
+use crate::plans::{
+    add_applicable, add_applied, add_checked, add_goal, add_kept, add_kept_orders, add_order,
+};
 use crate::queue::tell_queue;
 use crate::searches::{
     add_estimate, add_exceeds, add_found_steps, add_out_of_reach, add_search, add_wanted,
@@ -30,12 +33,15 @@ fn answer_part(
         "goal" => add_goal(alloc, task, facts, out),
         "check" => add_checked(alloc, task, facts, part.text.as_slice(), out),
         "order" => add_order(alloc, task, facts, part.text.as_slice(), out),
+        "keeps" => add_kept_orders(alloc, task, facts, line, part.text.as_slice(), out),
         "apply" => add_applied(alloc, task, facts, line, out),
         "applicable" => add_applicable(alloc, task, facts, line, false, out),
         "applicable_count" => add_applicable(alloc, task, facts, line, true, out),
         "kept" => add_kept(alloc, task, facts, number(line), out),
         "search" => add_search(alloc, task, facts, line, out),
         "steps" => add_found_steps(alloc, task, facts, line, out),
+        "cheapest" => add_cheapest(alloc, task, facts, line, out),
+        "cheapest_steps" => add_cheapest_steps(alloc, task, facts, line, out),
         "exceeds" => add_exceeds(alloc, task, facts, number(line), out),
         "out_of_reach" => add_out_of_reach(alloc, task, facts, out),
         "estimate" => add_estimate(alloc, task, facts, line, out),

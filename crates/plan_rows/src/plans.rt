@@ -1,17 +1,15 @@
 //! Truth, steps and plans over what is known.
-ghost use Rattle.std.specs.Prelude.{ℕ};
 ghost use Rattle.task_model.specs.Fit.{IsFit};
-ghost use Rattle.task_model.specs.Plans.{IsValid};
 
 use crate::fault::Fault;
 use crate::print::{Names, push_atoms, push_step};
-use crate::words::step_of;
+use crate::words::{numbers_of, step_of};
 use fact_store::Facts;
 use formula_eval::{Env, holds};
 use formula_memo::{Memo, holds_memo, holds_once};
 use grounder::{Candidates, applicable};
 use plan_check::{apply, check, initial};
-use plan_deorder::deorder;
+use plan_deorder::{Order, deorder, keeps};
 use std::alloc::{AllocError, Global};
 use std::fmt::Write;
 use task_model::{GroundAction, Plan, Seq, State, Task};
@@ -85,20 +83,36 @@ pub(crate) fn add_checked(
     }
 }
 
-/// Adds the pairs of steps of a valid plan that must stay in order, and then the stage of each step.
-fn push_order(
+/// The order of the plan of these lines, which has at most nine steps. Where the plan has a fault,
+/// that is added, and there is none.
+fn order_of(
     alloc: Global,
     task: &Task,
     facts: &Facts,
-    plan: &Plan,
+    lines: &[u8],
     out: &mut String,
-) -> Result<(), Fault>
-    requires fit { IsFit task.now }
-    requires valid { (cost : ℕ) × IsValid task.now facts.now.known plan.now.steps cost }
+) -> Result<Option<Order>, Fault>
+    requires { IsFit task.now }
 {
-    let Ok(order) = deorder(alloc, task, facts, plan) else {
+    let boxed = plan_of(alloc, lines)?;
+    let plan: &Plan = &boxed;
+    if plan.steps.len() > 9 {
         return Err(Fault::Unfit);
-    };
+    }
+    match check(alloc, task, facts, plan) {
+        Ok(_) => match deorder(alloc, task, facts, plan) {
+            Ok(order) => Ok(Some(order)),
+            Err(_) => Err(Fault::Unfit),
+        },
+        Err(fault) => {
+            write!(out, "{fault:?}\n")?;
+            Ok(None)
+        }
+    }
+}
+
+/// Adds the pairs of steps that must stay in order, and then the stage of each step.
+fn push_order(order: &Order, out: &mut String) -> Result<(), Fault> {
     for (first, second) in order.pairs.as_slice() {
         write!(out, "{first} before {second}\n")?;
     }
@@ -119,14 +133,37 @@ pub(crate) fn add_order(
 ) -> Result<(), Fault>
     requires { IsFit task.now }
 {
-    let boxed = plan_of(alloc, lines)?;
-    let plan: &Plan = &boxed;
-    if plan.steps.len() > 9 {
-        return Err(Fault::Unfit);
+    match order_of(alloc, task, facts, lines, out)? {
+        Some(order) => push_order(&order, out),
+        None => Ok(()),
     }
-    match check(alloc, task, facts, plan) {
-        Ok(_) => push_order(alloc, task, facts, plan, out),
-        Err(fault) => Ok(write!(out, "{fault:?}\n")?),
+}
+
+/// Adds whether each of the listings, which commas part, keeps the order.
+fn push_kept(alloc: Global, order: &Order, listings: &[u8], out: &mut String) -> Result<(), Fault> {
+    for line in listings.split(|byte| *byte == b',') {
+        let listing = numbers_of(alloc, line)?;
+        let kept = keeps(alloc, order, listing.as_slice())?;
+        write!(out, "{kept}\n")?;
+    }
+    Ok(())
+}
+
+/// Adds whether each of the listings, which commas part, keeps the order of the plan of these
+/// lines; or the plan's first fault. It has at most nine steps.
+pub(crate) fn add_kept_orders(
+    alloc: Global,
+    task: &Task,
+    facts: &Facts,
+    listings: &[u8],
+    lines: &[u8],
+    out: &mut String,
+) -> Result<(), Fault>
+    requires { IsFit task.now }
+{
+    match order_of(alloc, task, facts, lines, out)? {
+        Some(order) => push_kept(alloc, &order, listings, out),
+        None => Ok(()),
     }
 }
 

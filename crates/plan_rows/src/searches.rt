@@ -9,6 +9,7 @@ use best_first::{
 };
 use fact_store::Facts;
 use grounder::applicable;
+use optimal_search::Fewest;
 use plan_check::initial;
 use std::alloc::{AllocError, Global};
 use std::fmt::Write;
@@ -67,13 +68,19 @@ pub(crate) fn add_search(
     requires { IsFit task.now }
 {
     let found = found_of(alloc, task, facts, line)?;
-    match &*found {
+    Ok(push_found(out, &found)?)
+}
+
+/// Adds what a search came to: how many steps the plan has and what it costs, that there is none, or
+/// that the limit is met.
+pub(crate) fn push_found(out: &mut String, found: &Found) -> Result<(), AllocError> {
+    match found {
         Found::Plan(plan, cost) => {
             let count = plan.steps.len();
-            Ok(write!(out, "plan of {count} steps, cost {cost}\n")?)
+            write!(out, "plan of {count} steps, cost {cost}\n")
         }
-        Found::Nothing => Ok(out.push_str("nothing\n")?),
-        Found::Limit => Ok(out.push_str("limit\n")?),
+        Found::Nothing => out.push_str("nothing\n"),
+        Found::Limit => out.push_str("limit\n"),
     }
 }
 
@@ -157,6 +164,10 @@ pub(crate) fn add_estimate(
         }
         b"relaxed" => {
             let mut estimate = Box::new(alloc, RelaxedPlan::new(alloc, task, facts)?)?;
+            estimate_of(alloc, task, facts, &mut *estimate)?
+        }
+        b"fewest" => {
+            let mut estimate = Box::new(alloc, Fewest::new(alloc, task)?)?;
             estimate_of(alloc, task, facts, &mut *estimate)?
         }
         _ => return Err(Fault::Unfit),

@@ -19,6 +19,17 @@ pub(crate) fn objects_of<const N: usize>(
     Ok(objects)
 }
 
+/// The numbers of a line, parted by spaces.
+pub(crate) fn numbers_of(alloc: Global, line: &[u8]) -> Result<Vec<u32>, AllocError> {
+    let mut numbers = Vec::new(alloc);
+    for word in line.split(|byte| *byte == b' ') {
+        if !word.is_empty() {
+            numbers.push(number(word))?;
+        }
+    }
+    Ok(numbers)
+}
+
 /// The two parts of a line that a comma parts, without a space behind it; the second is empty where
 /// there is none.
 pub(crate) fn halves(line: &[u8]) -> (&[u8], &[u8]) {

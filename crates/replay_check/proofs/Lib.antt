@@ -14,7 +14,9 @@ pub mod NextRequestLemmas
 pub mod OneVerdictLemmas
 pub mod OriginsLemmas
 pub mod PlacesLemmas
+pub mod ReadBackLemmas
 pub mod RightEntriesLemmas
+pub mod RightPlanLemmas
 pub mod RightReportLemmas
 pub mod StandingsAnswerLemmas
 pub mod StandingsAskLemmas

@@ -3,6 +3,7 @@ pub mod Claims
 pub mod Findings
 pub mod Headed
 pub mod Heads
+pub mod Judgings
 pub mod Kinds
 pub mod Laws
 pub mod Lines

@@ -16,6 +16,7 @@ mod origins;
 mod outcome;
 mod picks;
 mod plan;
+mod read_back;
 mod requests;
 mod right_answers;
 mod right_asks;
@@ -23,5 +24,6 @@ mod standing;
 mod turns;
 mod verdict;
 
-pub use judging::replay;
-pub use verdict::{BreachKind, Verdict};
+pub use judging::{replay, replay_whole};
+pub use read_back::plan_of;
+pub use verdict::{BreachKind, Judged, RightReport, Verdict};

@@ -1,6 +1,10 @@
 //! What is wrong with a report, and what a replay says.
 ghost use Rattle.std.specs.Prelude.{◌≡◌};
+ghost use Rattle.replay_check.specs.Judgings.{verdict_of};
 ghost use Rattle.replay_check.specs.Kinds.{breach_number};
+
+use fact_store::Facts;
+use transcript_model::Report;
 
 /// What is wrong with a line of a report, in the order in which the kinds of one line are told
 /// (this project's).
@@ -62,4 +66,45 @@ pub enum Verdict {
     },
     /// A claim of it can't be decided within the limit of states, and nothing is wrong before it.
     Limit,
+}
+
+/// A right report, and what its answers certify.
+#[derive(Drop)]
+pub struct RightReport {
+    /// The report.
+    pub report: Report,
+    /// What is known at its end.
+    pub facts: Facts,
+}
+
+/// What a replay says of a text, with the report where that is right.
+#[derive(Drop)]
+pub enum Judged {
+    /// It is this report of the task, and all that it says is right.
+    Valid(RightReport),
+    /// It is wrong.
+    Invalid {
+        /// The first line that is wrong, from 1.
+        line: u32,
+        /// What is wrong with it.
+        kind: BreachKind,
+    },
+    /// A claim of it can't be decided within the limit of states, and nothing is wrong before it.
+    Limit,
+}
+
+impl Judged {
+    /// What is said, without the report.
+    pub fn verdict(&self) -> Verdict
+        ensures { result ≡ verdict_of self.now }
+    {
+        match self {
+            Judged::Valid(_) => Verdict::Valid,
+            Judged::Invalid { line, kind } => Verdict::Invalid {
+                line: *line,
+                kind: *kind,
+            },
+            Judged::Limit => Verdict::Limit,
+        }
+    }
 }

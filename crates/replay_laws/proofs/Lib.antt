@@ -1,6 +1,10 @@
 pub mod WrittenHeadLemmas
+pub mod JudgedLemmas
 pub mod SolvedLemmas
 pub mod WrittenPoolLemmas
 pub mod PoolSumLemmas
 pub mod WrittenLemmas
 pub mod MapPoolLemmas
+pub mod VersionTurnsLemmas
+pub mod VersionOriginLemmas
+pub mod MigratedLemmas

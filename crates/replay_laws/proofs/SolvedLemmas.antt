@@ -21,6 +21,7 @@ use Rattle.replay_check.specs.declared.verdict.Verdict.TheVariants.{Valid}
 use Rattle.task_model.specs.declared.task.Task.{Task}
 use Rattle.task_reader.specs.Tasks.{Spells}
 use Rattle.transcript_model.specs.declared.head.Head.{Head}
+use Rattle.replay_laws.proofs.JudgedLemmas.{answer_judged}
 use Rattle.replay_laws.proofs.MapPoolLemmas.{served_shown}
 use Rattle.replay_laws.proofs.WrittenLemmas.{written_valid}
 use Rattle.replay_laws.specs.Solved.{AreSameTexts, SolvedReportsAreValid}
@@ -71,7 +72,8 @@ same_work words asked (solving w) one two = let both = sym one ∙ two in ap sol
 same_work words asked (making n) one two = let both = sym one ∙ two in absurd (cc)
 
 pub solved_valid : SolvedReportsAreValid
-solved_valid files later words others outside after status end text said asked meant solved judged first second same report le =
+solved_valid files later words others outside after status end text said asked judging meant judges solved answer first second same report le =
+    let judged = answer_judged others after end said judging judges answer in
     let run = solved.run in
     let work : run.work ≡ solving asked = same_work words asked run.work run.meant meant in
     let spelled : IsTaskOf outside.files.told asked.files run.task = subst
@@ -79,25 +81,24 @@ solved_valid files later words others outside after status end text said asked m
     let headed : IsHeadOf outside.files.told asked run.task run.head = subst
     (λ w. IsHeadOf (files_of outside.files.told w) (words_of w) run.task run.head) work run.headed in
     let whole = whole_text run.task run.head run.entries solved.outcome in
-    let judging = judged.report in
-    let held : FileHolds (Some later) judged.asked.report judging.bytes = subst
-    (λ told. FileHolds told judged.asked.report judging.bytes) second judging.has.held in
-    let both : Some judging.bytes ≡ Some text = sym held ∙ report in
-    let read : judging.bytes ≡ text = cc in
+    let held : FileHolds (Some later) judging.report judged.bytes = subst
+    (λ told. FileHolds told judging.report judged.bytes) second judged.held in
+    let both : Some judged.bytes ≡ Some text = sym held ∙ report in
+    let read : judged.bytes ≡ text = cc in
     let shows : text ≡ text_of_report (report_of run.task run.head run.entries solved.outcome) = subst
     (λ w. text ≡ shown_text w run.task run.head run.entries solved.outcome) work solved.is in
-    let wrote : judging.bytes ≡ whole = read ∙ shows ∙ sym (whole_is run.task run.head run.entries solved.outcome) in
+    let wrote : judged.bytes ≡ whole = read ∙ shows ∙ sym (whole_is run.task run.head run.entries solved.outcome) in
     let task : judged.task ≡ run.task =
-    same_task files later asked.files judged.asked.files run.task judged.task same
+    same_task files later asked.files judging.files run.task judged.task same
     (subst (λ told. IsTaskOf told asked.files run.task) first spelled)
-    (subst (λ told. IsTaskOf told judged.asked.files judged.task) second judged.spelled) in
-    let verdict : IsVerdict judged.asked.states run.task whole judged.verdict =
-    subst (λ b. IsVerdict judged.asked.states run.task b judged.verdict) wrote
-    (subst (λ t. IsVerdict judged.asked.states t judging.bytes judged.verdict) task judging.so) in
+    (subst (λ told. IsTaskOf told judging.files judged.task) second judged.spelled) in
+    let verdict : IsVerdict judging.states run.task whole judged.verdict =
+    subst (λ b. IsVerdict judging.states run.task b judged.verdict) wrote
+    (subst (λ t. IsVerdict judging.states t judged.bytes judged.verdict) task judged.so) in
     let can = shown_head outside.files.told run.task asked run.head headed (in_range words (solve asked) meant) in
-    let most = judging.has.short in
+    let most = judged.short in
     let short : length whole < 2 ^ 31 = omega (arith, most, ap length wrote) in
-    let states : run.head.states ≤ judged.asked.states = omega (arith, le, headed.states) in
+    let states : run.head.states ≤ judging.states = omega (arith, le, headed.states) in
     let valid : judged.verdict ≡ Valid = written_valid run.task run.head run.entries solved.outcome run.fit can solved.turns
-    judged.asked.states judged.verdict short states verdict in
+    judging.states judged.verdict short states verdict in
     (sym judged.kind ∙ ap kind_of_verdict valid, judged.is ∙ ap verdict_text valid)

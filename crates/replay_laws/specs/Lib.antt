@@ -1,2 +1,3 @@
+pub mod Migrated
 pub mod Solved
 pub mod Written

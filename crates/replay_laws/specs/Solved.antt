@@ -1,11 +1,12 @@
 -- What the program writes where it solves, it finds valid where it judges. The law is the contract of a public function
 -- of `lib.rt`.
 use Rattle.std.specs.Prelude.{◌≡◌, ℕ, ◌≤◌, List, Some}
-use Rattle.command_line.specs.Words.{SolveWords, TaskFiles, command_of, solve}
+use Rattle.command_line.specs.Words.{ReplayWords, SolveWords, TaskFiles, command_of, replay, solve}
 use Rattle.io_world.specs.FileMap.{FileMap}
+use Rattle.pddlstream_app.specs.AnswerOf.{HasAnswer}
 use Rattle.pddlstream_app.specs.Outside.{Outside}
 use Rattle.pddlstream_app.specs.Replays.{verdict_text}
-use Rattle.pddlstream_app.specs.Runs.{HasOutcome, HasVerdict}
+use Rattle.pddlstream_app.specs.Runs.{HasOutcome}
 use Rattle.pddlstream_app.specs.declared.status.Status.{Status}
 use Rattle.pddlstream_app.specs.declared.status.Status.TheVariants.{Done}
 use Rattle.replay_check.specs.declared.verdict.Verdict.TheVariants.{Valid}
@@ -16,15 +17,14 @@ pub record AreSameTexts (files later : FileMap) (paths others : TaskFiles) : Typ
   pub problem : files paths.problem ≡ later others.problem
   pub streams : files paths.streams ≡ later others.streams
 
--- A run for words that mean a task is to be solved has an outcome and writes this text. A later run, for other words,
--- judges a report: its task has the same three texts, its report is what was written, and its limit is at least the
--- run's. Then it says that the report is valid, and ends so.
+-- A run for words that mean a task is to be solved has an outcome and writes this text. A later run, for words that mean
+-- a report is to be judged, answers: its task has the same three texts, its report is what was written, and its limit is
+-- at least the run's. Then it says that the report is valid, and ends so.
 abbrev pub SolvedReportsAreValid : Type 0
 SolvedReportsAreValid =
     (files later : FileMap) (words others : List (List ℕ)) (outside after : Outside) (status end : Status)
-    (text said : List ℕ) (asked : SolveWords) → command_of words ≡ Some (solve asked)
-    → HasOutcome words outside status text
-    → (judged : HasVerdict others after end said)
+    (text said : List ℕ) (asked : SolveWords) (judging : ReplayWords) → command_of words ≡ Some (solve asked)
+    → command_of others ≡ Some (replay judging) → HasOutcome words outside status text → HasAnswer others after end said
     → outside.files.told ≡ Some files → after.files.told ≡ Some later
-    → AreSameTexts files later asked.files judged.asked.files → later judged.asked.report ≡ Some text
-    → asked.limits.states ≤ judged.asked.states → (end ≡ Done) × (said ≡ verdict_text Valid)
+    → AreSameTexts files later asked.files judging.files → later judging.report ≡ Some text
+    → asked.limits.states ≤ judging.states → (end ≡ Done) × (said ≡ verdict_text Valid)

@@ -2,6 +2,7 @@
 //! does nothing.
 #![tactic(auto)]
 
+ghost use Rattle.replay_laws.specs.Migrated.{MigratedReportsAreFormed, MigratedReportsAreJudgedAlike};
 ghost use Rattle.replay_laws.specs.Solved.{SolvedReportsAreValid};
 ghost use Rattle.replay_laws.specs.Written.{OnePoolIsOfReports, WrittenReportsAreValid};
 
@@ -21,4 +22,16 @@ pub fn written_reports_are_valid()
 /// asks for.
 pub fn one_pool_is_of_reports()
     ensures { OnePoolIsOfReports }
+{}
+
+/// A report has the stated forms in version 2 too.
+pub fn migrated_reports_are_formed()
+    ensures { MigratedReportsAreFormed }
+{}
+
+/// Of the text of a report of version 1 a replay says what it says of its text in version 2,
+/// whatever the task and the limit: the same is wrong, in the same lines, and the same claims
+/// aren't decided.
+pub fn migrated_reports_are_judged_alike()
+    ensures { MigratedReportsAreJudgedAlike }
 {}

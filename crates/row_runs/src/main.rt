@@ -21,7 +21,7 @@ use std::process::ExitCode;
 use std::{env, io};
 
 /// The files of rows, in the order in which they are run.
-const SUBJECTS: [&str; 26] = [
+const SUBJECTS: [&str; 31] = [
     "outcomes.rows",
     "limits.rows",
     "faults.rows",
@@ -48,6 +48,11 @@ const SUBJECTS: [&str; 26] = [
     "values.rows",
     "supposing.rows",
     "edges.rows",
+    "orders.rows",
+    "plays.rows",
+    "costs.rows",
+    "tuples.rows",
+    "migrations.rows",
 ];
 
 /// The most bytes of a file of rows.

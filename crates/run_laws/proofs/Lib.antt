@@ -1,3 +1,4 @@
+pub mod EarlierLemmas
 pub mod FormedCallLemmas
 pub mod FormedDreamLemmas
 pub mod FormedEntryLemmas

@@ -1,14 +1,14 @@
--- Runs whose generators answer by a table. The law is the contract of a public function of `laws.rt`, and so is proved.
+-- Runs whose generators answer by a table. Each law is the contract of a public function of `laws.rt`, and so is proved.
 use Rattle.std.specs.Prelude.{◌≡◌, ℕ, List, Option}
 use Rattle.io_world.specs.Talks.{Talk}
 use Rattle.level_run.specs.Reports.{IsRun}
 use Rattle.round_run.specs.Batches.{IsRunnable}
 use Rattle.round_run.specs.Dialogue.{Dialogue, workers_in}
-use Rattle.table_runs.specs.Asking.{AnsweredBy}
+use Rattle.table_runs.specs.Asking.{AnsweredBy, SpeaksBy}
 use Rattle.task_model.specs.Fit.{IsFit}
 use Rattle.task_model.specs.declared.task.Task.{Task}
 use Rattle.transcript_model.specs.Plain.{SaysSame, end_of}
-use Rattle.transcript_model.specs.Tables.{Answers}
+use Rattle.transcript_model.specs.Tables.{Answers, IsTable, TableRow, reply_in}
 use Rattle.transcript_model.specs.Transcript.{known_of}
 use Rattle.transcript_model.specs.declared.entry.Entry.{Entry}
 use Rattle.transcript_model.specs.declared.head.Head.{Head}
@@ -37,3 +37,10 @@ TablesNameRuns =
     (o p : Outcome) → IsFit task → head.calls ≡ other.calls → IsTableRun task head answers xs spoken o
     → IsTableRun task other answers ys told p
     → SaysSame xs ys × (known_of task xs ≡ known_of task ys) × (end_of o ≡ end_of p)
+
+-- What a child said by a table of protocol 1 it said by the same table in protocol 2, where that is one of the protocol
+-- too: a generator of protocol 1 stays as it is.
+abbrev pub EarlierTalksStay : Type 0
+EarlierTalksStay =
+    (task : Task) (rows : List TableRow) (talk : Talk) → IsTable 1 task rows → SpeaksBy 1 task (reply_in rows) talk
+    → IsTable 2 task rows × SpeaksBy 2 task (reply_in rows) talk

@@ -1,7 +1,7 @@
 //! Laws of whole runs, each the contract of a function that does nothing.
 ghost use Rattle.run_laws.specs.Reports.{ReportsOfRunsAreFormed, ShortReportsCountSteps};
 ghost use Rattle.run_laws.specs.Reports.{TextsNameRuns};
-ghost use Rattle.run_laws.specs.Tables.{TablesNameRuns};
+ghost use Rattle.run_laws.specs.Tables.{EarlierTalksStay, TablesNameRuns};
 
 /// The report of a run of any mode has the forms of a report, where the steps of its dreams are
 /// counted.
@@ -26,4 +26,10 @@ pub fn short_reports_count_steps()
 /// the limit of states.
 pub fn tables_name_runs()
     ensures { TablesNameRuns }
+{}
+
+/// What a generator said by a table in protocol 1 says in protocol 2 what it said, and the table is
+/// one of protocol 2 too.
+pub fn earlier_talks_stay()
+    ensures { EarlierTalksStay }
 {}

@@ -59,6 +59,7 @@ one_run words others outside after status end text asked again meant also first 
     record {
       transcript = ap (λ (r : Report). r.entries) are;
       outcome = ap (λ (r : Report). r.outcome) are;
+      version = ap (λ (r : Report). r.version) are;
       mode = ap (λ (r : Report). r.mode) are;
       calls = ap (λ (r : Report). r.calls) are;
       states = ap (λ (r : Report). r.states) are;

@@ -13,6 +13,7 @@ use Rattle.transcript_model.specs.declared.outcome.Outcome.{Outcome}
 pub record AreOneRun (head other : Head) (entries others : List Entry) (o p : Outcome) : Type 0 where
   pub transcript : entries ≡ others
   pub outcome : o ≡ p
+  pub version : head.version ≡ other.version
   pub mode : head.mode ≡ other.mode
   pub calls : head.calls ≡ other.calls
   pub states : head.states ≡ other.states

@@ -1,12 +1,11 @@
 -- Told files are judged in one way.
 use Rattle.std.proofs.Common.{◌≡◌, ◌⊎◌, inl, inr, ℕ, ◌<◌, ◌≤◌, List, [], length, refl, sym, ap, subst, ◌∙◌, arith, Option, None, Some, option_map, Ok, Err}
 use Rattle.std.proofs.lemmas.Option.{same_Some}
-use Rattle.io_world.specs.FileMap.{FileMap, HasMore}
-use Rattle.legal_report.proofs.LawsLemmas.{not_refused, one_transcript}
-use Rattle.legal_report.specs.Reports.{RefusesReport, SpellsTranscript}
-use Rattle.legal_report.specs.declared.flaw.ReportFlaw.{ReportFlaw}
+use Rattle.io_world.specs.FileMap.{FileMap}
+use Rattle.legal_report.proofs.LawsLemmas.{one_transcript}
+use Rattle.legal_report.specs.Reports.{SpellsTranscript}
 use Rattle.plan_reader.specs.Claims.{claimed_cost}
-use Rattle.plan_reader.specs.Plans.{RefusesPlan, SpellsPlan, plan_of}
+use Rattle.plan_reader.specs.Plans.{SpellsPlan}
 use Rattle.task_model.specs.Fit.{AreFitStreams, IsFit}
 use Rattle.task_model.specs.Known.{IsCoherent}
 use Rattle.task_model.specs.declared.domain.Domain as domains
@@ -14,10 +13,9 @@ use Rattle.task_model.specs.declared.stream.Stream.{Stream}
 use Rattle.task_model.specs.declared.task.Problem as problems
 use Rattle.task_model.specs.declared.task.Task.{Task}
 use Rattle.task_reader.proofs.FitTask.{domain_fit, problem_fit, streams_fit}
-use Rattle.task_reader.proofs.SpelledLemmas.{domain_not_refused, problem_not_refused, streams_not_refused, text_one_domain, text_one_problem, text_one_streams}
+use Rattle.task_reader.proofs.SpelledLemmas.{text_one_domain, text_one_problem, text_one_streams}
 use Rattle.task_reader.specs.Fitness.{HasShortText}
-use Rattle.task_reader.specs.Texts.{RefusesDomain, RefusesProblem, RefusesStreams, SpellsDomain, SpellsProblem, SpellsStreams}
-use Rattle.task_reader.specs.declared.refusal.FaultKind.{FaultKind}
+use Rattle.task_reader.specs.Texts.{SpellsDomain, SpellsProblem, SpellsStreams}
 use Rattle.transcript_model.proofs.CoherentLemmas.{coherent}
 use Rattle.transcript_model.specs.Legal.{IsLegal}
 use Rattle.transcript_model.specs.Transcript.{known_of}
@@ -25,16 +23,13 @@ use Rattle.transcript_model.specs.declared.entry.Call.{Call}
 use Rattle.transcript_model.specs.declared.entry.Entry.{Entry}
 use Rattle.validate_app.proofs.InputsLemmas.{no_streams}
 use Rattle.validate_app.proofs.OneVerdictLemmas.{some_verdict, verdict_once}
-use Rattle.validate_app.specs.Files.{HasBytes, IsTooLong, most_of}
-use Rattle.validate_app.specs.Inputs.{AreStreamsBy, AreStreamsOf, HasMoreBytes, Holds, IsDomainOf, IsFlawed, IsPlanOf, IsProblemOf, IsRefused, IsTaskOf, IsTranscriptBy, IsTranscriptOf, StopsAt, path_of}
-use Rattle.validate_app.specs.Laws.{IsFailure, JudgedPlansAreNotStopped, SpelledPlansAreJudged, VerdictsAreUnique}
+use Rattle.validate_app.specs.Inputs.{AreStreamsBy, AreStreamsOf, Holds, IsDomainOf, IsPlanOf, IsProblemOf, IsTaskOf, IsTranscriptBy, IsTranscriptOf}
+use Rattle.validate_app.specs.Laws.{SpelledPlansAreJudged}
 use Rattle.validate_app.specs.Outcomes.{IsJudged}
 use Rattle.validate_app.specs.Verdicts.{IsVerdict}
 use Rattle.validate_app.specs.Words.{ReportWords, ValidateWords}
 use Rattle.validate_app.specs.declared.stop.FileRole.{FileRole}
 use Rattle.validate_app.specs.declared.stop.FileRole.TheVariants as role
-use Rattle.validate_app.specs.declared.stop.Stop.{Stop}
-use Rattle.validate_app.specs.declared.stop.Stop.TheVariants as stop
 use Rattle.validate_app.specs.declared.verdict.Verdict.{Verdict}
 
 -- ---- the task is fit
@@ -93,14 +88,14 @@ module _ (told : FileMap) (w : ValidateWords) where
   files = Some told
 
   -- what is so of the bytes of one file
-  of_one_text : (which : FileRole) (P Q : List ℕ → Type 0) (C : Type 0) → ((bytes : List ℕ) → P bytes → Q bytes → C)
+  pub of_one_text : (which : FileRole) (P Q : List ℕ → Type 0) (C : Type 0) → ((bytes : List ℕ) → P bytes → Q bytes → C)
       → Holds files w which P → Holds files w which Q → C
   of_one_text which P Q C f a b =
       let paths : a.path ≡ b.path = same_Some a.path b.path (sym a.named ∙ b.named) in
       let same : b.bytes ≡ a.bytes = same_Some b.bytes a.bytes (sym b.has.held ∙ ap told (sym paths) ∙ a.has.held) in
       f a.bytes a.so (subst Q same b.so)
 
-  one_domain : (d e : domains.Domain) → IsDomainOf files w d → IsDomainOf files w e → d ≡ e
+  pub one_domain : (d e : domains.Domain) → IsDomainOf files w d → IsDomainOf files w e → d ≡ e
   one_domain d e =
       of_one_text role.Domain (λ bytes. SpellsDomain bytes d) (λ bytes. SpellsDomain bytes e) (d ≡ e)
       (λ bytes. text_one_domain bytes d e)
@@ -122,7 +117,7 @@ module _ (told : FileMap) (w : ValidateWords) where
           of_one_text role.Streams (λ bytes. SpellsStreams d bytes ss) (λ bytes. SpellsStreams d bytes ts) (ss ≡ ts)
           (λ bytes. text_one_streams d bytes ss ts) (subst (AreStreamsBy files w d ss) some a) (subst (AreStreamsBy files w d ts) some b)
 
-  one_task : (t u : Task) → IsTaskOf files w t → IsTaskOf files w u → t ≡ u
+  pub one_task : (t u : Task) → IsTaskOf files w t → IsTaskOf files w u → t ≡ u
   one_task t u a b =
       let domain = one_domain t.domain u.domain a.domain b.domain in
       let problem = one_problem t.domain t.problem u.problem a.problem
@@ -153,7 +148,9 @@ module _ (told : FileMap) (w : ValidateWords) where
       of_one_text role.Plan (λ text. SpellsPlan text xs × (claimed_cost text ≡ c)) (λ text. SpellsPlan text ys × (claimed_cost text ≡ d))
       ((xs ≡ ys) × (c ≡ d)) (λ text. same_plan text xs ys c d)
 
-pub judged_once : VerdictsAreUnique
+-- of told files one verdict holds at most, with one claim
+pub judged_once : (told : FileMap) (w : ValidateWords) (v u : Verdict) (c d : Option ℕ) → IsJudged (Some told) w v c
+    → IsJudged (Some told) w u d → (v ≡ u) × (c ≡ d)
 judged_once told w v u c d a b =
     let fit = fit_task (Some told) w a.task a.spelled in
     let task : a.task ≡ b.task = one_task told w a.task b.task a.spelled b.spelled in
@@ -168,95 +165,3 @@ judged_once told w v u c d a b =
           a.said said,
       plan.1,
     )
-
--- ---- and no run stops
-
-module _ (told : FileMap) (w : ValidateWords) (task : Task) (t : IsTaskOf (Some told) w task) (entries : List Entry)
-    (report : IsTranscriptOf (Some told) w task entries) (calls : List Call) (claimed : Option ℕ)
-    (plan : IsPlanOf (Some told) w calls claimed) where
-  unnamed : w.certified ≡ None → (path : List ℕ) → ¬ (path_of w role.Report ≡ Some path)
-  unnamed none path named = absurd (let both = sym (ap (option_map (λ (r : ReportWords). r.report)) none) ∙ named in cc)
-
-  -- none of the files is refused
-  unrefused : (which : FileRole) (kind : FaultKind) (place : ℕ) → ¬ (IsRefused (Some told) w which kind place)
-  unrefused role.Domain kind place bad =
-      of_one_text told w role.Domain (λ bytes. SpellsDomain bytes task.domain) (λ bytes. RefusesDomain bytes kind place) ⊥
-      (λ bytes. domain_not_refused bytes task.domain kind place) t.domain bad
-  unrefused role.Problem kind place (d, domain, bad) =
-      let same = one_domain told w d task.domain domain t.domain in
-      of_one_text told w role.Problem (λ bytes. SpellsProblem task.domain bytes task.problem)
-      (λ bytes. RefusesProblem task.domain bytes kind place) ⊥
-      (λ bytes. problem_not_refused task.domain bytes task.problem kind place) t.problem
-      (subst (λ e. Holds (Some told) w role.Problem (λ bytes. RefusesProblem e bytes kind place)) same bad)
-  unrefused role.Streams kind place (d, domain, problem, bad) =
-      let same = one_domain told w d task.domain domain t.domain in
-      by w.certified refl
-      (subst (λ e. Holds (Some told) w role.Streams (λ bytes. RefusesStreams e bytes kind place)) same bad)
-    where
-      by : (o : Option ReportWords) → w.certified ≡ o
-          → ¬ (Holds (Some told) w role.Streams (λ bytes. RefusesStreams task.domain bytes kind place))
-      by None none there =
-          absurd (let both = sym (ap (option_map (λ (r : ReportWords). r.streams)) none) ∙ there.named in cc)
-      by (Some words) some there =
-          of_one_text told w role.Streams (λ bytes. SpellsStreams task.domain bytes task.streams)
-          (λ bytes. RefusesStreams task.domain bytes kind place) ⊥
-          (λ bytes. streams_not_refused task.domain bytes task.streams kind place)
-          (subst (AreStreamsBy (Some told) w task.domain task.streams) some t.streams) there
-  unrefused role.Report kind place bad = bad
-  unrefused role.Plan kind place (accepted, bad) =
-      of_one_text told w role.Plan (λ text. SpellsPlan text calls × (claimed_cost text ≡ claimed))
-      (λ text. RefusesPlan text kind place) ⊥ (λ text spells refuses. absurd (let both = sym spells.0 ∙ refuses in cc)) plan bad
-
-  -- nor does the report certify nothing
-  unflawed : (line : ℕ) (flaw : ReportFlaw) → ¬ (IsFlawed (Some told) w line flaw)
-  unflawed line flaw (other, spelled, bad) = by w.certified refl
-    where
-      same : other ≡ task
-      same = one_task told w other task spelled t
-
-      by : (o : Option ReportWords) → w.certified ≡ o → ⊥
-      by None none = unnamed none bad.path bad.named
-      by (Some words) some =
-          of_one_text told w role.Report (λ bytes. SpellsTranscript task bytes entries) (λ bytes. RefusesReport task bytes line flaw) ⊥
-          (λ bytes. not_refused task bytes entries line flaw) (subst (IsTranscriptBy (Some told) w task entries) some report)
-          (subst (λ u. Holds (Some told) w role.Report (λ bytes. RefusesReport u bytes line flaw)) same bad)
-
-  -- nor has one too many bytes
-  short_enough : (which : FileRole) (IsSo : List ℕ → Type 0) → Holds (Some told) w which IsSo → ¬ (HasMoreBytes (Some told) w which)
-  short_enough which IsSo holds (path, named, more) =
-      let paths : holds.path ≡ path = same_Some holds.path path (sym holds.named ∙ named) in
-      let held : told path ≡ Some holds.bytes = ap told (sym paths) ∙ holds.has.held in
-      let longer : most_of which < length holds.bytes = subst (λ o. HasMore o (most_of which)) held more in
-      omega (arith, longer, holds.has.short)
-
-  not_longer : (which : FileRole) → ¬ (HasMoreBytes (Some told) w which)
-  not_longer role.Domain more = short_enough role.Domain (λ bytes. SpellsDomain bytes task.domain) t.domain more
-  not_longer role.Problem more =
-      short_enough role.Problem (λ bytes. SpellsProblem task.domain bytes task.problem) t.problem more
-  not_longer role.Streams more = by w.certified refl
-    where
-      by : (o : Option ReportWords) → w.certified ≡ o → ⊥
-      by None none = absurd (let both = sym (ap (option_map (λ (r : ReportWords). r.streams)) none) ∙ more.1 in cc)
-      by (Some words) some =
-          short_enough role.Streams (λ bytes. SpellsStreams task.domain bytes task.streams)
-          (subst (AreStreamsBy (Some told) w task.domain task.streams) some t.streams) more
-  not_longer role.Report more = by w.certified refl
-    where
-      by : (o : Option ReportWords) → w.certified ≡ o → ⊥
-      by None none = unnamed none more.0 more.1
-      by (Some words) some =
-          short_enough role.Report (λ bytes. SpellsTranscript task bytes entries)
-          (subst (IsTranscriptBy (Some told) w task entries) some report) more
-  not_longer role.Plan more =
-      short_enough role.Plan (λ text. SpellsPlan text calls × (claimed_cost text ≡ claimed)) plan more
-
-pub unstopped : JudgedPlansAreNotStopped
-unstopped told first last w v claimed stop.Usage a stops = absurd stops
-unstopped told first last w v claimed (stop.Refused which kind place) a stops =
-    absurd (unrefused told w a.task a.spelled a.entries a.report a.calls claimed a.plan which kind place stops)
-unstopped told first last w v claimed (stop.Flawed line flaw) a stops =
-    absurd (unflawed told w a.task a.spelled a.entries a.report a.calls claimed a.plan line flaw stops)
-unstopped told first last w v claimed (stop.Failed which) a stops = inr (which, refl)
-unstopped told first last w v claimed (stop.TooLong which) a stops =
-    absurd (not_longer told w a.task a.spelled a.entries a.report a.calls claimed a.plan which stops.1)
-unstopped told first last w v claimed stop.Memory a stops = inl refl

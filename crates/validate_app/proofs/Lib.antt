@@ -1,8 +1,11 @@
 pub mod InputsLemmas
 pub mod LawsLemmas
+pub mod OneOutcomeLemmas
+pub mod OneStopLemmas
 pub mod OneVerdictLemmas
 pub mod OutcomesLemmas
 pub mod PartsLemmas
+pub mod RefusedOnceLemmas
 pub mod StepsLemmas
 pub mod VerdictsLemmas
 pub mod WordsLemmas

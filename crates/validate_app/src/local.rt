@@ -1,4 +1,4 @@
-//! Whether steps look at few atoms.
+//! Whether steps look at few atoms. For speed alone.
 use task_model::{Formula, FormulaNode, Role, Task};
 
 /// Whether the condition asks for atoms of facts and fluents alone, each by its objects.
@@ -28,8 +28,9 @@ fn are_plain(task: &Task, formulas: &[Formula]) -> bool {
 }
 
 /// Whether no action's condition has a derived atom or says that something exists. Then a step looks
-/// at a few atoms alone, and is quicker in a state that is spread. What is said of a plan is the
-/// same either way.
+/// at a few atoms alone, and is quicker in a state that is spread; elsewhere the whole state would
+/// be put together in each step. No clause says which it is, since what is said of a plan is the same
+/// either way: this is for speed alone.
 pub(crate) fn is_local(task: &Task) -> bool {
     for action in task.domain.actions.as_slice() {
         if !is_plain(task, &action.condition) {

@@ -1,13 +1,15 @@
-use Rattle.std.proofs.Common.{Err, ap, map, string_bytes, subst, sym, ◌∙◌}
+use Rattle.std.proofs.Common.{Err, ap, map, refl, string_bytes, subst, sym, ◌∙◌}
 use Rattle.pddlstream_app.proofs.AskedLemmas.{asked_closed, asked_completed, some_before}
+use Rattle.pddlstream_app.proofs.EndedLemmas.{caused_ended, completed_ended}
 use Rattle.pddlstream_app.proofs.HeadlineLemmas.{no_plan_printed, plan_printed}
 use Rattle.pddlstream_app.proofs.CausesLemmas.{other_stop, write_stop}
+use Rattle.pddlstream_app.proofs.PlayLemmas.{plays_safely}
 use Rattle.pddlstream_app.proofs.RunsLemmas.{before_last, ends_closed, ends_completed, ends_written}
 use Rattle.pddlstream_app.proofs.LeavesLemmas.{leaves_closed, leaves_completed, read_cause}
 use Rattle.pddlstream_app.proofs.CompleteLemmas.{completes_closed, completes_cut, completes_done, sink_whole}
 use Rattle.pddlstream_app.specs.Asked.{AsksFiles}
 use Rattle.pddlstream_app.specs.Runs.{SparesHost}
-use Rattle.pddlstream_app.specs.declared.status.Status.TheVariants.{WriteFault}
+use Rattle.pddlstream_app.specs.declared.status.Status.TheVariants.{GeneratorFault, WriteFault}
 use Rattle.pddlstream_app.proofs.command.run.Goals as goal
 
 pub returns-in-Ok-clause-ends : goal.returns-in-Ok-clause-ends
@@ -43,6 +45,17 @@ returns-else-is_write-clause-no_plan g c =
 
 pub returns-then-is_write-clause-no_plan : goal.returns-then-is_write-clause-no_plan
 returns-then-is_write-clause-no_plan g c = λ e. absurd (cc)
+
+pub returns-in-Ok-clause-safe : goal.returns-in-Ok-clause-safe
+returns-in-Ok-clause-safe g c =
+    plays_safely _ _ _ c.in-Ok.status (returns-in-Ok-clause-ends g c)
+
+pub returns-else-is_write-clause-safe : goal.returns-else-is_write-clause-safe
+returns-else-is_write-clause-safe g c =
+    plays_safely _ _ _ c.close.result (returns-else-is_write-clause-ends g c)
+
+pub returns-then-is_write-clause-safe : goal.returns-then-is_write-clause-safe
+returns-then-is_write-clause-safe g c = λ files asked told meant has e. absurd (cc)
 
 pub returns-else-is_write-clause-asked : goal.returns-else-is_write-clause-asked
 returns-else-is_write-clause-asked g c =
@@ -87,7 +100,7 @@ returns-else-is_write-clause-leaves g c =
 
 pub returns-then-is_write-clause-leaves : goal.returns-then-is_write-clause-leaves
 returns-then-is_write-clause-leaves g c = record {
-  replay = c.attempt.ensures.leaves.replay;
+  answer = c.attempt.ensures.leaves.answer;
   usage = c.attempt.ensures.leaves.usage;
   input = λ b. absurd b;
 }
@@ -102,3 +115,13 @@ returns-else-is_write-clause-read g c = λ is.
 
 pub returns-then-is_write-clause-read : goal.returns-then-is_write-clause-read
 returns-then-is_write-clause-read g c = λ e. absurd (cc)
+
+pub returns-in-Ok-clause-host : goal.returns-in-Ok-clause-host
+returns-in-Ok-clause-host g c =
+    caused_ended c.in-Ok.status GeneratorFault (completed_ended _ _ _ c.in-Ok.status c.in-Ok.ensures.completed) refl _ _ _
+    c.attempt.ensures.host.later
+
+pub returns-in-Ok-clause-sink : goal.returns-in-Ok-clause-sink
+returns-in-Ok-clause-sink g c =
+    caused_ended c.in-Ok.status WriteFault (completed_ended _ _ _ c.in-Ok.status c.in-Ok.ensures.completed) refl _ _ _
+    c.attempt.ensures.sink.later

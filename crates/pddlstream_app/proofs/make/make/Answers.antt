@@ -1,4 +1,4 @@
-use Rattle.std.proofs.Common.{ap, inl, refl, Some}
+use Rattle.std.proofs.Common.{inl, refl}
 use Rattle.round_run.proofs.CallsRunLemmas.{stops_none}
 use Rattle.report_text.proofs.PrintsLemmas.{appends_none}
 use Rattle.round_run.proofs.StoppedLemmas.{handed}

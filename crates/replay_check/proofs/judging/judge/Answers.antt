@@ -3,7 +3,7 @@ use Rattle.pools.specs.Pools.{HaveWorkers, shares_of}
 use Rattle.replay_check.proofs.HeadsBindLemmas.{limits_fit, pools_work}
 use Rattle.replay_check.proofs.VerdictsHeadLemmas.{head_found}
 use Rattle.replay_check.specs.Headed.{IsHeaded}
-use Rattle.replay_check.specs.Verdicts.{IsReportVerdict}
+use Rattle.replay_check.specs.Judgings.{IsEnded}
 use Rattle.replay_check.proofs.judging.judge.Goals as goal
 
 pub returns-in-Breaks : goal.returns-in-Breaks
@@ -11,7 +11,7 @@ returns-in-Breaks c =
     let task = c.args.task.now in
     let r = c.args.report.now in
     let headed = subst (IsHeaded task r) c.in-Breaks.is c.in_ok-pools.ensures in
-    subst (IsReportVerdict c.args.limit task r) (sym c.invalid.ensures) (head_found c.args.limit task r c.in-Breaks.line headed)
+    subst (IsEnded c.args.limit task r) (sym c.invalid.ensures) (head_found c.args.limit task r c.in-Breaks.line headed)
 
 pub judge_rest-requires-clause-bounds : goal.judge_rest-requires-clause-bounds
 judge_rest-requires-clause-bounds c =

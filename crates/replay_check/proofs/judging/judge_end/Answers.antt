@@ -4,11 +4,11 @@ use Rattle.report_text.specs.Texts.{entry_lines}
 use Rattle.transcript_model.specs.declared.entry.Entry.{Entry}
 use Rattle.replay_check.proofs.VerdictsLemmas.{end_line_few, entries_few, open_end, right_end, wrong_end}
 use Rattle.replay_check.specs.Findings.{IsRightFinding}
+use Rattle.replay_check.specs.Judgings.{IsEnded}
 use Rattle.replay_check.specs.Lines.{outcome_line}
 use Rattle.replay_check.specs.Standings.{limits_by}
-use Rattle.replay_check.specs.Verdicts.{IsReportVerdict}
 use Rattle.replay_check.specs.declared.finding.Finding.TheVariants as finding
-use Rattle.replay_check.specs.declared.verdict.Verdict.TheVariants.{Invalid}
+use Rattle.replay_check.specs.declared.judging.Ended.TheVariants.{Invalid}
 use Rattle.replay_check.proofs.judging.judge_end.Goals as goal
 use Rattle.replay_check.proofs.judging.judge_end.Goals.{In-Breaks}
 
@@ -23,10 +23,12 @@ returns-in-Holds c =
     let r = c.args.report.now in
     let found =
     subst (IsRightFinding (limits_by b) b.limit b.task.now c.as_slice-entries.result.now r.outcome) c.in-Holds.is
-    c.in_ok-judge_outcome.ensures in
-    right_end b r c.requires.bounds c.requires.head c.requires.limits c.args.standing.now c.requires.standing
-    (subst (λ (es : List Entry). IsRightFinding (limits_by b) b.limit b.task.now es r.outcome finding.Holds) c.as_slice-entries.ensures
-    found)
+    c.in_ok-judge_outcome.ensures in (
+      right_end b r c.requires.bounds c.requires.head c.requires.limits c.args.standing c.requires.standing
+          (subst (λ (es : List Entry). IsRightFinding (limits_by b) b.limit b.task.now es r.outcome finding.Holds) c.as_slice-entries.ensures
+          found),
+      c.requires.standing.stands.ledger.known,
+    )
 
 pub returns-in-Open : goal.returns-in-Open
 returns-in-Open c =
@@ -35,7 +37,7 @@ returns-in-Open c =
     let found =
     subst (IsRightFinding (limits_by b) b.limit b.task.now c.as_slice-entries.result.now r.outcome) c.in-Open.is
     c.in_ok-judge_outcome.ensures in
-    open_end b r c.requires.bounds c.requires.head c.requires.limits c.args.standing.now c.requires.standing
+    open_end b r c.requires.bounds c.requires.head c.requires.limits c.args.standing c.requires.standing
     (subst (λ (es : List Entry). IsRightFinding (limits_by b) b.limit b.task.now es r.outcome finding.Open) c.as_slice-entries.ensures
     found)
 
@@ -58,7 +60,7 @@ module _ (c : In-Breaks) where
   few : c.len.result + 3 + c.lines_of.result + c.in-Breaks.line < 2 ^ 31
   few =
       let most = end_line_few c.args.bounds.now c.args.report.now c.requires.bounds c.requires.head c.requires.limits
-      c.args.standing.now c.requires.standing c.in-Breaks.line c.in-Breaks.kind found c.requires.lines in
+      c.args.standing c.requires.standing c.in-Breaks.line c.in-Breaks.kind found c.requires.lines in
       omega (arith, most, c.len.ensures, counted)
 
   line_is : c.len.result + 3 + c.lines_of.result + c.in-Breaks.line ≡ outcome_line c.args.report.now + c.in-Breaks.line
@@ -76,6 +78,6 @@ returns-in-Breaks c =
     let r = c.args.report.now in
     let at = (goal.at.returns-in-Breaks c).In-Breaks in
     let wrong =
-    wrong_end b r c.requires.bounds c.requires.head c.requires.limits c.args.standing.now c.requires.standing
+    wrong_end b r c.requires.bounds c.requires.head c.requires.limits c.args.standing c.requires.standing
     c.in-Breaks.line c.in-Breaks.kind (found at) in
-    subst (IsReportVerdict b.limit b.task.now r) (sym (c.invalid.ensures ∙ ap (λ n. Invalid n c.in-Breaks.kind) (line_is at))) wrong
+    subst (IsEnded b.limit b.task.now r) (sym (c.invalid.ensures ∙ ap (λ n. Invalid n c.in-Breaks.kind) (line_is at))) wrong

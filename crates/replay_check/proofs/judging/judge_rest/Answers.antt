@@ -4,10 +4,10 @@ use Rattle.report_text.specs.Texts.{entry_lines}
 use Rattle.transcript_model.specs.declared.entry.Entry.{Entry}
 use Rattle.replay_check.proofs.VerdictsLemmas.{entries_few, entry_found, entry_line_few, open_found}
 use Rattle.replay_check.proofs.LinesLemmas.{lines_front, report_count}
+use Rattle.replay_check.specs.Judgings.{IsEnded}
 use Rattle.replay_check.specs.Lines.{line_of}
-use Rattle.replay_check.specs.Verdicts.{IsReportVerdict}
 use Rattle.replay_check.specs.Walks.{IsOpenAt, IsWalked, IsWrongAt}
-use Rattle.replay_check.specs.declared.verdict.Verdict.TheVariants.{Invalid}
+use Rattle.replay_check.specs.declared.judging.Ended.TheVariants.{Invalid}
 use Rattle.replay_check.proofs.judging.judge_rest.Goals as goal
 use Rattle.replay_check.proofs.judging.judge_rest.Goals.{After-lines_of, In-Breaks}
 
@@ -76,5 +76,5 @@ returns-in-Breaks c =
     let counted = (goal.at.returns-in-Breaks c).After-lines_of in
     let found = entry_found b r c.requires.bounds c.requires.head c.requires.limits c.in-Breaks.place c.in-Breaks.line
     c.in-Breaks.kind (wrong broken) in
-    subst (IsReportVerdict b.limit b.task.now r)
+    subst (IsEnded b.limit b.task.now r)
     (sym (c.invalid.ensures ∙ ap (λ n. Invalid n c.in-Breaks.kind) (line_is counted))) found

@@ -1,0 +1,26 @@
+use Rattle.std.proofs.Common.{◌∙◌, ap, sym, Some}
+use Rattle.std.proofs.lemmas.Result.{err_from_is_err_and}
+use Rattle.clap.specs.Words.{is_simple_and_free}
+use Rattle.command_line.specs.Apps.{play_app}
+use Rattle.command_line.specs.Words.{play_in}
+use Rattle.command_line.proofs.AppsLemmas.{play_simple}
+use Rattle.command_line.proofs.WordsLemmas.{read_rows, read_none}
+use Rattle.command_line.proofs.play.play.Goals as goal
+
+pub matches_of_words-requires : goal.matches_of_words-requires
+matches_of_words-requires c = ap is_simple_and_free c.in_ok-command.ensures ∙ play_simple
+
+pub returns-in_err-matches-clause-usage : goal.returns-in_err-matches-clause-usage
+returns-in_err-matches-clause-usage c =
+    let p = err_from_is_err_and c.from_residual-in_err-matches.result c.from_residual-in_err-matches.ensures.1 in
+    rw (p.1, p.2) (λ why. read_none play_app _ play_in _ c.in_ok-command.ensures (c.in_err-matches.ensures.usage why))
+
+pub returns-in_default-clause-usage : goal.returns-in_default-clause-usage
+returns-in_default-clause-usage c = λ why.
+    read_rows play_app _ play_in _ c.in_ok-command.ensures _
+    c.in_ok-matches.ensures.taken c.in_ok-matches.ensures.rows ∙ sym c.in_default.ensures
+
+pub returns-clause-config : goal.returns-clause-config
+returns-clause-config c =
+    read_rows play_app _ play_in _ c.in_ok-command.ensures _
+    c.in_ok-matches.ensures.taken c.in_ok-matches.ensures.rows ∙ sym c.in-Some.ensures ∙ ap Some (sym c.in_ok-play_held.ensures)

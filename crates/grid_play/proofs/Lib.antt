@@ -1,0 +1,4 @@
+pub mod MoveLemmas
+pub mod ClashLemmas
+pub mod StepLemmas
+pub mod PlayLemmas

@@ -1,0 +1,6 @@
+mod AgendaLemmas
+mod AstarLemmas
+mod NodesLemmas
+mod PlanLemmas
+mod RelaxLemmas
+mod TurnsLemmas

@@ -1,0 +1,12 @@
+pub mod Agenda
+pub mod Answer
+pub mod Astar
+pub mod Bounds
+pub mod BoundsLemmas
+pub mod Consistent
+pub mod Fewest
+pub mod FewestLemmas
+pub mod GoalLemmas
+pub mod Lawful
+pub mod Nodes
+pub mod Searches

@@ -1,0 +1,111 @@
+//! What `replay` answers.
+ghost use Rattle.std.specs.Prelude.{◌≡◌, ◌<◌, ◌≤◌, ◌^◌, ◌++◌, length, codes, IfOk, IfErr};
+ghost use Rattle.std.specs.Fmt.{decimal};
+ghost use Rattle.pddlstream_app.specs.AnswerOf.{SaysVerdict};
+ghost use Rattle.pddlstream_app.specs.Answering.{IsMade};
+ghost use Rattle.pddlstream_app.specs.Outside.{seen_of};
+ghost use Rattle.pddlstream_app.specs.Paths.{held_files};
+ghost use Rattle.pddlstream_app.specs.Replays.{kind_of_verdict, verdict_text};
+ghost use Rattle.command_line.specs.Held.{held_replay};
+ghost use Rattle.command_line.specs.Ranges.{IsBetween};
+ghost use Rattle.command_line.specs.Words.{replay as to_replay};
+ghost use Rattle.task_model.specs.Fit.{IsFit};
+ghost use Rattle.task_model.specs.declared.limits.TheConstants.{MOST_STATES};
+ghost use Rattle.replay_check.specs.Kinds.{breach_number};
+ghost use Rattle.replay_check.specs.Verdicts.{IsVerdict};
+
+use crate::said::Said;
+use crate::status::Status;
+use crate::stop::Stop;
+use crate::texts::{TaskPaths, read_reported};
+use command_line::ReplayConfig;
+use io_world::Files;
+use level_run::RunFault;
+use replay_check::{BreachKind, Verdict, replay};
+use std::alloc::{AllocError, Global};
+use task_model::Task;
+
+/// How a run ends that says this.
+fn status_of(verdict: Verdict) -> Status
+    ensures { result ≡ kind_of_verdict verdict }
+{
+    match verdict {
+        Verdict::Valid => Status::Done,
+        Verdict::Invalid { .. } => Status::Invalid,
+        Verdict::Limit => Status::Limit,
+    }
+}
+
+/// The line for a breach.
+fn breach_line(alloc: Global, line: u32, kind: BreachKind) -> Result<Vec<u8>, AllocError>
+    ensures { IfOk result (λ text. text.items ≡ codes "invalid " ++ decimal line ++ codes " "
+        ++ decimal (breach_number kind) ++ codes "\n") }
+{
+    let kind = kind.number();
+    let text = format!(in alloc; "invalid {line} {kind}\n")?;
+    Ok(text.into_bytes())
+}
+
+/// The line for a verdict. Fails only where memory is wanting.
+fn verdict_line(alloc: Global, verdict: Verdict) -> Result<Vec<u8>, AllocError>
+    ensures { IfOk result (λ text. text.items ≡ verdict_text verdict) }
+{
+    match verdict {
+        Verdict::Valid => Vec::from_slice(alloc, b"valid\n"),
+        Verdict::Invalid { line, kind } => breach_line(alloc, line, kind),
+        Verdict::Limit => Vec::from_slice(alloc, b"limit states\n"),
+    }
+}
+
+/// What is said of a report by its verdict. Fails only where memory is wanting.
+pub(crate) fn said_of(alloc: Global, verdict: Verdict) -> Result<Said, AllocError>
+    ensures { IfOk result (λ said. (kind_of_verdict verdict ≡ said.status)
+        × (said.text.items ≡ verdict_text verdict)) }
+{
+    Ok(Said {
+        status: status_of(verdict),
+        text: verdict_line(alloc, verdict)?,
+    })
+}
+
+/// Judges the bytes of a report. Fails only where memory is wanting.
+fn judge(alloc: Global, task: &Task, bytes: &[u8], states: u32) -> Result<Said, AllocError>
+    requires fit { IsFit task.now }
+    requires some { 1 ≤ states }
+    requires few { states ≤ MOST_STATES }
+    requires bytes { length bytes.now < 2 ^ 31 }
+    ensures { IfOk result (λ said.
+        SaysVerdict (IsVerdict states task.now bytes.now) said.status said.text.items) }
+{
+    let verdict = replay(alloc, task, bytes, states)?;
+    said_of(alloc, verdict)
+}
+
+/// The paths of the task's texts.
+pub(crate) fn paths_of(words: &ReplayConfig) -> TaskPaths<'_>
+    ensures { held_files result ≡ (held_replay words.now).files }
+{
+    TaskPaths {
+        domain: words.domain.as_str(),
+        problem: words.problem.as_str(),
+        streams: words.streams.as_str(),
+    }
+}
+
+/// Reads the files, and judges the report.
+pub(crate) fn replay_answer<F: Files>(
+    alloc: Global,
+    words: &ReplayConfig,
+    files: &mut F,
+) -> Result<Said, Stop>
+    requires within { IsBetween MOST_STATES words.now.states }
+    ensures made { IsMade (to_replay (held_replay words.now))
+        (seen_of F.told F.faults F.asked files.old files.new) result }
+{
+    let paths = paths_of(words);
+    let read = read_reported(alloc, files, &paths, words.report.as_str())?;
+    match judge(alloc, &read.task, read.bytes.as_slice(), words.states) {
+        Ok(said) => Ok(said),
+        Err(_) => Err(Stop::Run(RunFault::Memory)),
+    }
+}

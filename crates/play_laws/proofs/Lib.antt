@@ -1,0 +1,14 @@
+pub mod FoundLemmas
+pub mod FirstLemmas
+pub mod MeaningLemmas
+pub mod StreamLemmas
+pub mod RequestLemmas
+pub mod KnownLemmas
+pub mod ActionLemmas
+pub mod WorldLemmas
+pub mod StandsLemmas
+pub mod PickLemmas
+pub mod PutLemmas
+pub mod HomeLemmas
+pub mod SafeLemmas
+pub mod NumberLemmas

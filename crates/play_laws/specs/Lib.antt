@@ -1,0 +1,3 @@
+pub mod GridTasks
+pub mod Problems
+pub mod Laws

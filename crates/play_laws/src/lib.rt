@@ -1,0 +1,4 @@
+//! What holds of plans that are acted out on the grid.
+#![tactic(auto)]
+
+pub mod laws;

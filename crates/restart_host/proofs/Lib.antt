@@ -1,0 +1,4 @@
+pub mod ChildrenLemmas
+pub mod HostLemmas
+pub mod NotedLemmas
+pub mod TriesLemmas

@@ -1,0 +1,144 @@
+-- Calls that are noted.
+use Rattle.std.proofs.Common.{◌≡◌, ◌≢◌, ℕ, Bool, true, false, List, [], ◌∷◌, ◌++◌, take, Option, Some, None, option_map, Result, Ok, Err, MatchResult, refl, sym, ap, ◌∙◌, inl, inr, if◌then◌else◌, ◌==◌}
+use Rattle.std.proofs.lemmas.Bool.{eq-eqb}
+use Rattle.std.proofs.lemmas.Bool.Decides.{eqb_tells}
+use Rattle.io_world.specs.Leads.{wants_memory}
+use Rattle.io_world.specs.Logs.{Calls, Notes, said_of, told_of}
+use Rattle.io_world.specs.Talks.{Event, Talk, started, wrote, heard, stopped, given, silence, said_after, spelled, wrote_more, heard_more, Grows, Logs, Same, Becomes, Empties, Writes, Hears}
+use Rattle.io_world.specs.declared.host.HostFault.{HostFault}
+use Rattle.io_world.specs.declared.host.HostFault.TheVariants.{Failed, Memory}
+use Rattle.restart_host.specs.Noted.{IsNoted, Lost}
+
+told_more : (was now : Bool) (old new : List Event) (event : Event) → now ≡ was → new ≡ old ++ event ∷ []
+    → Grows (if was then Some old else None) (if now then Some new else None) (event ∷ [])
+told_more was false old new event same grew = tt
+told_more true true old new event same grew = (old, refl, grew)
+told_more false true old new event same grew = absurd (cc (same))
+
+told_lost : (was now : Bool) (old new : List Event) (event : Event) → now ≡ false
+    → Grows (if was then Some old else None) (if now then Some new else None) (event ∷ [])
+told_lost was false old new event lost = tt
+told_lost was true old new event lost = absurd (cc (lost))
+
+-- the log that is told has the call more
+pub noted_log : {T : Type 0} (old new : Calls) (event : Event) (result : Result T HostFault) → IsNoted old new event result
+    → Logs (told_of old) (told_of new) event
+noted_log old new event result is = elim is.noted [
+  | inl noted ↦ told_more old.whole new.whole old.events new.events event noted.whole noted.events
+  | inr lost ↦ told_lost old.whole new.whole old.events new.events event lost.1.whole
+]
+
+-- nothing was said by a call that got lost
+lost_same : (old new : Calls) → Lost old new → Same (said_of old) (said_of new)
+lost_same old new lost k = ap (λ events. Some (spelled k silence events)) lost.events
+
+-- another child's number isn't this one
+not_equal : (child k : ℕ) → k ≢ child → (child == k) ≡ false
+not_equal child k other = elim (eqb_tells child k) [
+  | inl same ↦ absurd (other (sym same.1))
+  | inr differs ↦ differs.0
+]
+
+-- nothing was said
+noted_same : (old new : Calls) (event : Event) → ((k : ℕ) (talk : Talk) → said_after k talk event ≡ talk)
+    → Notes old new event
+    → Same (said_of old) (said_of new)
+noted_same old new event nothing noted k = noted.said k ∙ ap Some (nothing k (spelled k silence old.events))
+
+-- a start that is noted
+pub noted_start : (child : ℕ) (argv : List (List ℕ)) (old new : Calls) (result : Result (Unit {0}) HostFault)
+    → IsNoted old new (started child argv result) result
+    → MatchResult result (λ _. Empties child (said_of old) (said_of new)) (λ _. Same (said_of old) (said_of new))
+noted_start child argv old new (Ok u) is = elim is.noted [
+  | inl noted ↦ record {
+    here = noted.said child ∙ rw (eq-eqb child child refl) refl;
+    others = λ k other. noted.said k ∙ rw (not_equal child k other) refl;
+  }
+  | inr lost ↦ absurd (cc (lost.0))
+]
+noted_start child argv old new (Err fault) is = elim is.noted [
+  | inl noted ↦ noted_same old new (started child argv (Err fault)) (λ k talk. refl) noted
+  | inr lost ↦ lost_same old new lost.1
+]
+
+-- a write that is noted
+pub noted_write : (child : ℕ) (bytes : List ℕ) (old new : Calls) (result : Result ℕ HostFault)
+    → IsNoted old new (wrote child bytes result) result
+    → MatchResult result (λ n. Writes child (take n bytes) (said_of old) (said_of new)) (λ _. Same (said_of old) (said_of new))
+noted_write child bytes old new (Ok n) is = elim is.noted [
+  | inl noted ↦ record {
+    here = noted.said child ∙ rw (eq-eqb child child refl) refl;
+    others = λ k other. noted.said k ∙ rw (not_equal child k other) refl;
+  }
+  | inr lost ↦ absurd (cc (lost.0))
+]
+noted_write child bytes old new (Err fault) is = elim is.noted [
+  | inl noted ↦ noted_same old new (wrote child bytes (Err fault)) (λ k talk. refl) noted
+  | inr lost ↦ lost_same old new lost.1
+]
+
+-- a read that is noted
+pub noted_read : (child size : ℕ) (room : List ℕ) (old new : Calls) (result : Result ℕ HostFault)
+    → IsNoted old new (heard child size (given result room)) result
+    → MatchResult result (λ n. Hears child (take n room) (said_of old) (said_of new)) (λ _. Same (said_of old) (said_of new))
+noted_read child size room old new (Ok n) is = elim is.noted [
+  | inl noted ↦ record {
+    here = noted.said child ∙ rw (eq-eqb child child refl) refl;
+    others = λ k other. noted.said k ∙ rw (not_equal child k other) refl;
+  }
+  | inr lost ↦ absurd (cc (lost.0))
+]
+noted_read child size room old new (Err fault) is = elim is.noted [
+  | inl noted ↦ noted_same old new (heard child size (Err fault)) (λ k talk. refl) noted
+  | inr lost ↦ lost_same old new lost.1
+]
+
+-- a stop that is noted
+pub noted_stop : (child : ℕ) (old new : Calls) (answer : Result (Unit {0}) HostFault)
+    → Notes old new (stopped child answer)
+    → Same (said_of old) (said_of new)
+noted_stop child old new answer noted = noted_same old new (stopped child answer) (λ k talk. refl) noted
+
+-- the log stays whole unless memory was wanting
+pub noted_whole : {T : Type 0} (old new : Calls) (event : Event) (result : Result T HostFault)
+    → IsNoted old new event result → wants_memory result ≡ false → new.whole ≡ old.whole
+noted_whole old new event result is quiet = elim is.noted [
+  | inl noted ↦ noted.whole
+  | inr lost ↦ absurd (cc (lost.0, quiet))
+]
+
+pub noted_lost : {T : Type 0} (old new : Calls) (event : Event) (result : Result T HostFault)
+    → IsNoted old new event result → new.whole ≡ true → old.whole ≡ true
+noted_lost old new event result is whole = elim is.noted [
+  | inl noted ↦ sym noted.whole ∙ whole
+  | inr lost ↦ absurd (cc (lost.1.whole, whole))
+]
+
+-- ---- what calls make of the log
+
+pub noted_by : {T : Type 0} (old new : Calls) (event : Event) (result : Result T HostFault) → Notes old new event
+    → IsNoted old new event result
+noted_by old new event result noted = record { noted = inl noted }
+
+-- the call got lost
+pub noted_none : {T : Type 0} (old mid new : Calls) (event : Event) → mid.events ≡ old.events
+    → new ≡ record mid { whole = false }
+    → IsNoted old new event (let r : Result T HostFault = Err Memory in r)
+noted_none old mid new event same loses = record {
+  noted = inr (
+    refl,
+    record {
+      events = ap (λ (c : Calls). c.events) loses ∙ same;
+      whole = ap (λ (c : Calls). c.whole) loses;
+    },
+  );
+}
+
+-- the call was noted, behind a change of the room that is kept
+pub notes_after : (old mid new : Calls) (event : Event) → mid.events ≡ old.events → mid.whole ≡ old.whole
+    → Notes mid new event → Notes old new event
+notes_after old mid new event events whole noted = record {
+  events = noted.events ∙ ap (λ list. list ++ event ∷ []) events;
+  whole = noted.whole ∙ whole;
+  said = λ k. noted.said k ∙ ap (λ list. Some (said_after k (spelled k silence list) event)) events;
+}

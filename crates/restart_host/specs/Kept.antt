@@ -1,0 +1,31 @@
+-- What is kept of children.
+use Rattle.std.specs.Prelude.{◌≡◌, ℕ, Bool, false, List, [], count_by, option_map, slice_get, unwrap_or}
+use Rattle.restart_host.specs.declared.kept.Kept.{Kept}
+use Rattle.restart_host.specs.declared.kept.Life.{Life}
+
+abbrev pub is_on : Kept → Bool
+is_on kept = kept.running
+
+-- whether a child runs, as its host tells
+abbrev pub is_running : List Kept → ℕ → Bool
+is_running children child = unwrap_or (option_map (λ (kept : Kept). kept.running) (slice_get children child)) false
+
+-- whether a child runs in the host below
+abbrev pub is_alive : List Kept → ℕ → Bool
+is_alive children child = unwrap_or (option_map (λ (kept : Kept). kept.life.alive) (slice_get children child)) false
+
+-- a call changed a child's life alone
+abbrev pub OnlyLives : Kept → Kept → Type 0
+OnlyLives old new = (new.running ≡ old.running) × (new.words ≡ old.words) × (new.asked ≡ old.asked)
+
+-- The child doesn't run in the host below, and nothing is held of it.
+pub record IsFallen (life : Life) : Type 0 where
+  pub alive : life.alive ≡ false
+  pub held : life.held ≡ []
+  pub due : life.due ≡ 0
+
+-- None of the children runs, here or in the host below.
+pub record AreIdle (children : List Kept) : Type 0 where
+  pub running : (k : ℕ) → is_running children k ≡ false
+  pub alive : (k : ℕ) → is_alive children k ≡ false
+  pub none : count_by is_on children ≡ 0

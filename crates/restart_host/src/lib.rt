@@ -1,0 +1,10 @@
+//! A host over another, whose children are started again where they fail.
+#![tactic(auto)]
+
+mod held;
+mod inner;
+mod kept;
+mod noted;
+mod restart_host;
+
+pub use restart_host::RestartHost;

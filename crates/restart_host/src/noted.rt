@@ -1,0 +1,197 @@
+// Calls on a child that are done on the host below and noted.
+ghost use Rattle.std.specs.Prelude.{◌≡◌, ◌<◌, ◌≤◌, ◌+◌, ℕ, List, true, false, length, map, string_bytes, vec_len, is_ok, Ok, IfOk, OnOk};
+ghost use Rattle.io_world.specs.Faults.{last_count, Counts};
+ghost use Rattle.io_world.specs.Leads.{wants_memory};
+ghost use Rattle.io_world.specs.Logs.{Notes};
+ghost use Rattle.io_world.specs.Talks.{given, heard, started, stopped, wrote};
+ghost use Rattle.io_world.specs.declared.host.HostFault.TheVariants.{Failed};
+ghost use Rattle.io_world.specs.declared.host.TheConstants.{CHILDREN};
+ghost use Rattle.restart_host.specs.Noted.{IsLed, IsNoted, counted};
+ghost use Rattle.restart_host.specs.Tries.{Called, Tried, refusals, seen_of};
+
+use crate::inner::{bring, end, fetch, revive};
+use crate::kept::Kept;
+use io_world::{CallLog, FaultCount, Host, HostFault};
+
+/// Counts a call that is answered as failed.
+pub(crate) fn tally<T>(faults: &mut FaultCount, answer: &Result<T, HostFault>)
+    ensures count { Counts Failed last_count faults.old faults.new answer.now }
+    ensures later { faults.old ≤ faults.new }
+{
+    match answer {
+        Ok(_) => {}
+        Err(HostFault::Memory) => {}
+        Err(HostFault::Failed) => faults.raise(),
+    }
+}
+
+/// The same answer, with a number of bytes.
+fn count_bytes(answer: Result<(), HostFault>, count: usize) -> Result<usize, HostFault>
+    ensures { result ≡ counted answer count }
+{
+    match answer {
+        Ok(()) => Ok(count),
+        Err(fault) => Err(fault),
+    }
+}
+
+/// Starts a child that doesn't run with these words, and notes it. Room for its stop is kept.
+///
+/// # Errors
+/// As `revive`, and `Memory` where there is none for the note or that room. The child doesn't run
+/// then.
+pub(crate) fn start_child<H: Host>(
+    host: &mut H,
+    left: &mut u32,
+    log: &mut CallLog,
+    kept: &mut Kept,
+    child: u8,
+    words: Vec<String>,
+) -> Result<(), HostFault>
+    requires number { child < CHILDREN }
+    requires words { 0 < vec_len words }
+    requires idle { kept.old.running ≡ false }
+    requires ties { H.running host.old child ≡ kept.old.life.alive }
+    ensures ties { H.running host.new child ≡ kept.new.life.alive }
+    ensures running { kept.new.running ≡ is_ok result }
+    ensures room { (log.old.kept ≤ log.new.kept) × OnOk result (log.new.kept ≡ log.old.kept + 1) }
+    ensures noted { IsNoted log.old log.new (started child (map string_bytes words.items) result)
+        result }
+    ensures tried { Tried child (map string_bytes words.items) H.last left.old left.new
+        (seen_of H.running H.faults H.log host.old) (seen_of H.running H.faults H.log host.new)
+        result }
+    ensures leads { IsLed (H.leads host.old host.new) (wants_memory result) }
+{
+    let Ok(()) = log.keep() else {
+        return Err(HostFault::Memory);
+    };
+    kept.words = words;
+    kept.asked.clear();
+    kept.running = true;
+    let answer = revive(host, left, &mut kept.life, child, &kept.words, &[]);
+    let Ok(()) = log.start(child, &kept.words, answer) else {
+        end(host, &mut kept.life, child);
+        kept.running = false;
+        return Err(HostFault::Memory);
+    };
+    kept.running = answer.is_ok();
+    answer
+}
+
+/// Writes a request to a child that runs, and notes it.
+///
+/// # Errors
+/// As `bring`, and `Memory` where there is none for the bytes or the note. No part of the bytes
+/// stays with the child.
+pub(crate) fn write_child<H: Host>(
+    host: &mut H,
+    left: &mut u32,
+    log: &mut CallLog,
+    kept: &mut Kept,
+    child: u8,
+    bytes: &[u8],
+) -> Result<usize, HostFault>
+    requires number { child < CHILDREN }
+    requires runs { kept.old.running ≡ true }
+    requires ties { H.running host.old child ≡ kept.old.life.alive }
+    ensures all { IfOk result (λ n. n ≡ length bytes.now) }
+    ensures ties { H.running host.new child ≡ kept.new.life.alive }
+    ensures noted { (kept.new.running ≡ true) × (log.new.kept ≡ log.old.kept)
+        × IsNoted log.old log.new (wrote child bytes.now result) result }
+    ensures tried { Tried child (map string_bytes kept.old.words.items) H.last left.old left.new
+        (seen_of H.running H.faults H.log host.old) (seen_of H.running H.faults H.log host.new)
+        result }
+    ensures leads { IsLed (H.leads host.old host.new) (wants_memory result) }
+{
+    let before = kept.asked.len();
+    let Ok(()) = kept.asked.extend_from_slice(bytes) else {
+        log.lose();
+        return Err(HostFault::Memory);
+    };
+    let answer = count_bytes(bring(host, left, kept, child, bytes), bytes.len());
+    let Ok(()) = log.write(child, bytes, answer) else {
+        end(host, &mut kept.life, child);
+        kept.asked.truncate(before);
+        return Err(HostFault::Memory);
+    };
+    if answer.is_err() {
+        kept.asked.truncate(before);
+    }
+    answer
+}
+
+/// Puts bytes of a child's next line into the room, answers how many, and notes it. The child runs.
+///
+/// # Errors
+/// As `fetch`, and `Memory` where there is none for the note.
+pub(crate) fn read_child<H: Host>(
+    host: &mut H,
+    left: &mut u32,
+    log: &mut CallLog,
+    kept: &mut Kept,
+    child: u8,
+    room: &mut [u8],
+) -> Result<usize, HostFault>
+    requires number { (child < CHILDREN) × (0 < length room.old) }
+    requires runs { kept.old.running ≡ true }
+    requires ties { H.running host.old child ≡ kept.old.life.alive }
+    ensures count { IfOk result (λ n. (0 < n) × (n ≤ length room.new)) }
+    ensures ties { H.running host.new child ≡ kept.new.life.alive }
+    ensures noted { (kept.new.running ≡ true) × (log.new.kept ≡ log.old.kept)
+        × IsNoted log.old log.new (heard child (length room.old) (given result room.new)) result }
+    ensures tried { Tried child (map string_bytes kept.old.words.items) H.last left.old left.new
+        (seen_of H.running H.faults H.log host.old) (seen_of H.running H.faults H.log host.new)
+        result }
+    ensures leads { IsLed (H.leads host.old host.new) (wants_memory result) }
+{
+    match fetch(host, left, kept, child) {
+        Ok(()) => give(log, kept, child, room),
+        Err(fault) => match log.miss(child, room.len(), fault) {
+            Ok(()) => Err(fault),
+            Err(_) => Err(HostFault::Memory),
+        },
+    }
+}
+
+/// Puts bytes that are due into the room, answers how many, and notes it.
+///
+/// # Errors
+/// `Memory` where there is none for the note. The bytes stay due.
+fn give(log: &mut CallLog, kept: &mut Kept, child: u8, room: &mut [u8]) -> Result<usize, HostFault>
+    requires some { (0 < length room.old) × (0 < kept.old.life.due) }
+    ensures count { IfOk result (λ n. (0 < n) × (n ≤ length room.new)) }
+    ensures kept { (kept.new.running ≡ kept.old.running)
+        × (kept.new.life.alive ≡ kept.old.life.alive) }
+    ensures quiet { refusals result ≡ 0 }
+    ensures noted { (log.new.kept ≡ log.old.kept)
+        × IsNoted log.old log.new (heard child (length room.old) (given result room.new)) result }
+{
+    let size = room.len();
+    let count = kept.life.due.min(size);
+    room[..count].copy_from_slice(&kept.life.held.as_slice()[..count]);
+    match log.read(child, size, &room[..count]) {
+        Ok(()) => {
+            kept.hand_out(count);
+            Ok(count)
+        }
+        Err(_) => Err(HostFault::Memory),
+    }
+}
+
+/// Ends a child, and notes it in room that was kept.
+pub(crate) fn stop_child<H: Host>(host: &mut H, log: &mut CallLog, kept: &mut Kept, child: u8)
+    requires number { child < CHILDREN }
+    requires room { 0 < log.old.kept }
+    requires ties { H.running host.old child ≡ kept.old.life.alive }
+    ensures ties { H.running host.new child ≡ kept.new.life.alive }
+    ensures running { kept.new.running ≡ false }
+    ensures noted { Notes log.old log.new (stopped child (Ok tt)) }
+    ensures room { log.old.kept ≡ log.new.kept + 1 }
+    ensures called { (words : List (List ℕ)) → Called child words H.last
+        (seen_of H.running H.faults H.log host.old) (seen_of H.running H.faults H.log host.new) 0 }
+    ensures leads { H.leads host.old host.new false }
+{
+    end(host, &mut kept.life, child);
+    kept.running = false;
+    log.stop_kept(child, Ok(()));
+}

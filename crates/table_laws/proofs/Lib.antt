@@ -1,0 +1,10 @@
+pub mod TableLemmas
+pub mod ItemLemmas
+pub mod NamedLemmas
+pub mod ObjectLemmas
+pub mod DomainLemmas
+pub mod StreamLemmas
+pub mod ChangedLemmas
+pub mod GroupLemmas
+pub mod EdgeLemmas
+pub mod UnderLemmas

@@ -1,0 +1,5 @@
+pub mod Rows
+pub mod Declared
+pub mod Changed
+pub mod Under
+pub mod Laws

@@ -1,0 +1,4 @@
+pub mod Fetch
+pub mod Texts
+pub mod Level
+pub mod Laws
