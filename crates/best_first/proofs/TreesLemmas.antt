@@ -17,7 +17,7 @@ use Rattle.task_model.specs.State.{Atoms}
 use Rattle.task_model.specs.Steps.{IsStep}
 use Rattle.task_model.specs.declared.task.GroundAction.{GroundAction}
 use Rattle.task_model.specs.declared.task.Task.{Task}
-use Rattle.best_first.specs.Explored.{ExploringEnds, Grows, IsLink, IsMet, IsTree, LeadsToState}
+use Rattle.best_first.specs.Explored.{ExploringEnds, GrowsByStep, IsLink, IsMet, IsTree, LeadsToState}
 use Rattle.best_first.specs.Outcome.{IsAll}
 use Rattle.best_first.specs.declared.tree.Link.{Link}
 
@@ -124,7 +124,7 @@ module _ (task : Task) (known : Known) where
   -- what a step does to the states leads there
   pub grows_leads : (before : List Atoms) (earlier : List Link) (from : ℕ) (source : Atoms) (step : GroundAction)
       (states : List Atoms) (links : List Link) (found : Option (ℕ × ℕ))
-      → Grows task known before earlier from source step states links found
+      → GrowsByStep task known before earlier from source step states links found
       → LeadsToState task known before source step states
   grows_leads before earlier from source step states links (Some found) g = record {
     more = g.after ∷ [];

@@ -75,11 +75,11 @@ module _ (task : Task) (known : Known) where
     pub links_are : links ≡ earlier
 
   -- what becomes of the states by one step from the one at `from`
-  abbrev pub Grows : List Atoms → List Link → ℕ → Atoms → GroundAction → List Atoms → List Link → Option (ℕ × ℕ)
+  abbrev pub GrowsByStep : List Atoms → List Link → ℕ → Atoms → GroundAction → List Atoms → List Link → Option (ℕ × ℕ)
       → Type 0
-  Grows before earlier from source step states links (Some found) =
+  GrowsByStep before earlier from source step states links (Some found) =
       IsAdded before earlier from source step states links found.0 found.1
-  Grows before earlier from source step states links None = IsKept before earlier source step states links
+  GrowsByStep before earlier from source step states links None = IsKept before earlier source step states links
 
   -- The states are there still, others behind them, and the step leads to one of them all.
   pub record LeadsToState (before : List Atoms) (source : Atoms) (step : GroundAction)

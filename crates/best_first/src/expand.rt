@@ -6,7 +6,7 @@ ghost use Rattle.task_model.specs.Fit.{IsFit};
 ghost use Rattle.task_model.specs.State.{Atoms, with_atoms, without_atoms};
 ghost use Rattle.task_model.specs.Steps.{IsStep};
 ghost use Rattle.task_model.specs.declared.limits.TheConstants.{MOST_STATES};
-ghost use Rattle.best_first.specs.Explored.{ExploringEnds, Grows, IsExplored, IsGrown, LeadsToState, Comes};
+ghost use Rattle.best_first.specs.Explored.{ExploringEnds, GrowsByStep, IsExplored, IsGrown, LeadsToState, Comes};
 
 use crate::tree::{Link, Tree};
 use grounder::Candidates;
@@ -95,7 +95,7 @@ pub(crate) fn grow<L: Look>(
     requires few { length tree.old.store ≤ MOST_STATES }
     requires here { slice_get tree.old.store from ≡ Some state.now }
     requires can { IsApplicable scene.now.task.now (L.known scene.now.look.now) state.now step.now }
-    ensures { IfOk result (Grows scene.now.task.now (L.known scene.now.look.now) tree.old.store
+    ensures { IfOk result (GrowsByStep scene.now.task.now (L.known scene.now.look.now) tree.old.store
         tree.old.links.items from state.now step.now tree.new.store tree.new.links.items) }
 {
     let taken = take_step(scene.task, scene.look, state, step)?;

@@ -8,7 +8,7 @@ use Rattle.dream_asks.specs.First.{first_instances}
 use Rattle.dream_laws.proofs.DreamLemmas.{dream_asks}
 use Rattle.dream_asks.proofs.EntriesLemmas.{dream_distinct}
 use Rattle.focused_run.proofs.FocusingLemmas.{Dreamt}
-use Rattle.focused_run.specs.Focusing.{HasRoom, RanDreaming, carrying, idle_of}
+use Rattle.focused_run.specs.Focusing.{HasCallLeft, RanDreaming, carrying, idle_of}
 use Rattle.level_run.specs.Advancing.{Falls, HasTurned, IsFrontOfTurn, RanTurn}
 use Rattle.level_run.specs.declared.turns.Turned.{Turned}
 use Rattle.level_run.specs.declared.turns.Turned.TheVariants as turned
@@ -45,7 +45,7 @@ module _ (head : Head) (task : Task) (is : head.mode ≡ Adaptive) where
 
   -- ---- a new skeleton
 
-  module _ (tried : List Instance) (xs : List Skeleton) (before : List Entry) (line : Entry) (entries : List dreams.Entry)
+  module _ (tried : List Instance) (xs : List Skeleton) (before : List Entry) (line : Entry) (entries : List dreams.SupposedEntry)
       (d : Dreamt (limits_of head) task before tried line entries) where
     abbrev new_skeleton : Skeleton
     new_skeleton = record { entries = entries; real = length (names_of task before); picks = 0; retired = false }
@@ -226,9 +226,9 @@ picked_once xs p q s r first second =
 
 -- the new one was picked
 module _ (head : Head) (task : Task) (is : head.mode ≡ Adaptive) (fit : IsFit task) (tried : List Instance) (xs : List Skeleton)
-    (line : Entry) (entries : List dreams.Entry) (old : State) (legal : IsLegal head.version task old.entries)
+    (line : Entry) (entries : List dreams.SupposedEntry) (old : State) (legal : IsLegal head.version task old.entries)
     (d : Dreamt (limits_of head) task old.entries tried line entries) (h : AreFewKept xs (length old.asked))
-    (room : HasRoom head old) (counted : length old.asked ≡ asks_of old.entries) where
+    (room : HasCallLeft head old) (counted : length old.asked ≡ asks_of old.entries) where
   abbrev kept_skeleton : Skeleton
   kept_skeleton = record { entries = entries; real = length (names_of task old.entries); picks = 0; retired = false }
 

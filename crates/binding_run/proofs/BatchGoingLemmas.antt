@@ -233,7 +233,7 @@ batches_behind {T} {U} e mark old mid new opens last was half now still Early So
     }
 
 -- the next batch of a dream behind those so far
-pub next_behind : (old mid new : AtDesk) (last : ℕ) (was half now : Told) (real : ℕ) (entries : List dreams.Entry)
+pub next_behind : (old mid new : AtDesk) (last : ℕ) (was half now : Told) (real : ℕ) (entries : List dreams.SupposedEntry)
     (gone later : Progress) (first tried joined : List Instance)
     → SoFar old.head old.task real entries old.state mid.state gone first tried → gone.real ≡ real
     → (r : Result (Option Batch) RunFault)

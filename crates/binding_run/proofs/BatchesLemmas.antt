@@ -9,7 +9,7 @@ use Rattle.dream_asks.specs.Next.{AreDuesOf, AreNext}
 use Rattle.dream_asks.specs.Noting.{NotesAnswers}
 use Rattle.dream_asks.specs.Progress.{IsProgress, Progress, numbered}
 use Rattle.dream_asks.specs.declared.asks.DreamAsk.{DreamAsk}
-use Rattle.instance_queue.specs.Level.{instances_of}
+use Rattle.instance_queue.specs.Level.{due_instances}
 use Rattle.instance_queue.specs.declared.due.Due.{Due}
 use Rattle.io_world.specs.Talks.{Event}
 use Rattle.level_run.proofs.TurnsLevelLemmas.{batch_cut}
@@ -42,7 +42,7 @@ use Rattle.transcript_model.specs.declared.outcome.Outcome.TheVariants as outcom
 
 -- ---- fronts
 
-module _ (head : Head) (task : Task) (real : ℕ) (entries : List dreams.Entry)
+module _ (head : Head) (task : Task) (real : ℕ) (entries : List dreams.SupposedEntry)
     (work : All (λ (p : Share). 1 ≤ p.workers) (map share_of head.pools)) where
   -- no entry of them came yet
   pub front_here : (sent : List Sent) (before : List Entry) → IsFrontOfBatches head task real entries sent before before
@@ -95,7 +95,7 @@ module _ (head : Head) (task : Task) (real : ℕ) (entries : List dreams.Entry)
     }
 
 -- the same where the batches behind make a longer list whole
-pub front_wider : (head : Head) (task : Task) (real : ℕ) (entries : List dreams.Entry) (sent first : List Sent)
+pub front_wider : (head : Head) (task : Task) (real : ℕ) (entries : List dreams.SupposedEntry) (sent first : List Sent)
     (start done before : List Entry)
     → before ≡ start ++ done
     → ((rest : List Entry) (after : List Sent) (cut : Bool)
@@ -117,7 +117,7 @@ front_wider head task real entries sent first start done before is goes_on es f 
 -- ---- what is asked next
 
 -- by what is known and noted these are asked next
-pub record IsChosen (task : Task) (s : State) (p : Progress) (entries : List dreams.Entry) (asks : List DreamAsk) : Type 0 where
+pub record IsChosen (task : Task) (s : State) (p : Progress) (entries : List dreams.SupposedEntry) (asks : List DreamAsk) : Type 0 where
   pub known : Known
   pub notes : List Note
   pub known_is : known ≡ s.known
@@ -125,7 +125,7 @@ pub record IsChosen (task : Task) (s : State) (p : Progress) (entries : List dre
   pub next : AreNext task known notes p entries asks
 
 module _ (task : Task) (s : State) (works : s.failed ≡ false) (learnt : IsLearnt s) (h : IsSession task s)
-    (p : Progress) (entries : List dreams.Entry) (asks : List DreamAsk) (chosen : IsChosen task s p entries asks) where
+    (p : Progress) (entries : List dreams.SupposedEntry) (asks : List DreamAsk) (chosen : IsChosen task s p entries asks) where
   next_of : (sent : List Sent) → IsProgress task s.entries p sent
       → numbered (asks_of s.entries + 1) asks ≡ nexts task s.entries p.real entries sent
   next_of sent is =
@@ -141,7 +141,7 @@ module _ (task : Task) (s : State) (works : s.failed ≡ false) (learnt : IsLear
   -- where these are the asks with their turns
   module _ (notes : List Note) (dues : List Due) (notes_is : notes ≡ s.notes) (of : AreDuesOf notes asks dues) where
     nexts_instances : (sent : List Sent) → IsProgress task s.entries p sent
-        → sent_instances (nexts task s.entries p.real entries sent) ≡ instances_of dues
+        → sent_instances (nexts task s.entries p.real entries sent) ≡ due_instances dues
     nexts_instances sent is =
         ap sent_instances (sym (next_of sent is)) ∙ numbered_instances asks (asks_of s.entries + 1) ∙ sym of.instances
 
@@ -170,7 +170,7 @@ module _ (task : Task) (s : State) (works : s.failed ≡ false) (learnt : IsLear
 
       -- the batch's front is one of the dream's batches
       pub front_next : (work : All (λ (q : Share). 1 ≤ q.workers) (map share_of head.pools)) (es : List Entry)
-          → IsFrontPart s.entries (IsBatch (limits_of head) task s.entries (instances_of dues)) es
+          → IsFrontPart s.entries (IsBatch (limits_of head) task s.entries (due_instances dues)) es
           → IsFrontOfBatches head task p.real entries sent s.entries es
       front_next work es f =
           front_batch head task p.real entries work sent s.entries some_next es
@@ -179,7 +179,7 @@ module _ (task : Task) (s : State) (works : s.failed ≡ false) (learnt : IsLear
       module _ (new : State) (later : Progress) (tried joined : List Instance) (b : Batch) (ran : RanBatch task head dues s new b) where
         pub ran_next : length s.asked ≤ head.calls → later.real ≡ p.real
             → (b ≡ Done → IsProgress task new.entries later (sent ++ nexts task s.entries p.real entries sent))
-            → (b ≡ Done → joined ≡ tried ++ instances_of dues)
+            → (b ≡ Done → joined ≡ tried ++ due_instances dues)
             → RanSome head task p.real entries s new later tried joined sent b
         ran_next within stays noted joins = record {
           some = some_next;
@@ -240,7 +240,7 @@ module _ (task : Task) (s : State) (works : s.failed ≡ false) (learnt : IsLear
 -- ---- so far
 
 -- These batches were run, behind which others make all of them whole.
-pub record SoFar (head : Head) (task : Task) (real : ℕ) (entries : List dreams.Entry) (start now : State) (p : Progress)
+pub record SoFar (head : Head) (task : Task) (real : ℕ) (entries : List dreams.SupposedEntry) (start now : State) (p : Progress)
     (tried joined : List Instance) : Type 0 where
   pub sent : List Sent
   pub progress : IsProgress task now.entries p sent
@@ -251,7 +251,7 @@ pub record SoFar (head : Head) (task : Task) (real : ℕ) (entries : List dreams
       → AreBatches (limits_of head) task real entries [] start.entries (done ++ rest) after cut
   pub joins : joined ≡ tried ++ sent_instances sent
 
-module _ (head : Head) (task : Task) (real : ℕ) (entries : List dreams.Entry) where
+module _ (head : Head) (task : Task) (real : ℕ) (entries : List dreams.SupposedEntry) where
   pub so_far_none : (s : State) (p : Progress) (tried : List Instance) → IsProgress task s.entries p []
       → SoFar head task real entries s s p tried tried
   so_far_none s p tried none = record {

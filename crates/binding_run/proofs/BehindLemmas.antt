@@ -11,7 +11,7 @@ use Rattle.transcript_model.specs.Turns.{AreBatches}
 use Rattle.transcript_model.specs.declared.entry.Entry.{Entry}
 use Rattle.transcript_model.specs.declared.head.Head.{Head}
 
-module _ (head : Head) (task : Task) (real : ℕ) (entries : List dreams.Entry) (before : List Entry) (line : Entry) where
+module _ (head : Head) (task : Task) (real : ℕ) (entries : List dreams.SupposedEntry) (before : List Entry) (line : Entry) where
   abbrev Whole : List Entry → Type 0
   Whole now = (after : List Sent) × (cut : Bool) × AreBatchesBehind head task real entries before line now after cut
 

@@ -6,7 +6,7 @@ use Rattle.binding_run.specs.Batching.{AreBatchesBehind, IsFrontBehindLine, MayR
 use Rattle.dream_laws.proofs.DreamLemmas.{dream_asks}
 use Rattle.focused_run.proofs.DreamtLemmas.{idle_one}
 use Rattle.focused_run.proofs.FocusingLemmas.{Dreamt}
-use Rattle.focused_run.specs.Focusing.{HasRoom, RanFocused, carried, idle_of}
+use Rattle.focused_run.specs.Focusing.{HasCallLeft, RanFocused, carried, idle_of}
 use Rattle.level_run.specs.Advancing.{Fits, IsFrontOfTurn}
 use Rattle.level_run.specs.Turns.{cut_by}
 use Rattle.round_run.specs.TurnLines.{opens_requests}
@@ -35,7 +35,7 @@ use Rattle.transcript_model.specs.declared.head.Mode.{Mode}
 use Rattle.transcript_model.specs.declared.head.Mode.TheVariants.{Binding}
 
 module _ (head : Head) (task : Task) (is : head.mode ≡ Binding) (tried : List Instance) (line : Entry)
-    (entries : List dreams.Entry) (old : State) (d : Dreamt (limits_of head) task old.entries tried line entries) where
+    (entries : List dreams.SupposedEntry) (old : State) (d : Dreamt (limits_of head) task old.entries tried line entries) where
   abbrev real : ℕ
   real = length (names_of task old.entries)
 
@@ -75,7 +75,7 @@ module _ (head : Head) (task : Task) (is : head.mode ≡ Binding) (tried : List 
     );
   })
 
-  pub may_run : HasRoom head old → MayRunBehind head line old
+  pub may_run : HasCallLeft head old → MayRunBehind head line old
   may_run room = record {
     mark = ap is_mark d.is;
     opens = ap (opens_requests head.mode) d.is ∙ ap (λ m. opens_requests m (entry.Dream d.uses d.steps)) is;
@@ -84,7 +84,7 @@ module _ (head : Head) (task : Task) (is : head.mode ≡ Binding) (tried : List 
 
   -- ---- what was asked
 
-  module _ (fit : IsFit task) (legal : IsLegal head.version task old.entries) (room : HasRoom head old)
+  module _ (fit : IsFit task) (legal : IsLegal head.version task old.entries) (room : HasCallLeft head old)
       (counted : length old.asked ≡ asks_of old.entries) (new : State) (counted_now : length new.asked ≡ asks_of new.entries)
       (joined : List Instance) (b : Batch)
       (ran : RanBehindLine head task (length (names_of task old.entries)) entries line old new tried joined b) where

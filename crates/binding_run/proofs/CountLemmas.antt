@@ -21,7 +21,7 @@ taken_long : (n : ℕ) (next : List Sent) → length (take n (sent_instances nex
 taken_long n next =
     length-take n (sent_instances next) ∙ ap (min n) (length-map next (λ (s : Sent). s.instance)) ∙ sym (length-take n next)
 
-module _ (limits : Limits) (task : Task) (real : ℕ) (entries : List dreams.Entry) where
+module _ (limits : Limits) (task : Task) (real : ℕ) (entries : List dreams.SupposedEntry) where
   batch_asked : (before now : List Entry) (next : List Sent) → IsBatch limits task before (sent_instances next) now
       → asks_of now ≡ length (take (calls_left limits before) next)
   batch_asked before now next batch =
@@ -79,7 +79,7 @@ module _ (limits : Limits) (task : Task) (real : ℕ) (entries : List dreams.Ent
 -- ---- levels
 
 -- no level stands among the requests and their answers
-pub batches_levels : (limits : Limits) (task : Task) (real : ℕ) (entries : List dreams.Entry) (sent : List Sent)
+pub batches_levels : (limits : Limits) (task : Task) (real : ℕ) (entries : List dreams.SupposedEntry) (sent : List Sent)
     (before now : List Entry) (after : List Sent) (cut : Bool)
     → AreBatches limits task real entries sent before now after cut → count_by is_level now ≡ 0
 batches_levels limits task real entries sent before now after cut (finished none) = refl

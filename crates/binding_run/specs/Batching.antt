@@ -30,12 +30,12 @@ abbrev pub HasProgress : Task → List Entry → Progress → Type 0
 HasProgress task entries p = (sent : List Sent) × IsProgress task entries p sent
 
 -- the entries that a dream's next batch asks, where these were asked of it
-abbrev pub nexts : Task → List Entry → ℕ → List dreams.Entry → List Sent → List Sent
+abbrev pub nexts : Task → List Entry → ℕ → List dreams.SupposedEntry → List Sent → List Sent
 nexts task before real entries sent =
     next_sent task before real sent (asks_of before + 1) (sent_instances sent) entries
 
 -- the first entries of what would be the rest of a dream's batches, where these were asked of it
-abbrev pub IsFrontOfBatches : Head → Task → ℕ → List dreams.Entry → List Sent → List Entry → List Entry → Type 0
+abbrev pub IsFrontOfBatches : Head → Task → ℕ → List dreams.SupposedEntry → List Sent → List Entry → List Entry → Type 0
 IsFrontOfBatches head task real entries sent before =
     IsFrontPart before (λ now. (after : List Sent) × (cut : Bool)
     × AreBatches (limits_of head) task real entries sent before now after cut)
@@ -49,7 +49,7 @@ pub record MayGoOn (head : Head) (task : Task) (p : Progress) (s : State) : Type
 -- ---- one batch
 
 -- A batch was run, and ended so. Where it is whole the asks joined the dream's requests and those that were tried.
-pub record RanSome (head : Head) (task : Task) (real : ℕ) (entries : List dreams.Entry) (old new : State)
+pub record RanSome (head : Head) (task : Task) (real : ℕ) (entries : List dreams.SupposedEntry) (old new : State)
     (later : Progress) (tried joined : List Instance) (sent : List Sent) (b : Batch) : Type 0 where
   pub some : 0 < length (nexts task old.entries real entries sent)
   pub now : List Entry
@@ -61,7 +61,7 @@ pub record RanSome (head : Head) (task : Task) (real : ℕ) (entries : List drea
   pub joins : b ≡ Done → joined ≡ tried ++ sent_instances (nexts task old.entries real entries sent)
 
 -- Nothing was left to ask, and nothing has changed; or a batch was run.
-abbrev pub RanNext : Head → Task → ℕ → List dreams.Entry → (old new : State) → Progress
+abbrev pub RanNext : Head → Task → ℕ → List dreams.SupposedEntry → (old new : State) → Progress
     → (tried joined : List Instance) → List Sent → Option Batch → Type 0
 RanNext head task real entries old new later tried joined sent None =
     (nexts task old.entries real entries sent ≡ []) × (new ≡ old) × (joined ≡ tried)
@@ -78,14 +78,14 @@ Called head task old new was now (Some CallsSpent) =
     × IsSure head task new.entries (outcome.Limit Calls)
 
 -- The next batch was run, whichever requests were made of the dream before.
-pub record RanNextBatch (head : Head) (task : Task) (entries : List dreams.Entry) (old new : State) (p later : Progress)
+pub record RanNextBatch (head : Head) (task : Task) (entries : List dreams.SupposedEntry) (old new : State) (p later : Progress)
     (tried joined : List Instance) (was now : Option (List Event)) (b : Option Batch) : Type 0 where
   pub ran : (sent : List Sent) → IsProgress task old.entries p sent
       → RanNext head task p.real entries old new later tried joined sent b
   pub asks : Called head task old new was now b
 
 -- the first entries of what would be the rest of the dream's batches, whichever these were
-abbrev pub IsFrontOfNext : Head → Task → List dreams.Entry → Progress → List Entry → List Entry → Type 0
+abbrev pub IsFrontOfNext : Head → Task → List dreams.SupposedEntry → Progress → List Entry → List Entry → Type 0
 IsFrontOfNext head task entries p before es =
     (sent : List Sent) → IsProgress task before p sent → IsFrontOfBatches head task p.real entries sent before es
 
@@ -93,7 +93,7 @@ IsFrontOfNext head task entries p before es =
 
 -- All batches of a dream were run, nothing of which was asked before, as far as calls were left. What was asked joined
 -- those that were tried, where no calls were wanting.
-pub record RanBatches (head : Head) (task : Task) (real : ℕ) (entries : List dreams.Entry) (old new : State)
+pub record RanBatches (head : Head) (task : Task) (real : ℕ) (entries : List dreams.SupposedEntry) (old new : State)
     (tried joined : List Instance) (b : Batch) : Type 0 where
   pub now : List Entry
   pub pushed : new.entries ≡ old.entries ++ now
@@ -123,20 +123,20 @@ pub record MayRunBehind (head : Head) (line : Entry) (s : State) : Type 0 where
   pub left : length s.asked < head.calls
 
 -- this entry, and behind it all batches of a dream
-pub record AreBatchesBehind (head : Head) (task : Task) (real : ℕ) (entries : List dreams.Entry) (before : List Entry)
+pub record AreBatchesBehind (head : Head) (task : Task) (real : ℕ) (entries : List dreams.SupposedEntry) (before : List Entry)
     (line : Entry) (now : List Entry) (after : List Sent) (cut : Bool) : Type 0 where
   pub rest : List Entry
   pub is : now ≡ line ∷ rest
   pub batches : AreBatches (limits_of head) task real entries [] (before ++ line ∷ []) rest after cut
 
 -- the first entries of what would be that
-abbrev pub IsFrontBehindLine : Head → Task → ℕ → List dreams.Entry → List Entry → Entry → List Entry → Type 0
+abbrev pub IsFrontBehindLine : Head → Task → ℕ → List dreams.SupposedEntry → List Entry → Entry → List Entry → Type 0
 IsFrontBehindLine head task real entries before line =
     IsFrontPart before (λ now. (after : List Sent) × (cut : Bool)
     × AreBatchesBehind head task real entries before line now after cut)
 
 -- The entry was put behind the transcript, and all batches behind it, as far as calls were left.
-pub record RanBehindLine (head : Head) (task : Task) (real : ℕ) (entries : List dreams.Entry) (line : Entry)
+pub record RanBehindLine (head : Head) (task : Task) (real : ℕ) (entries : List dreams.SupposedEntry) (line : Entry)
     (old new : State) (tried joined : List Instance) (b : Batch) : Type 0 where
   pub now : List Entry
   pub pushed : new.entries ≡ old.entries ++ now

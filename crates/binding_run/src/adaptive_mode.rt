@@ -1,7 +1,7 @@
 //! Adaptive mode.
 ghost use Rattle.binding_run.specs.Adaptive.{RanAdaptive};
 ghost use Rattle.binding_run.specs.Skeletons.{AreFewKept, KeepsOn, idle_with, kept_of};
-ghost use Rattle.focused_run.specs.Focusing.{Begins, HasRoom, IsDreamLine};
+ghost use Rattle.focused_run.specs.Focusing.{BeginsFocusedTurn, HasCallLeft, IsDreamLine};
 ghost use Rattle.level_run.specs.Advancing.{IsFrontOfTurn};
 ghost use Rattle.level_run.specs.Reporting.{EndsRun, MayRun};
 ghost use Rattle.round_run.specs.Desk.{OnTurn, RestsAt};
@@ -43,7 +43,7 @@ impl AdaptiveTurns {
         requires keeps { KeepsOn desk.old.head (skeletons_in self.old.skeletons.items)
             desk.old.state }
         requires rests { RestsAt desk.old (host_told H.running H.spoken H.log H.faults host.old) }
-        requires room { HasRoom desk.old.head desk.old.state }
+        requires room { HasCallLeft desk.old.head desk.old.state }
         requires dream { IsDreamLine (limits_of desk.old.head) desk.old.task
             desk.old.state.entries self.old.tried dream.line dream.entries.items }
         ensures goes { OnTurn desk.old desk.new (stretch H.last H.running H.spoken H.log H.faults
@@ -70,7 +70,7 @@ impl AdaptiveTurns {
         requires keeps { KeepsOn desk.old.head (skeletons_in self.old.skeletons.items)
             desk.old.state }
         requires rests { RestsAt desk.old (host_told H.running H.spoken H.log H.faults host.old) }
-        requires begins { Begins desk.old.task desk.old.head desk.old.state dues.now }
+        requires begins { BeginsFocusedTurn desk.old.task desk.old.head desk.old.state dues.now }
         requires none { HasNoDreamAfter (limits_of desk.old.head) desk.old.task
             desk.old.state.entries self.old.tried }
         ensures goes { OnTurn desk.old desk.new (stretch H.last H.running H.spoken H.log H.faults

@@ -6,8 +6,8 @@ use Rattle.std.specs.Str.Parse.{digits_value}
 use Rattle.transcript_model.proofs.NamesLemmas.{map_some}
 use Rattle.clap.specs.Words.{App, Row, Text, first_of, matches_of}
 use Rattle.command_line.specs.Apps.{deorder_app, generate_app, is_taken, migrate_app, play_app, replay_app, solve_app}
-use Rattle.command_line.specs.Numbers.{are_few_digits, count_in, count_of, count_or, is_count}
-use Rattle.command_line.specs.Ranges.{AreInRange, IsBetween, IsInRange}
+use Rattle.command_line.specs.Numbers.{are_few_digits, count_in, count_in_word, count_or, is_count}
+use Rattle.command_line.specs.Ranges.{AreInRange, IsFromOne, IsInRange}
 use Rattle.command_line.specs.Words.{Command, GivenLimits, PlayWords, ReplayWords, SolveWords, are_apart, command_of, deorder, deorder_of, files_in, generate, generate_in, generate_of, limits_in, migrate, migrate_in, migrate_of, mode_or, path_in, play, play_in, play_of, program_in, read_by, replay, replay_in, replay_of, solve, solve_in, solve_of}
 use Rattle.lemmas.proofs.Options.{and_then_some, where_true}
 use Rattle.std.proofs.lemmas.Option.{same_Some}
@@ -15,7 +15,7 @@ use Rattle.std.proofs.lemmas.Option.{same_Some}
 -- ---- numbers
 
 digits_between : (most : ℕ) (word : Text) → is_count most word ≡ true
-    → IsBetween most (digits_value 10 word)
+    → IsFromOne most (digits_value 10 word)
 unfolding is_count
 digits_between most word e =
     let some = nat_le 1 (digits_value 10 word) in
@@ -24,26 +24,26 @@ digits_between most word e =
       leb-true (digits_value 10 word) most (second_so (are_few_digits word && some) few e),
     )
 
-count_between : (most : ℕ) (word : Text) (n : ℕ) → count_of most word ≡ Some n → IsBetween most n
+count_between : (most : ℕ) (word : Text) (n : ℕ) → count_in_word most word ≡ Some n → IsFromOne most n
 count_between most word n e =
     let found = where_true (is_count most word) (Some (digits_value 10 word)) n e in
-    subst (IsBetween most) (same_Some (digits_value 10 word) n found.1) (digits_between most word found.0)
+    subst (IsFromOne most) (same_Some (digits_value 10 word) n found.1) (digits_between most word found.0)
 
-or_between : (most default : ℕ) → IsBetween most default → (word : Option Text) (n : ℕ)
+or_between : (most default : ℕ) → IsFromOne most default → (word : Option Text) (n : ℕ)
     → count_or most default word ≡ Some n
-    → IsBetween most n
-or_between most default some None n e = subst (IsBetween most) (same_Some default n e) some
+    → IsFromOne most n
+or_between most default some None n e = subst (IsFromOne most) (same_Some default n e) some
 or_between most default some (Some word) n e = count_between most word n e
 
 -- ---- what is read of rows
 
 limits_between : (rows : List Row) (l : GivenLimits) → limits_in rows ≡ Some l
-    → IsBetween 100000 l.calls × IsBetween 200000 l.states × IsBetween 8 l.depth
+    → IsFromOne 100000 l.calls × IsFromOne 200000 l.states × IsFromOne 8 l.depth
 limits_between rows l e =
     let calls = and_then_some _ (count_in (codes "calls") 100000 10000 rows) l e in
     let states = and_then_some _ (count_in (codes "states") 200000 100000 rows) l calls.2 in
     let depth = and_then_some _ (count_in (codes "depth") 8 3 rows) l states.2 in
-    subst (λ (x : GivenLimits). IsBetween 100000 x.calls × IsBetween 200000 x.states × IsBetween 8 x.depth) (same_Some _ l depth.2) (
+    subst (λ (x : GivenLimits). IsFromOne 100000 x.calls × IsFromOne 200000 x.states × IsFromOne 8 x.depth) (same_Some _ l depth.2) (
       or_between 100000 10000 (omega arith, omega arith) (first_of (codes "calls") rows) calls.0 calls.1,
       or_between 200000 100000 (omega arith, omega arith) (first_of (codes "states") rows) states.0 states.1,
       or_between 8 3 (omega arith, omega arith) (first_of (codes "depth") rows) depth.0 depth.1,
@@ -88,24 +88,24 @@ solve_between rows w e =
     subst AreInRange (same_Some made w found.1) ranges
 
 replay_between : (rows : List Row) (w : ReplayWords) → replay_in rows ≡ Some w
-    → IsBetween 200000 w.states
+    → IsFromOne 200000 w.states
 replay_between rows w e =
     let files = and_then_some _ (files_in rows) w e in
     let report = and_then_some _ (first_of (codes "report") rows) w files.2 in
     let states = and_then_some _ (count_in (codes "states") 200000 100000 rows) w report.2 in
-    subst (λ (x : ReplayWords). IsBetween 200000 x.states) (same_Some _ w states.2)
+    subst (λ (x : ReplayWords). IsFromOne 200000 x.states) (same_Some _ w states.2)
     (or_between 200000 100000 (omega arith, omega arith) (first_of (codes "states") rows) states.0 states.1)
 
-play_between : (rows : List Row) (w : PlayWords) → play_in rows ≡ Some w → IsBetween 200000 w.states
+play_between : (rows : List Row) (w : PlayWords) → play_in rows ≡ Some w → IsFromOne 200000 w.states
 play_between rows w e =
     let files = and_then_some _ (files_in rows) w e in
     let report = and_then_some _ (first_of (codes "report") rows) w files.2 in
     let grid = and_then_some _ (first_of (codes "grid") rows) w report.2 in
     let states = and_then_some _ (count_in (codes "states") 200000 100000 rows) w grid.2 in
-    subst (λ (x : PlayWords). IsBetween 200000 x.states) (same_Some _ w states.2)
+    subst (λ (x : PlayWords). IsFromOne 200000 x.states) (same_Some _ w states.2)
     (or_between 200000 100000 (omega arith, omega arith) (first_of (codes "states") rows) states.0 states.1)
 
-generate_between : (rows : List Row) (n : ℕ) → generate_in rows ≡ Some n → IsBetween 12 n
+generate_between : (rows : List Row) (n : ℕ) → generate_in rows ≡ Some n → IsFromOne 12 n
 generate_between rows n e =
     let text = and_then_some _ (first_of (codes "number") rows) n e in
     count_between 12 text.0 n text.2

@@ -16,13 +16,13 @@ is_count most word =
     are_few_digits word && nat_le 1 (digits_value 10 word) && nat_le (digits_value 10 word) most
 
 -- the number that the word writes
-abbrev pub count_of : ℕ → Text → Option ℕ
-count_of most word = if is_count most word then Some (digits_value 10 word) else None
+abbrev pub count_in_word : ℕ → Text → Option ℕ
+count_in_word most word = if is_count most word then Some (digits_value 10 word) else None
 
 -- the number that an option's text writes, and the default where the words lack the option
 abbrev pub count_or : ℕ → ℕ → Option Text → Option ℕ
 count_or most default None = Some default
-count_or most default (Some word) = count_of most word
+count_or most default (Some word) = count_in_word most word
 
 -- the number of the option of this name
 abbrev pub count_in : Text → ℕ → ℕ → List Row → Option ℕ

@@ -7,26 +7,26 @@ use Rattle.command_line.specs.declared.number.TheConstants.{LATEST_PROTOCOL}
 use Rattle.task_model.specs.declared.limits.TheConstants.{MOST_STATES}
 
 -- from 1 to the most
-abbrev pub IsBetween : ℕ → ℕ → Type 0
-IsBetween most n = (1 ≤ n) × (n ≤ most)
+abbrev pub IsFromOne : ℕ → ℕ → Type 0
+IsFromOne most n = (1 ≤ n) × (n ≤ most)
 
 -- `solve`: its numbers are in their ranges, and no program stands beside a map
 pub record AreInRange (w : SolveWords) : Type 0 where
-  pub calls : IsBetween MOST_CALLS w.limits.calls
-  pub states : IsBetween MOST_STATES w.limits.states
-  pub depth : IsBetween MOST_DEPTH w.limits.depth
-  pub workers : IsBetween WORKERS w.workers
-  pub protocol : IsBetween LATEST_PROTOCOL w.protocol
+  pub calls : IsFromOne MOST_CALLS w.limits.calls
+  pub states : IsFromOne MOST_STATES w.limits.states
+  pub depth : IsFromOne MOST_DEPTH w.limits.depth
+  pub workers : IsFromOne WORKERS w.workers
+  pub protocol : IsFromOne LATEST_PROTOCOL w.protocol
   pub alone : (path : Text) → w.path ≡ Some path → w.program ≡ []
 
 -- the numbers of the command are in their ranges
 abbrev pub IsInRange : Command → Type 0
 IsInRange (solve w) = AreInRange w
-IsInRange (replay w) = IsBetween MOST_STATES w.states
-IsInRange (generate n) = IsBetween 12 n
+IsInRange (replay w) = IsFromOne MOST_STATES w.states
+IsInRange (generate n) = IsFromOne 12 n
 IsInRange (migrate path) = ⊤
-IsInRange (deorder w) = IsBetween MOST_STATES w.states
-IsInRange (play w) = IsBetween MOST_STATES w.states
+IsInRange (deorder w) = IsFromOne MOST_STATES w.states
+IsInRange (play w) = IsFromOne MOST_STATES w.states
 
 -- whatever the words are
 abbrev pub WordsAreInRange : Type 0

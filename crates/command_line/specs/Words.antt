@@ -5,7 +5,7 @@ use Rattle.transcript_model.specs.declared.head.Mode.{Mode}
 use Rattle.transcript_model.specs.declared.head.Mode.TheVariants.{Incremental, Focused, Binding, Adaptive}
 use Rattle.transcript_model.specs.declared.limits.TheConstants.{MOST_CALLS, MOST_DEPTH, WORKERS}
 use Rattle.command_line.specs.Apps.{deorder_app, generate_app, is_taken, migrate_app, play_app, replay_app, solve_app}
-use Rattle.command_line.specs.Numbers.{count_in, count_of}
+use Rattle.command_line.specs.Numbers.{count_in, count_in_word}
 use Rattle.command_line.specs.declared.number.TheConstants.{DEFAULT_CALLS, DEFAULT_DEPTH, DEFAULT_STATES, LATEST_PROTOCOL}
 use Rattle.task_model.specs.declared.limits.TheConstants.{MOST_STATES}
 
@@ -57,23 +57,23 @@ pub data Command : Type 0 where
 -- ---- what is read of the rows that clap makes of the words
 
 -- what is made of a value, and nothing where there is none
-abbrev pub given : {A B : Type 0} → Option A → (A → Option B) → Option B
-given value make = option_and_then make value
+abbrev pub if_given : {A B : Type 0} → Option A → (A → Option B) → Option B
+if_given value make = option_and_then make value
 
 -- the paths of the task
 abbrev pub files_in : List Row → Option TaskFiles
 files_in rows =
-    given (first_of (codes "domain") rows) (λ domain.
-    given (first_of (codes "problem") rows) (λ problem.
-    given (first_of (codes "streams") rows) (λ streams.
+    if_given (first_of (codes "domain") rows) (λ domain.
+    if_given (first_of (codes "problem") rows) (λ problem.
+    if_given (first_of (codes "streams") rows) (λ streams.
     Some (record { domain = domain; problem = problem; streams = streams }))))
 
 -- the limits, and the default of each that the words lack
 abbrev pub limits_in : List Row → Option GivenLimits
 limits_in rows =
-    given (count_in (codes "calls") MOST_CALLS DEFAULT_CALLS rows) (λ calls.
-    given (count_in (codes "states") MOST_STATES DEFAULT_STATES rows) (λ states.
-    given (count_in (codes "depth") MOST_DEPTH DEFAULT_DEPTH rows) (λ depth.
+    if_given (count_in (codes "calls") MOST_CALLS DEFAULT_CALLS rows) (λ calls.
+    if_given (count_in (codes "states") MOST_STATES DEFAULT_STATES rows) (λ states.
+    if_given (count_in (codes "depth") MOST_DEPTH DEFAULT_DEPTH rows) (λ depth.
     Some (record { calls = calls; states = states; depth = depth }))))
 
 -- the mode of this name, and incremental mode where the words name none
@@ -108,11 +108,11 @@ program_in rows = words_or (all_of (codes "program") rows)
 -- the words of `solve`
 abbrev pub solve_in : List Row → Option SolveWords
 solve_in rows =
-    given (files_in rows) (λ files.
-    given (mode_or (first_of (codes "algorithm") rows)) (λ mode.
-    given (limits_in rows) (λ limits.
-    given (count_in (codes "workers") WORKERS 1 rows) (λ workers.
-    given (count_in (codes "protocol") LATEST_PROTOCOL 1 rows) (λ protocol.
+    if_given (files_in rows) (λ files.
+    if_given (mode_or (first_of (codes "algorithm") rows)) (λ mode.
+    if_given (limits_in rows) (λ limits.
+    if_given (count_in (codes "workers") WORKERS 1 rows) (λ workers.
+    if_given (count_in (codes "protocol") LATEST_PROTOCOL 1 rows) (λ protocol.
     if are_apart (path_in rows) (first_of (codes "workers") rows) (program_in rows)
     then Some (record {
       files = files;
@@ -128,23 +128,23 @@ solve_in rows =
 -- the words of `replay` and `deorder`
 abbrev pub replay_in : List Row → Option ReplayWords
 replay_in rows =
-    given (files_in rows) (λ files.
-    given (first_of (codes "report") rows) (λ report.
-    given (count_in (codes "states") MOST_STATES DEFAULT_STATES rows) (λ states.
+    if_given (files_in rows) (λ files.
+    if_given (first_of (codes "report") rows) (λ report.
+    if_given (count_in (codes "states") MOST_STATES DEFAULT_STATES rows) (λ states.
     Some (record { files = files; report = report; states = states }))))
 
 -- the words of `play`
 abbrev pub play_in : List Row → Option PlayWords
 play_in rows =
-    given (files_in rows) (λ files.
-    given (first_of (codes "report") rows) (λ report.
-    given (first_of (codes "grid") rows) (λ grid.
-    given (count_in (codes "states") MOST_STATES DEFAULT_STATES rows) (λ states.
+    if_given (files_in rows) (λ files.
+    if_given (first_of (codes "report") rows) (λ report.
+    if_given (first_of (codes "grid") rows) (λ grid.
+    if_given (count_in (codes "states") MOST_STATES DEFAULT_STATES rows) (λ states.
     Some (record { files = files; report = report; grid = grid; states = states })))))
 
 -- the words of `generate`
 abbrev pub generate_in : List Row → Option ℕ
-generate_in rows = given (first_of (codes "number") rows) (count_of 12)
+generate_in rows = if_given (first_of (codes "number") rows) (count_in_word 12)
 
 -- the words of `migrate`: the path of the report
 abbrev pub migrate_in : List Row → Option Text

@@ -1,7 +1,7 @@
 //! The numbers that words write.
 ghost use Rattle.std.specs.Prelude.{◌≡◌, ◌≤◌, IfSome};
 ghost use Rattle.clap.specs.Words.{found_of, rows_of};
-ghost use Rattle.command_line.specs.Numbers.{count_in, count_of};
+ghost use Rattle.command_line.specs.Numbers.{count_in, count_in_word};
 
 use crate::line::text_in;
 use clap::ArgMatches;
@@ -23,7 +23,7 @@ pub const LATEST_PROTOCOL: u32 = 2;
 /// word writes none.
 #[tactic(auto, unfolding(crate::specs::Numbers::is_count))]
 pub(crate) fn count_of(word: &str, most: u32) -> Option<u32>
-    ensures value { result ≡ count_of most word.now }
+    ensures value { result ≡ count_in_word most word.now }
     ensures within { IfSome result (λ count. (1 ≤ count) × (count ≤ most)) }
 {
     if word.is_empty() || word.len() > 7 {

@@ -25,7 +25,7 @@ use Rattle.form_reader.specs.Faults.{shape, unsupported}
 use Rattle.form_reader.specs.Items.{item_of}
 use Rattle.form_reader.specs.Keys.{action_key_of, by_key, key_of, keyed_faults, keys_faults, value_faults, valued_faults}
 use Rattle.form_reader.specs.Rows.{head_of, inner_of, tail_of}
-use Rattle.name_tables.specs.Names.{has_name, with_name}
+use Rattle.name_tables.specs.Names.{has_name, with_table_name}
 use Rattle.name_tables.specs.Variables.{doubles_names, named_sorts, named_words, scope_names, types_names}
 use Rattle.name_tables.specs.declared.vocabulary.Vocabulary.{Vocabulary}
 use Rattle.name_tables.proofs.FitConditions.{condition_fits}
@@ -270,7 +270,7 @@ distinct_first n ns absent d (suc i) zero x e f = absurd (absent (name_there n n
 distinct_first n ns absent d (suc i) (suc j) x e f = ap suc (d i j x e f)
 
 new_first : (seen : List (List ℕ)) (n : List ℕ) (ns : List (List ℕ)) → is_name n ≡ true
-    → has_name n seen ≡ false → AreNew (with_name seen n) ns → AreNew seen (n ∷ ns)
+    → has_name n seen ≡ false → AreNew (with_table_name seen n) ns → AreNew seen (n ∷ ns)
 new_first seen n ns one fresh new = record {
   each = and_from (is_name n) (list_all is_name ns) one new.each;
   absent = λ m h k. elim (or_cases (bytes_eq m n) (has_name m ns) k) [
@@ -296,9 +296,9 @@ new_names v heads seen (list items at rest) c n =
           let own = once true name at seen in
           let fresh : has_name name seen ≡ false =
           not-true (has_name name seen)
-          (met (not (has_name name seen)) Duplicate at (append_nil_first own (second_actions (with_name seen name) rest) m)) in
+          (met (not (has_name name seen)) Duplicate at (append_nil_first own (second_actions (with_table_name seen name) rest) m)) in
           new_first seen name (names (actions_of v rest)) (clean_action v heads it (tail_of items) e c.0).named fresh
-          (new_names v heads (with_name seen name) rest c.1 (append_nil_second own (second_actions (with_name seen name) rest) m))
+          (new_names v heads (with_table_name seen name) rest c.1 (append_nil_second own (second_actions (with_table_name seen name) rest) m))
       | false ↦ λ e m. new_names v heads seen rest c.1 m
     ] refl n
 

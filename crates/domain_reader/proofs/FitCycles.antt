@@ -23,8 +23,8 @@ use Rattle.form_reader.specs.Items.{item_of}
 use Rattle.form_reader.specs.Rows.{head_of, inner_of, tail_of}
 use Rattle.form_reader.specs.Words.{condition_head_of}
 use Rattle.name_tables.specs.Conditions.{condition_by, condition_names, condition_of, conditions_names, conditions_of, equal_of, exists_names, exists_of, single_of, truth}
-use Rattle.name_tables.specs.Graphs.{leads}
-use Rattle.name_tables.specs.Names.{place_of}
+use Rattle.name_tables.specs.Graphs.{has_edge}
+use Rattle.name_tables.specs.Names.{table_place}
 use Rattle.name_tables.specs.Terms.{application_names, declared_place, terms_names, terms_of, use_names, width}
 use Rattle.name_tables.specs.Variables.{named_words, variables_names}
 use Rattle.name_tables.specs.Vocabulary.{arity_of}
@@ -45,7 +45,7 @@ use Rattle.name_tables.specs.declared.cycles.Candidate.{Candidate}
 module _ (predicates : List (List ℕ)) where
   -- what was led to stays led to, and there are as many lists
   record Grows (old new : List (List ℕ)) : Type 0 where
-    keeps : (a b : ℕ) → leads old a b ≡ true → leads new a b ≡ true
+    keeps : (a b : ℕ) → has_edge old a b ≡ true → has_edge new a b ≡ true
     long : length new ≡ length old
 
   grows_none : (edges : List (List ℕ)) → Grows edges edges
@@ -66,42 +66,42 @@ module _ (predicates : List (List ℕ)) where
   mentions_grow edges from nothing = grows_none edges
   mentions_grow edges from (word text at rest) = mentions_grow edges from rest
   mentions_grow edges from (list items at rest) =
-      let put = mention_put edges from (place_of (head_of items) predicates) in
+      let put = mention_put edges from (table_place (head_of items) predicates) in
       let inside = mentions_in predicates put from items in
-      grows_then edges put (mentions_in predicates inside from rest) (put_grows edges from (place_of (head_of items) predicates))
+      grows_then edges put (mentions_in predicates inside from rest) (put_grows edges from (table_place (head_of items) predicates))
       (grows_then put inside (mentions_in predicates inside from rest) (mentions_grow put from items) (mentions_grow inside from rest))
 
   -- the trees lead to a predicate
   abbrev Reaches : ℕ → ℕ → Trees → Type 0
   Reaches from b ts =
       (edges : List (List ℕ)) → from < length edges
-      → leads (mentions_in predicates edges from ts) from b ≡ true
+      → has_edge (mentions_in predicates edges from ts) from b ≡ true
 
   reaches_first : (from b : ℕ) (items : Trees) (at : ℕ) (rest : Trees)
-      → place_of (head_of items) predicates ≡ Some b → Reaches from b (list items at rest)
+      → table_place (head_of items) predicates ≡ Some b → Reaches from b (list items at rest)
   reaches_first from b items at rest e edges lt =
-      let put = mention_put edges from (place_of (head_of items) predicates) in
+      let put = mention_put edges from (table_place (head_of items) predicates) in
       let inside = mentions_in predicates put from items in
-      let here : leads put from b ≡ true = subst (λ o. leads (mention_put edges from o) from b ≡ true) (sym e) (put_gets edges from b lt) in
+      let here : has_edge put from b ≡ true = subst (λ o. has_edge (mention_put edges from o) from b ≡ true) (sym e) (put_gets edges from b lt) in
       (mentions_grow inside from rest).keeps from b ((mentions_grow put from items).keeps from b here)
 
   reaches_inside : (from b : ℕ) (items : Trees) (at : ℕ) (rest : Trees) → Reaches from b items
       → Reaches from b (list items at rest)
   reaches_inside from b items at rest r edges lt =
-      let put = mention_put edges from (place_of (head_of items) predicates) in
+      let put = mention_put edges from (table_place (head_of items) predicates) in
       (mentions_grow (mentions_in predicates put from items) from rest).keeps from b
-      (r put (omega (arith, lt, (put_grows edges from (place_of (head_of items) predicates)).long)))
+      (r put (omega (arith, lt, (put_grows edges from (table_place (head_of items) predicates)).long)))
 
   reaches_behind : (from b : ℕ) (items : Trees) (at : ℕ) (rest : Trees) → Reaches from b rest
       → Reaches from b (list items at rest)
   reaches_behind from b items at rest r edges lt =
-      let put = mention_put edges from (place_of (head_of items) predicates) in
+      let put = mention_put edges from (table_place (head_of items) predicates) in
       r (mentions_in predicates put from items)
-      (omega (arith, lt, (put_grows edges from (place_of (head_of items) predicates)).long, (mentions_grow put from items).long))
+      (omega (arith, lt, (put_grows edges from (table_place (head_of items) predicates)).long, (mentions_grow put from items).long))
 
   -- of the list of these trees, by its head or by what is in it
   abbrev ReachesList : ℕ → ℕ → Trees → Type 0
-  ReachesList from b ts = (place_of (head_of ts) predicates ≡ Some b) ⊎ Reaches from b ts
+  ReachesList from b ts = (table_place (head_of ts) predicates ≡ Some b) ⊎ Reaches from b ts
 
   reaches_list : (from b : ℕ) (items : Trees) (at : ℕ) (rest : Trees) → ReachesList from b items
       → Reaches from b (list items at rest)
@@ -145,11 +145,11 @@ module _ (v : Vocabulary) (from b : ℕ) where
 
   atom_place : (scope : List (List ℕ)) (place : ℕ) (text : List ℕ) (at : ℕ) (rest : Trees)
       → application_names v.predicates v.objects scope place (word text at rest) ≡ []
-      → (declared_place v.predicates text == b) ≡ true → place_of text predicates ≡ Some b
+      → (declared_place v.predicates text == b) ≡ true → table_place text predicates ≡ Some b
   atom_place scope place text at rest n same =
       let uses = use_names (arity_of v.predicates text) (width rest) at place in
       let found =
-      place_used v.predicates (place_of text predicates)
+      place_used v.predicates (table_place text predicates)
       (width rest) at place (append_nil_first uses (terms_names v.objects scope rest) n) in
       found.1 ∙ ap Some (ap (λ o. unwrap_or o 0) (sym found.1) ∙ eqb-true (declared_place v.predicates text) b same)
 
@@ -239,13 +239,13 @@ module _ (v : Vocabulary) (heads : List (List ℕ)) where
       → ((rule_of v (tail_of items)).pred == a) ≡ true → derived_place table items ≡ Some a
   item_place items a e c same =
       let found = rule_there v (tail_of items) (derived_rule v heads (item_of text.Domain (head_of items)) (tail_of items) e c) in
-      ap (λ b. if b then place_of (headed items) table else None) e ∙ found.1
+      ap (λ b. if b then table_place (headed items) table else None) e ∙ found.1
       ∙ ap Some (sym (rule_pred v (tail_of items) found.0 found.1) ∙ eqb-true (rule_of v (tail_of items)).pred a same)
 
   placed_within : (items : Trees) (a : ℕ) → derived_place table items ≡ Some a → a < length table
   placed_within items a e =
       elim (is_derived_item (item_of text.Domain (head_of items))) as
-      (λ b. (if b then place_of (headed items) table else None) ≡ Some a → a < length table) [
+      (λ b. (if b then table_place (headed items) table else None) ≡ Some a → a < length table) [
         | true ↦ λ f. place_within (headed items) table a f
         | false ↦ λ f. absurd (cc)
       ] e
@@ -254,19 +254,19 @@ module _ (v : Vocabulary) (heads : List (List ℕ)) where
       → is_derived_item (item_of text.Domain (head_of items)) ≡ true
       → IsClean v heads (item_of text.Domain (head_of items)) (tail_of items)
       → rests a b (rule_of v (tail_of items)) ≡ true
-      → leads (body_put table edges (derived_place table items) (tail_of (tail_of items))) a b ≡ true
+      → has_edge (body_put table edges (derived_place table items) (tail_of (tail_of items))) a b ≡ true
   rule_leads edges items a b long e c h =
       let r = rule_of v (tail_of items) in
       let at : derived_place table items ≡ Some a = item_place items a e c (first_so (r.pred == a) (mentions b r.body) h) in
       let scope = named_words Start (tail_of (inner_of (tail_of items))) in
       let named = rule_body v (tail_of items) (derived_rule v heads (item_of text.Domain (head_of items)) (tail_of items) e c) in
-      subst (λ o. leads (body_put table edges o (tail_of (tail_of items))) a b ≡ true) (sym at)
+      subst (λ o. has_edge (body_put table edges o (tail_of (tail_of items))) a b ≡ true) (sym at)
       (single_reaches v a b scope (tail_of (tail_of items)) named
       (second_so (r.pred == a) (mentions b r.body) h) edges (omega (arith, long, placed_within items a at)))
 
   rules_lead : (edges : List (List ℕ)) (body : Trees) (a b : ℕ) → length edges ≡ length table
       → AreClean v heads body → list_any (rests a b) (rules_of v body) ≡ true
-      → leads (bodies_in table edges body) a b ≡ true
+      → has_edge (bodies_in table edges body) a b ≡ true
   rules_lead edges nothing a b long c h = absurd (cc)
   rules_lead edges (word w at rest) a b long c h = rules_lead edges rest a b long c h
   rules_lead edges (list items at rest) a b long c h =
@@ -275,7 +275,7 @@ module _ (v : Vocabulary) (heads : List (List ℕ)) where
       let more = rules_lead put rest a b ((body_grows table edges (derived_place table items) (tail_of (tail_of items))).long ∙ long) c.1 in
       elim (is_derived_item it) as (λ d.
       is_derived_item it ≡ d → list_any (rests a b) ((if d then rule_of v (tail_of items) ∷ [] else []) ++ rules_of v rest) ≡ true
-      → leads (bodies_in table put rest) a b ≡ true) [
+      → has_edge (bodies_in table put rest) a b ≡ true) [
         | true ↦ λ e g. elim (or_cases (rests a b (rule_of v (tail_of items))) (list_any (rests a b) (rules_of v rest)) g) [
           | inl f ↦ (bodies_grow table put rest).keeps a b (rule_leads edges items a b long e c.0 f)
           | inr f ↦ more f
@@ -320,11 +320,11 @@ rules_acyclic v heads d body clean rules acyclic pred between l =
     rests_on a b h = subst (λ rs. list_any (rests a b) rs ≡ true) rules h
 
     step : (a b : ℕ) → depends d a b ≡ true
-        → leads (derived_edges v.predicates.names body) a b ≡ true
+        → has_edge (derived_edges v.predicates.names body) a b ≡ true
     step a b h = rules_lead v heads (no_edges v.predicates.names) body a b (no_edges_long v.predicates.names) clean (rests_on a b h)
 
     along : (a : ℕ) (ms : List ℕ) (b : ℕ) → LeadsAlong (depends d) a ms b
-        → LeadsAlong (leads (derived_edges v.predicates.names body)) a ms b
+        → LeadsAlong (has_edge (derived_edges v.predicates.names body)) a ms b
     along a [] b h = step a b h
     along a (m ∷ ms) b h = (step a m h.0, along m ms b h.1)
 

@@ -11,7 +11,7 @@ use Rattle.task_model.specs.declared.domain.Domain.{Domain}
 use Rattle.form_reader.specs.declared.fault.InputFault.{InputFault}
 use Rattle.form_reader.specs.declared.fault.InputKind.TheVariants.{DerivedCycle, TypeCycle}
 use Rattle.form_reader.specs.declared.items.TextKind.TheVariants as text
-use Rattle.name_tables.specs.Sizes.{IsBounded}
+use Rattle.name_tables.specs.Sizes.{IsBoundedTree}
 use Rattle.name_tables.specs.declared.vocabulary.Vocabulary.{Vocabulary}
 use Rattle.name_tables.proofs.OneTreeLemmas.{tree_there}
 use Rattle.domain_reader.proofs.FitItems.{AreClean, items_clean, text_formed}
@@ -63,7 +63,7 @@ all_named v body n =
           (append_nil_second (plain_names v body ++ n.types) n.derived whole) n.derived_right;
     }
 
-pub fit_domain : (t : Trees) (d : Domain) → (t ≡ nothing → ⊥) → IsDomainRead t d → IsBounded t
+pub fit_domain : (t : Trees) (d : Domain) → (t ≡ nothing → ⊥) → IsDomainRead t d → IsBoundedTree t
     → IsFitDomain d
 fit_domain t d there read bounded =
     let v = domain_names t in
@@ -105,6 +105,6 @@ fit_domain t d there read bounded =
 
 -- where it was read
 pub fit_if_read : (t : Tree) (result : Result Domain InputFault) → DomainReads (tree t) result
-    → IfOk result (λ d. IsBounded (tree t) → IsFitDomain d)
+    → IfOk result (λ d. IsBoundedTree (tree t) → IsFitDomain d)
 fit_if_read t (Ok d) read = λ bounded. fit_domain (tree t) d (tree_there t) read bounded
 fit_if_read t (Err fault) read = tt

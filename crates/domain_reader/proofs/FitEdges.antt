@@ -6,7 +6,7 @@ use Rattle.lemmas.specs.Lists.{LeadsAlong, has_number}
 use Rattle.form_reader.specs.declared.fault.Fault.{Fault}
 use Rattle.form_reader.specs.declared.fault.InputKind.{InputKind}
 use Rattle.name_tables.specs.Declarations.{number_put}
-use Rattle.name_tables.specs.Graphs.{HasWay, leads}
+use Rattle.name_tables.specs.Graphs.{HasWay, has_edge}
 use Rattle.name_tables.proofs.GraphsOrderLemmas.{in_with, with_in}
 use Rattle.name_tables.proofs.FitDeclared.{put_behind}
 use Rattle.name_tables.proofs.NoFaultLemmas.{some_fault}
@@ -16,19 +16,19 @@ use Rattle.name_tables.specs.declared.cycles.Candidate.{Candidate}
 -- ---- one more edge
 
 behind_leads : (ns : List ℕ) (lists : List (List ℕ)) (place n a b : ℕ)
-    → leads (number_put (ns ∷ lists) (suc place) n) (suc a) b ≡ leads (number_put lists place n) a b
+    → has_edge (number_put (ns ∷ lists) (suc place) n) (suc a) b ≡ has_edge (number_put lists place n) a b
 behind_leads ns lists place n a b =
-    ap (λ es. leads es (suc a) b) (put_behind ns lists place n (slice_get lists place))
+    ap (λ es. has_edge es (suc a) b) (put_behind ns lists place n (slice_get lists place))
 
 first_leads : (ns : List ℕ) (lists : List (List ℕ)) (place n b : ℕ)
-    → leads (number_put (ns ∷ lists) (suc place) n) zero b ≡ has_number ns b
+    → has_edge (number_put (ns ∷ lists) (suc place) n) zero b ≡ has_number ns b
 first_leads ns lists place n b =
-    ap (λ es. leads es zero b) (put_behind ns lists place n (slice_get lists place))
+    ap (λ es. has_edge es zero b) (put_behind ns lists place n (slice_get lists place))
 
 -- what an edge leads to was led to before, or it is the new edge
 pub put_leads : (lists : List (List ℕ)) (place n a b : ℕ)
-    → leads (number_put lists place n) a b ≡ true
-    → (leads lists a b ≡ true) ⊎ ((a ≡ place) × (b ≡ n))
+    → has_edge (number_put lists place n) a b ≡ true
+    → (has_edge lists a b ≡ true) ⊎ ((a ≡ place) × (b ≡ n))
 put_leads [] place n a b h = inl h
 put_leads (ns ∷ lists) zero n zero b h =
     elim (in_with ns n b h) [ inl e ↦ inr (refl, e) | inr e ↦ inl e ]
@@ -37,8 +37,8 @@ put_leads (ns ∷ lists) (suc place) n zero b h = inl (sym (first_leads ns lists
 put_leads (ns ∷ lists) (suc place) n (suc a) b h =
     elim (put_leads lists place n a b (sym (behind_leads ns lists place n a b) ∙ h)) [ inl e ↦ inl e | inr e ↦ inr (ap suc e.0, e.1) ]
 
-pub put_keeps : (lists : List (List ℕ)) (place n a b : ℕ) → leads lists a b ≡ true
-    → leads (number_put lists place n) a b ≡ true
+pub put_keeps : (lists : List (List ℕ)) (place n a b : ℕ) → has_edge lists a b ≡ true
+    → has_edge (number_put lists place n) a b ≡ true
 put_keeps [] place n a b h = h
 put_keeps (ns ∷ lists) zero n zero b h = with_in ns n b (inr h)
 put_keeps (ns ∷ lists) zero n (suc a) b h = h
@@ -47,7 +47,7 @@ put_keeps (ns ∷ lists) (suc place) n (suc a) b h =
     behind_leads ns lists place n a b ∙ put_keeps lists place n a b h
 
 pub put_gets : (lists : List (List ℕ)) (place n : ℕ) → place < length lists
-    → leads (number_put lists place n) place n ≡ true
+    → has_edge (number_put lists place n) place n ≡ true
 put_gets [] place n lt = absurd (omega arith)
 put_gets (ns ∷ lists) zero n lt = with_in ns n n (inl refl)
 put_gets (ns ∷ lists) (suc place) n lt =
@@ -72,13 +72,13 @@ none_cyclic {kind} {edges} cs fs (free {c = c} {cs = ds} {fs = gs} way rest) non
 
 -- the end of a way is led to
 pub way_within : (edges : List (List ℕ)) (P : ℕ → Type 0)
-    → ((a b : ℕ) → leads edges a b ≡ true → P b) → (a : ℕ) (between : List ℕ) (b : ℕ)
-    → LeadsAlong (leads edges) a between b → P b
+    → ((a b : ℕ) → has_edge edges a b ≡ true → P b) → (a : ℕ) (between : List ℕ) (b : ℕ)
+    → LeadsAlong (has_edge edges) a between b → P b
 way_within edges P each a [] b l = each a b l
 way_within edges P each a (m ∷ ms) b l = way_within edges P each m ms b l.1
 
 pub way_joined : (edges : List (List ℕ)) (a : ℕ) (between : List ℕ) (m : ℕ) (more : List ℕ) (b : ℕ)
-    → LeadsAlong (leads edges) a between m → LeadsAlong (leads edges) m more b
-    → LeadsAlong (leads edges) a (between ++ m ∷ more) b
+    → LeadsAlong (has_edge edges) a between m → LeadsAlong (has_edge edges) m more b
+    → LeadsAlong (has_edge edges) a (between ++ m ∷ more) b
 way_joined edges a [] m more b l r = (l, r)
 way_joined edges a (n ∷ ns) m more b l r = (l.0, way_joined edges n ns m more b l.1 r)

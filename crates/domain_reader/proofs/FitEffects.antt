@@ -22,7 +22,7 @@ use Rattle.form_reader.specs.Rows.{application_faults, end_faults, head_of, inne
 use Rattle.task_model.specs.Numbers.{is_number}
 use Rattle.task_model.proofs.NumbersLemmas.{number_few}
 use Rattle.form_reader.specs.Words.{effect_head_of, is_predicate_name, is_refused_effect}
-use Rattle.name_tables.specs.Names.{has_name, place_of}
+use Rattle.name_tables.specs.Names.{has_name, table_place}
 use Rattle.name_tables.specs.Terms.{application_names, declared_place, terms_names, terms_of, use_names, width, pattern_of}
 use Rattle.name_tables.specs.Variables.{unless}
 use Rattle.name_tables.specs.Vocabulary.{arity_of}
@@ -114,7 +114,7 @@ unless_other false x xs ys e = e
 -- the predicates that are there and that no item heads aren't derived
 abbrev pub ArePlain : Vocabulary → domain.Domain → List (List ℕ) → Type 0
 ArePlain v d heads =
-    (name : List ℕ) (pred : ℕ) → place_of name v.predicates.names ≡ Some pred
+    (name : List ℕ) (pred : ℕ) → table_place name v.predicates.names ≡ Some pred
     → has_name name heads ≡ false → is_derived_role (role_of d pred) ≡ false
 
 abbrev pub is_free : domain.Domain → Pattern → Bool
@@ -170,7 +170,7 @@ module _ (v : Vocabulary) (d : domain.Domain) (knows : Knows v d (length d.const
       let bound = unless (not (marked text)) EffectOnStatic place in
       let uses = use_names (arity_of v.predicates text) (width rest) at place in
       let found =
-      place_used v.predicates (place_of text v.predicates.names)
+      place_used v.predicates (table_place text v.predicates.names)
       (width rest) at place (append_nil_first uses (terms_names v.objects scope rest) (append_nil_first application bound n)) in
       let there : has_name text v.predicates.names ≡ true =
       name_there text v.predicates.names found.0 (place_named text v.predicates.names found.0 found.1) in

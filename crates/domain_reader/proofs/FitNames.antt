@@ -23,7 +23,7 @@ use Rattle.form_reader.specs.Faults.{shape}
 use Rattle.form_reader.specs.Items.{after_function_word, function_list_faults, function_word_fault, functions_faults, item_of, or_behind, predicates_faults}
 use Rattle.form_reader.specs.Rows.{after_word, declaration_faults, groups_faults, head_of, is_dash, list_fault, tail_of}
 use Rattle.form_reader.specs.Words.{is_change, is_connective, is_of, is_predicate_name}
-use Rattle.name_tables.specs.Names.{Signed, has_name, with_name, with_signature}
+use Rattle.name_tables.specs.Names.{Signed, has_name, with_table_name, with_signature}
 use Rattle.name_tables.specs.Variables.{doubles_names, is_named, named_words, seen_after, types_names, unless}
 use Rattle.name_tables.specs.declared.vocabulary.Vocabulary.{Vocabulary}
 use Rattle.name_tables.proofs.FitDeclared.{named_names, named_with, seen_names}
@@ -48,7 +48,7 @@ table_more most more names le t =
     record { distinct = t.distinct; named = t.named; few = omega (arith, t.few) }
 
 pub table_with : (most : ℕ) (names : List (List ℕ)) (name : List ℕ) → IsTable most names
-    → is_name name ≡ true → IsTable (most + 1) (with_name names name)
+    → is_name name ≡ true → IsTable (most + 1) (with_table_name names name)
 table_with most names name t one = record {
   distinct = with_name-distinct names name t.distinct;
   named = named_with names name t.named one;
@@ -59,7 +59,7 @@ table_with most names name t one = record {
 abbrev pub Known : List (List ℕ) → List (List ℕ) → Type 0
 Known names table = (n : List ℕ) → has_name n names ≡ true → has_name n table ≡ true
 
-pub known_with : (names : List (List ℕ)) (name : List ℕ) → Known names (with_name names name)
+pub known_with : (names : List (List ℕ)) (name : List ℕ) → Known names (with_table_name names name)
 known_with names name n h =
     elim (has_name name names) as (λ b. has_name n (cond b names (names ++ name ∷ [])) ≡ true) [
       | true ↦ h
@@ -101,14 +101,14 @@ types_table most place spot names (list items at rest) t e = absurd (list_stands
     list_stands spot f = some_fault (list_fault spot items at) [] f
 types_table most place spot names (word text at rest) t e =
     elim (is_dash text) as
-    (λ b. is_dash text ≡ b → IsTable (most + (length text + size rest)) (types_in (cond b names (with_name names text)) rest)) [
+    (λ b. is_dash text ≡ b → IsTable (most + (length text + size rest)) (types_in (cond b names (with_table_name names text)) rest)) [
       | true ↦ λ _. table_more (most + size rest) (most + (length text + size rest)) (types_in names rest)
           (omega arith) (types_table most place (after_word spot text) names rest t (rest_formed spot text place at rest e))
       | false ↦ λ other.
           let one = type_there spot text place at rest other e in
-          table_more (most + 1 + size rest) (most + (length text + size rest)) (types_in (with_name names text) rest)
+          table_more (most + 1 + size rest) (most + (length text + size rest)) (types_in (with_table_name names text) rest)
           (omega (arith, name_long text one))
-          (types_table (most + 1) place (after_word spot text) (with_name names text) rest
+          (types_table (most + 1) place (after_word spot text) (with_table_name names text) rest
           (table_with most names text t one) (rest_formed spot text place at rest e))
     ] refl
 
@@ -277,7 +277,7 @@ tables_more most more v le a = record {
 }
 
 first_with : (names : List (List ℕ)) (name first : List ℕ) → slice_get names 0 ≡ Some first
-    → slice_get (with_name names name) 0 ≡ Some first
+    → slice_get (with_table_name names name) 0 ≡ Some first
 first_with [] name first e = absurd (cc)
 first_with (n ∷ ns) name first e =
     elim (has_name name (n ∷ ns)) as (λ b. slice_get (cond b (n ∷ ns) (n ∷ ns ++ name ∷ [])) 0 ≡ Some first) [
@@ -290,8 +290,8 @@ types_first : (names : List (List ℕ)) (ts : Trees) (first : List ℕ) → slic
 types_first names nothing first e = e
 types_first names (list items at rest) first e = types_first names rest first e
 types_first names (word text at rest) first e =
-    types_first (cond (is_dash text) names (with_name names text)) rest first
-    (elim (is_dash text) as (λ b. slice_get (cond b names (with_name names text)) 0 ≡ Some first) [
+    types_first (cond (is_dash text) names (with_table_name names text)) rest first
+    (elim (is_dash text) as (λ b. slice_get (cond b names (with_table_name names text)) 0 ≡ Some first) [
       | true ↦ e
       | false ↦ first_with names text first e
     ])

@@ -18,7 +18,7 @@ use Rattle.form_reader.specs.declared.fault.InputKind.TheVariants.{TooMany}
 use Rattle.form_reader.specs.declared.items.TextKind.TheVariants as text
 use Rattle.form_reader.specs.Items.{item_of}
 use Rattle.form_reader.specs.Rows.{head_of, tail_of}
-use Rattle.name_tables.specs.Names.{has_name, place_of, with_name}
+use Rattle.name_tables.specs.Names.{has_name, table_place, with_table_name}
 use Rattle.name_tables.specs.declared.vocabulary.Vocabulary.{Vocabulary}
 use Rattle.name_tables.proofs.NoFaultLemmas.{met}
 use Rattle.name_tables.proofs.NamesLemmas.{name_found, name_there, place_named, has_with}
@@ -53,8 +53,8 @@ heads_kept names nothing n h = h
 heads_kept names (word w at rest) n h = heads_kept names rest n h
 heads_kept names (list items at rest) n h =
     elim (is_derived_item (item_of text.Domain (head_of items))) as
-    (λ b. has_name n (heads_in (if b then with_name names (headed items) else names) rest) ≡ true) [
-      | true ↦ heads_kept (with_name names (headed items)) rest n (known_with names (headed items) n h)
+    (λ b. has_name n (heads_in (if b then with_table_name names (headed items) else names) rest) ≡ true) [
+      | true ↦ heads_kept (with_table_name names (headed items)) rest n (known_with names (headed items) n h)
       | false ↦ heads_kept names rest n h
     ]
 
@@ -71,15 +71,15 @@ counted_kept predicates names nothing n h = h
 counted_kept predicates names (word w at rest) n h = counted_kept predicates names rest n h
 counted_kept predicates names (list items at rest) n h =
     elim (counts_as_derived predicates items) as
-    (λ b. has_name n (counted_in predicates (if b then with_name names (headed items) else names) rest) ≡ true) [
-      | true ↦ counted_kept predicates (with_name names (headed items)) rest n (known_with names (headed items) n h)
+    (λ b. has_name n (counted_in predicates (if b then with_table_name names (headed items) else names) rest) ≡ true) [
+      | true ↦ counted_kept predicates (with_table_name names (headed items)) rest n (known_with names (headed items) n h)
       | false ↦ counted_kept predicates names rest n h
     ]
 
 -- a predicate that an item heads: its name heads the item, and is counted
 pub record IsDerivedName (v : Vocabulary) (heads counted : List (List ℕ)) (pred : ℕ) : Type 0 where
   pub name : List ℕ
-  pub place : place_of name v.predicates.names ≡ Some pred
+  pub place : table_place name v.predicates.names ≡ Some pred
   pub is_head : has_name name heads ≡ true
   pub counts : has_name name counted ≡ true
 
@@ -92,12 +92,12 @@ module _ (v : Vocabulary) (clean_heads : List (List ℕ)) where
       → IsClean v clean_heads (item_of text.Domain (head_of items)) (tail_of items)
       → ((rule_of v (tail_of items)).pred == pred) ≡ true →
       IsDerivedName v
-      (heads_in (if is_derived_item (item_of text.Domain (head_of items)) then with_name names (headed items) else names) rest)
+      (heads_in (if is_derived_item (item_of text.Domain (head_of items)) then with_table_name names (headed items) else names) rest)
       (counted_in predicates (seen_once (counts_as_derived predicates items) (headed items) counted) rest) pred
   headed_name items rest names counted pred e c same =
       let it = item_of text.Domain (head_of items) in
       let found = rule_there v (tail_of items) (derived_rule v clean_heads it (tail_of items) e c) in
-      let at : place_of (headed items) predicates ≡ Some pred =
+      let at : table_place (headed items) predicates ≡ Some pred =
       found.1 ∙ ap Some (sym (rule_pred v (tail_of items) found.0 found.1) ∙ eqb-true (rule_of v (tail_of items)).pred pred same) in
       let there : has_name (headed items) predicates ≡ true =
       name_there (headed items) predicates pred (place_named (headed items) predicates pred at) in
@@ -105,11 +105,11 @@ module _ (v : Vocabulary) (clean_heads : List (List ℕ)) where
       record {
         name = headed items;
         place = at;
-        is_head = subst (λ b. has_name (headed items) (heads_in (if b then with_name names (headed items) else names) rest) ≡ true)
-            (sym e) (heads_kept (with_name names (headed items)) rest (headed items) (has_with names (headed items)));
+        is_head = subst (λ b. has_name (headed items) (heads_in (if b then with_table_name names (headed items) else names) rest) ≡ true)
+            (sym e) (heads_kept (with_table_name names (headed items)) rest (headed items) (has_with names (headed items)));
         counts = subst
-            (λ b. has_name (headed items) (counted_in predicates (if b then with_name counted (headed items) else counted) rest) ≡ true)
-            (sym counts) (counted_kept predicates (with_name counted (headed items)) rest (headed items) (has_with counted (headed items)));
+            (λ b. has_name (headed items) (counted_in predicates (if b then with_table_name counted (headed items) else counted) rest) ≡ true)
+            (sym counts) (counted_kept predicates (with_table_name counted (headed items)) rest (headed items) (has_with counted (headed items)));
       }
 
   pub headed_names : (names counted : List (List ℕ)) (body : Trees) (pred : ℕ)
@@ -121,15 +121,15 @@ module _ (v : Vocabulary) (clean_heads : List (List ℕ)) where
       let it = item_of text.Domain (head_of items) in
       elim (is_derived_item it) as (λ b.
       is_derived_item it ≡ b → list_any (is_headed pred) ((if b then rule_of v (tail_of items) ∷ [] else []) ++ rules_of v rest) ≡ true
-      → IsDerivedName v (heads_in (if is_derived_item it then with_name names (headed items) else names) rest)
+      → IsDerivedName v (heads_in (if is_derived_item it then with_table_name names (headed items) else names) rest)
       (counted_in predicates (seen_once (counts_as_derived predicates items) (headed items) counted) rest) pred) [
         | true ↦ λ e g. elim (or_cases ((rule_of v (tail_of items)).pred == pred) (list_any (is_headed pred) (rules_of v rest)) g) [
           | inl same ↦ headed_name items rest names counted pred e c.0 same
           | inr more ↦
-              headed_names (if is_derived_item it then with_name names (headed items) else names)
+              headed_names (if is_derived_item it then with_table_name names (headed items) else names)
               (seen_once (counts_as_derived predicates items) (headed items) counted) rest pred c.1 more
         ]
-        | false ↦ λ e g. headed_names (if is_derived_item it then with_name names (headed items) else names)
+        | false ↦ λ e g. headed_names (if is_derived_item it then with_table_name names (headed items) else names)
             (seen_once (counts_as_derived predicates items) (headed items) counted) rest pred c.1 g
       ] refl h
 
@@ -143,7 +143,7 @@ module _ (d : domain.Domain) (v : Vocabulary) (clean_heads : List (List ℕ)) (b
       headed_names v clean_heads [] [] body pred clean
       (subst (λ rs. list_any (is_headed pred) rs ≡ true) rules (sym (derived_by d pred) ∙ h))
 
-  pub not_derived : (name : List ℕ) (pred : ℕ) → place_of name v.predicates.names ≡ Some pred
+  pub not_derived : (name : List ℕ) (pred : ℕ) → table_place name v.predicates.names ≡ Some pred
       → has_name name (heads_in [] body) ≡ false → is_derived_role (role_of d pred) ≡ false
   not_derived name pred at absent =
       false_from_ne_true (is_derived_role (role_of d pred))
@@ -169,15 +169,15 @@ counted_few predicates names (list items at rest) few n =
           let own = crowded true (headed items) at names in
           let room : (has_name (headed items) names || not (length names == 64)) ≡ true =
           met (has_name (headed items) names || not (length names == 64)) TooMany at
-          (append_nil_first own (too_many_derived predicates (with_name names (headed items)) rest) m) in
-          counted_few predicates (with_name names (headed items)) rest (grown names (headed items) few room)
-          (append_nil_second own (too_many_derived predicates (with_name names (headed items)) rest) m)
+          (append_nil_first own (too_many_derived predicates (with_table_name names (headed items)) rest) m) in
+          counted_few predicates (with_table_name names (headed items)) rest (grown names (headed items) few room)
+          (append_nil_second own (too_many_derived predicates (with_table_name names (headed items)) rest) m)
       | false ↦ λ m. counted_few predicates names rest few m
     ] n
   where
     grown : (names : List (List ℕ)) (name : List ℕ) → length names ≤ 64
         → (has_name name names || not (length names == 64)) ≡ true
-        → length (with_name names name) ≤ 64
+        → length (with_table_name names name) ≤ 64
     grown names name few room =
         elim (has_name name names) as
         (λ b. (b || not (length names == 64)) ≡ true
@@ -251,18 +251,18 @@ mapped_counted f p (x ∷ xs) = ap (λ n. cond (p (f x)) 1 0 + n) (mapped_counte
 
 -- the places of names
 abbrev places_in : List (List ℕ) → List (List ℕ) → List ℕ
-places_in table names = map (λ name. unwrap_or (place_of name table) 0) names
+places_in table names = map (λ name. unwrap_or (table_place name table) 0) names
 
 place_among : (table names : List (List ℕ)) (name : List ℕ) (i k : ℕ)
-    → slice_get names i ≡ Some name → place_of name table ≡ Some k
+    → slice_get names i ≡ Some name → table_place name table ≡ Some k
     → list_any (λ m. m == k) (places_in table names) ≡ true
 place_among table [] name i k e at = absurd (cc)
 place_among table (n ∷ ns) name zero k e at =
     let same : n ≡ name = same_Some n name e in
-    or_left (unwrap_or (place_of n table) 0 == k) (list_any (λ m. m == k) (places_in table ns))
-    (eq-eqb (unwrap_or (place_of n table) 0) k (ap (λ m. unwrap_or (place_of m table) 0) same ∙ ap (λ o. unwrap_or o 0) at))
+    or_left (unwrap_or (table_place n table) 0 == k) (list_any (λ m. m == k) (places_in table ns))
+    (eq-eqb (unwrap_or (table_place n table) 0) k (ap (λ m. unwrap_or (table_place m table) 0) same ∙ ap (λ o. unwrap_or o 0) at))
 place_among table (n ∷ ns) name (suc i) k e at =
-    or_right (unwrap_or (place_of n table) 0 == k) (list_any (λ m. m == k) (places_in table ns)) (place_among table ns name i k e at)
+    or_right (unwrap_or (table_place n table) 0 == k) (list_any (λ m. m == k) (places_in table ns)) (place_among table ns name i k e at)
 
 pub few_derived : (d : domain.Domain) (v : Vocabulary) (clean_heads : List (List ℕ)) (body : Trees)
     → AreClean v clean_heads body → d.derived ≡ rules_of v body
@@ -283,6 +283,6 @@ few_derived d v clean_heads body clean rules none roles =
           ∙ mapped_counted (role_of d) is_derived_role (numbers_from 0 (length d.predicates)),
       fewer_counted (λ k. is_derived_role (role_of d k)) (λ k. list_any (λ m. m == k) places) among (numbers_from 0 (length d.predicates)),
       among_counted places 0 (length d.predicates),
-      length-map counted (λ name. unwrap_or (place_of name table) 0),
+      length-map counted (λ name. unwrap_or (table_place name table) 0),
       counted_few table [] body (omega arith) none,
     )

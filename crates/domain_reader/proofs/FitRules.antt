@@ -4,7 +4,7 @@ use Rattle.std.specs.List.{list_all}
 use Rattle.std.proofs.lemmas.Bool.{and_from}
 use Rattle.lemmas.proofs.Members.{append_nil_first, append_nil_second}
 use Rattle.lemmas.proofs.ListTests.{all_append}
-use Rattle.sexpr_text.specs.Trees.{Trees, nothing, word, list, depth, place_of as tree_place, size}
+use Rattle.sexpr_text.specs.Trees.{Trees, nothing, word, list, depth, place_of_first as tree_place, size}
 use Rattle.task_model.specs.Fit.{are_fit_params, are_places, has_arity, is_fit_condition, is_fit_item}
 use Rattle.lemmas.specs.Lists.{numbers_from}
 use Rattle.task_model.specs.declared.domain.Domain as domain
@@ -21,7 +21,7 @@ use Rattle.form_reader.specs.Faults.{shape}
 use Rattle.form_reader.specs.Items.{derived_faults, item_of}
 use Rattle.form_reader.specs.Rows.{declaration_faults, head_of, inner_of, tail_of}
 use Rattle.name_tables.specs.Conditions.{conditions_names}
-use Rattle.name_tables.specs.Names.{Signed, place_of}
+use Rattle.name_tables.specs.Names.{Signed, table_place}
 use Rattle.name_tables.specs.Terms.{declared_place, use_names}
 use Rattle.name_tables.specs.Variables.{doubles_names, named_sorts, named_words, scope_names, types_names, unless}
 use Rattle.name_tables.specs.Vocabulary.{arity_at, arity_of}
@@ -98,9 +98,9 @@ module _ (v : Vocabulary) (rest : Trees) (h : IsHeaded v rest) where
   no_declared = append_nil_second uses declares front
 
   -- the predicate is there
-  head_there : (p : ℕ) × (place_of (head_of head) v.predicates.names ≡ Some p)
+  head_there : (p : ℕ) × (table_place (head_of head) v.predicates.names ≡ Some p)
   head_there =
-      place_used v.predicates (place_of (head_of head) v.predicates.names) (length (named_words Start vars))
+      place_used v.predicates (table_place (head_of head) v.predicates.names) (length (named_words Start vars))
       (tree_place head) h.head_place no_use
 
   few : length (named_words Start vars) ≤ 8
@@ -115,7 +115,7 @@ module _ (v : Vocabulary) (rest : Trees) (h : IsHeaded v rest) where
 -- ---- the predicate of an item
 
 pub rule_there : (v : Vocabulary) (rest : Trees) → IsRule v rest
-    → (p : ℕ) × (place_of (head_of (inner_of rest)) v.predicates.names ≡ Some p)
+    → (p : ℕ) × (table_place (head_of (inner_of rest)) v.predicates.names ≡ Some p)
 rule_there v rest r = head_there v rest (rule_headed v rest r)
 
 -- no fault of its body
@@ -124,7 +124,7 @@ pub rule_body : (v : Vocabulary) (rest : Trees) → IsRule v rest
 rule_body v rest r = (rule_headed v rest r).body_named
 
 pub rule_pred : (v : Vocabulary) (rest : Trees) (p : ℕ)
-    → place_of (head_of (inner_of rest)) v.predicates.names ≡ Some p → (rule_of v rest).pred ≡ p
+    → table_place (head_of (inner_of rest)) v.predicates.names ≡ Some p → (rule_of v rest).pred ≡ p
 rule_pred v rest p e = ap (λ o. unwrap_or o 0) e
 
 -- ---- fitness

@@ -21,8 +21,8 @@ use Rattle.lemmas.proofs.Members.{push_cases}
 use Rattle.lemmas.proofs.ListTests.{any_append_left, any_append_right}
 use Rattle.name_tables.specs.Declarations.{number_put}
 use Rattle.name_tables.specs.declared.vocabulary.Vocabulary.{Vocabulary}
-use Rattle.name_tables.specs.Graphs.{HasWay, ascending, leads}
-use Rattle.name_tables.specs.Names.{has_name, with_name}
+use Rattle.name_tables.specs.Graphs.{HasWay, ascending, has_edge}
+use Rattle.name_tables.specs.Names.{has_name, with_table_name}
 use Rattle.name_tables.specs.Variables.{is_named, named_sorts, named_words, seen_after, sort_of, types_names, unless}
 use Rattle.name_tables.proofs.GraphsOrderLemmas.{ascending_in, in_ascending, number_any}
 use Rattle.name_tables.proofs.FitGroups.{sort_places}
@@ -41,9 +41,9 @@ types_kept : (names : List (List ℕ)) (ts : Trees) → Known names (types_in na
 types_kept names nothing n h = h
 types_kept names (list items at rest) n h = types_kept names rest n h
 types_kept names (word text at rest) n h =
-    elim (is_dash text) as (λ b. has_name n (types_in (cond b names (with_name names text)) rest) ≡ true) [
+    elim (is_dash text) as (λ b. has_name n (types_in (cond b names (with_table_name names text)) rest) ≡ true) [
       | true ↦ types_kept names rest n h
-      | false ↦ types_kept (with_name names text) rest n (known_with names text n h)
+      | false ↦ types_kept (with_table_name names text) rest n (known_with names text n h)
     ]
 
 -- all words of a row but dashes are types
@@ -58,14 +58,14 @@ row_known : (names table : List (List ℕ)) (ts : Trees) → Known (types_in nam
 row_known names table nothing k = tt
 row_known names table (list items at rest) k = row_known names table rest k
 row_known names table (word text at rest) k =
-    (λ other. here other k, row_known (cond (is_dash text) names (with_name names text)) table rest k)
+    (λ other. here other k, row_known (cond (is_dash text) names (with_table_name names text)) table rest k)
   where
     here : is_dash text ≡ false
-        → Known (types_in (cond (is_dash text) names (with_name names text)) rest) table
+        → Known (types_in (cond (is_dash text) names (with_table_name names text)) rest) table
         → has_name text table ≡ true
     here other known =
-        subst (λ b. Known (types_in (cond b names (with_name names text)) rest) table) other known text
-        (types_kept (with_name names text) rest text (has_with names text))
+        subst (λ b. Known (types_in (cond b names (with_table_name names text)) rest) table) other known text
+        (types_kept (with_table_name names text) rest text (has_with names text))
 
 dash_no_name : (text : List ℕ) → is_name text ≡ true → is_dash text ≡ false
 dash_no_name text e =
@@ -123,7 +123,7 @@ module _ (sorts : List (List ℕ)) (L : ℕ → Type 0) where
       ] refl l
 
   seen_more : (seen : List (List ℕ)) (text : List ℕ) → SeenListed seen → L (sort_of sorts text)
-      → SeenListed (with_name seen text)
+      → SeenListed (with_table_name seen text)
   seen_more seen text s here n h =
       elim (has_name text seen) as (λ b. has_name n (cond b seen (seen ++ text ∷ [])) ≡ true → L (sort_of sorts n)) [
         | true ↦ λ g. s n g
@@ -151,16 +151,16 @@ module _ (sorts : List (List ℕ)) (L : ℕ → Type 0) where
   row_listed seen spot (word text at rest) s l =
       elim (is_named spot text) as (λ b.
       Lists ((if b && not (has_name text seen) then record { node = sort_of sorts text; place = at } ∷ [] else [])
-      ++ listed_row sorts (if b then with_name seen text else seen) (after_word spot text) rest)
+      ++ listed_row sorts (if b then with_table_name seen text else seen) (after_word spot text) rest)
       → AllListed (if b then text ∷ named_words (after_word spot text) rest else named_words (after_word spot text) rest)
-      × SeenListed (seen_after (if b then with_name seen text else seen) (after_word spot text) rest)) [
+      × SeenListed (seen_after (if b then with_table_name seen text else seen) (after_word spot text) rest)) [
         | true ↦ λ m.
             let candidate : List Candidate =
             if not (has_name text seen) then record { node = sort_of sorts text; place = at } ∷ [] else [] in
             let here : L (sort_of sorts text) =
-            word_listed seen text at s (lists_front candidate (listed_row sorts (with_name seen text) (after_word spot text) rest) m) in
-            let more = row_listed (with_name seen text) (after_word spot text) rest (seen_more seen text s here)
-            (lists_back candidate (listed_row sorts (with_name seen text) (after_word spot text) rest) m) in
+            word_listed seen text at s (lists_front candidate (listed_row sorts (with_table_name seen text) (after_word spot text) rest) m) in
+            let more = row_listed (with_table_name seen text) (after_word spot text) rest (seen_more seen text s here)
+            (lists_back candidate (listed_row sorts (with_table_name seen text) (after_word spot text) rest) m) in
             ((here, more.0), more.1)
         | false ↦ λ m. row_listed seen (after_word spot text) rest s m
       ] l
@@ -169,17 +169,17 @@ module _ (sorts : List (List ℕ)) (L : ℕ → Type 0) where
 
 -- Each edge leads to a type, each type but the first is under the first, and what else is under a type is listed.
 pub record IsUnder (size : ℕ) (L : ℕ → Type 0) (edges : List (List ℕ)) : Type 0 where
-  pub within : (a b : ℕ) → leads edges a b ≡ true → b < size
-  pub object : (a : ℕ) → 0 < a → a < size → leads edges a 0 ≡ true
-  pub listed : (a b : ℕ) → leads edges a b ≡ true → ((b ≡ 0) × (0 < a)) ⊎ L a
+  pub within : (a b : ℕ) → has_edge edges a b ≡ true → b < size
+  pub object : (a : ℕ) → 0 < a → a < size → has_edge edges a 0 ≡ true
+  pub listed : (a b : ℕ) → has_edge edges a b ≡ true → ((b ≡ 0) × (0 < a)) ⊎ L a
 
-under_leads : (ns : List (List ℕ)) (a b : ℕ) → leads (under_object ns) a b ≡ true → b ≡ 0
+under_leads : (ns : List (List ℕ)) (a b : ℕ) → has_edge (under_object ns) a b ≡ true → b ≡ 0
 under_leads [] a b h = absurd (cc)
 under_leads (n ∷ ns) zero b h =
     elim (or_cases (b == 0) false h) [ inl e ↦ eqb-true b 0 e | inr e ↦ absurd (cc) ]
 under_leads (n ∷ ns) (suc a) b h = under_leads ns a b h
 
-under_gets : (ns : List (List ℕ)) (a : ℕ) → a < length ns → leads (under_object ns) a 0 ≡ true
+under_gets : (ns : List (List ℕ)) (a : ℕ) → a < length ns → has_edge (under_object ns) a 0 ≡ true
 under_gets [] a lt = absurd (omega arith)
 under_gets (n ∷ ns) zero lt = refl
 under_gets (n ∷ ns) (suc a) lt = under_gets ns a (omega arith)
@@ -189,15 +189,15 @@ pub first_under : (L : ℕ → Type 0) (names : List (List ℕ))
 first_under L [] = record { within = λ a b h. absurd (cc); object = λ a pos lt. absurd (omega arith); listed = λ a b h. absurd (cc) }
 first_under L (n ∷ ns) = record { within = within; object = object; listed = listed }
   where
-    within : (a b : ℕ) → leads ([] ∷ under_object ns) a b ≡ true → b < suc (length ns)
+    within : (a b : ℕ) → has_edge ([] ∷ under_object ns) a b ≡ true → b < suc (length ns)
     within zero b h = absurd (cc)
     within (suc a) b h = omega (arith, under_leads ns a b h)
 
-    object : (a : ℕ) → 0 < a → a < suc (length ns) → leads ([] ∷ under_object ns) a 0 ≡ true
+    object : (a : ℕ) → 0 < a → a < suc (length ns) → has_edge ([] ∷ under_object ns) a 0 ≡ true
     object zero pos lt = absurd (omega arith)
     object (suc a) pos lt = under_gets ns a (omega arith)
 
-    listed : (a b : ℕ) → leads ([] ∷ under_object ns) a b ≡ true → ((b ≡ 0) × (0 < a)) ⊎ L a
+    listed : (a b : ℕ) → has_edge ([] ∷ under_object ns) a b ≡ true → ((b ≡ 0) × (0 < a)) ⊎ L a
     listed zero b h = absurd (cc)
     listed (suc a) b h = inl (under_leads ns a b h, omega arith)
 
@@ -272,23 +272,23 @@ no_sort_seen sorts L n h = absurd (cc)
 
 module _ (size : ℕ) (edges : List (List ℕ)) (L : ℕ → Type 0) (u : IsUnder size L edges) (free : (k : ℕ) → L k → ¬ (HasWay edges k k)) where
   -- the first type is under nothing
-  first_free : (b : ℕ) → leads edges 0 b ≡ true → ⊥
+  first_free : (b : ℕ) → has_edge edges 0 b ≡ true → ⊥
   first_free b h =
       elim (u.listed 0 b h) [
         | inl e ↦ omega (arith, e.1)
         | inr l ↦ free 0 l (back b h)
       ]
     where
-      back : (b : ℕ) → leads edges 0 b ≡ true → HasWay edges 0 0
+      back : (b : ℕ) → has_edge edges 0 b ≡ true → HasWay edges 0 0
       back zero h = record { between = []; steps = h }
       back (suc b) h = record { between = suc b ∷ []; steps = (h, u.object (suc b) (omega arith) (u.within 0 (suc b) h)) }
 
   -- what is led to from the first type on the way
-  pub from_first : (between : List ℕ) (b : ℕ) → LeadsAlong (leads edges) 0 between b → ⊥
+  pub from_first : (between : List ℕ) (b : ℕ) → LeadsAlong (has_edge edges) 0 between b → ⊥
   from_first [] b l = first_free b l
   from_first (m ∷ ms) b l = first_free m l.0
 
-  pub none_around : (k : ℕ) (between : List ℕ) → LeadsAlong (leads edges) k between k → ⊥
+  pub none_around : (k : ℕ) (between : List ℕ) → LeadsAlong (has_edge edges) k between k → ⊥
   none_around k [] l =
       elim (u.listed k k l) [
         | inl e ↦ omega (arith, e.0, e.1)
@@ -296,7 +296,7 @@ module _ (size : ℕ) (edges : List (List ℕ)) (L : ℕ → Type 0) (u : IsUnde
       ]
   none_around k (m ∷ ms) l =
       elim (u.listed k m l.0) [
-        | inl e ↦ from_first ms k (subst (λ n. LeadsAlong (leads edges) n ms k) e.0 l.1)
+        | inl e ↦ from_first ms k (subst (λ n. LeadsAlong (has_edge edges) n ms k) e.0 l.1)
         | inr f ↦ free k f (record { between = m ∷ ms; steps = l })
       ]
 

@@ -11,7 +11,7 @@ use Rattle.form_reader.specs.Items.{item_of}
 use Rattle.form_reader.specs.Rows.{after_word, head_of, tail_of}
 use Rattle.name_tables.specs.Declarations.{number_put}
 use Rattle.name_tables.specs.Graphs.{AreReached, ascending}
-use Rattle.name_tables.specs.Names.{has_name, place_of}
+use Rattle.name_tables.specs.Names.{has_name, table_place}
 use Rattle.name_tables.specs.Variables.{is_named, named_sorts, named_words, seen_after, seen_with, sort_of}
 use Rattle.domain_reader.specs.Tables.{headed, is_derived_item}
 use Rattle.name_tables.specs.declared.cycles.Candidate.{Candidate}
@@ -107,7 +107,7 @@ mentions_in predicates edges from nothing = edges
 mentions_in predicates edges from (word text at rest) = mentions_in predicates edges from rest
 mentions_in predicates edges from (list items at rest) =
     mentions_in predicates
-    (mentions_in predicates (mention_put edges from (place_of (head_of items) predicates)) from items) from rest
+    (mentions_in predicates (mention_put edges from (table_place (head_of items) predicates)) from items) from rest
 
 abbrev pub no_edges : List (List ℕ) → List (List ℕ)
 no_edges [] = []
@@ -116,7 +116,7 @@ no_edges (n ∷ ns) = [] ∷ no_edges ns
 -- the predicate of a `:derived` item, if it is there
 abbrev pub derived_place : List (List ℕ) → Trees → Option ℕ
 derived_place predicates items =
-    if is_derived_item (item_of Domain (head_of items)) then place_of (headed items) predicates else None
+    if is_derived_item (item_of Domain (head_of items)) then table_place (headed items) predicates else None
 
 abbrev pub body_put : (predicates edges : List (List ℕ)) → Option ℕ → Trees → List (List ℕ)
 body_put predicates edges None body = edges

@@ -1,6 +1,6 @@
 -- The name faults of a domain's items, but for cycles.
 use Rattle.std.specs.Prelude.{ℕ, Bool, true, false, ◌&&◌, ◌||◌, ◌==◌, not, nat_le, if◌then◌else◌, List, [], ◌++◌, length, codes}
-use Rattle.sexpr_text.specs.Trees.{Trees, nothing, word, list, place_of}
+use Rattle.sexpr_text.specs.Trees.{Trees, nothing, word, list, place_of_first}
 use Rattle.form_reader.specs.declared.fault.Fault.{Fault}
 use Rattle.form_reader.specs.declared.fault.InputKind.TheVariants.{Arity, Duplicate, TooMany}
 use Rattle.form_reader.specs.declared.groups.Spot.TheVariants.{Start}
@@ -16,7 +16,7 @@ use Rattle.form_reader.specs.Items.{item_of}
 use Rattle.form_reader.specs.Keys.{key_of}
 use Rattle.form_reader.specs.Rows.{head_of, tail_of}
 use Rattle.name_tables.specs.Conditions.{condition_names, conditions_names}
-use Rattle.name_tables.specs.Names.{has_name, with_name}
+use Rattle.name_tables.specs.Names.{has_name, with_table_name}
 use Rattle.name_tables.specs.Terms.{use_names}
 use Rattle.name_tables.specs.Texts.{repeated_names, value_at}
 use Rattle.name_tables.specs.Variables.{doubles_names, named_words, scope_names, types_names, unless, variables_names}
@@ -59,7 +59,7 @@ functions_names sorts (list items at rest) =
 abbrev pub head_names : Vocabulary → ℕ → Trees → List Fault
 head_names v place items =
     use_names (arity_of v.predicates (head_of items)) (length (named_words Start (tail_of items)))
-    (place_of items) place
+    (place_of_first items) place
     ++ declaration_names v.sorts place (tail_of items)
     ++ scope_names 0 Start (tail_of items)
 
@@ -156,7 +156,7 @@ once counts name place seen =
     if counts then unless (not (has_name name seen)) Duplicate place else []
 
 abbrev pub seen_once : Bool → List ℕ → List (List ℕ) → List (List ℕ)
-seen_once counts name seen = if counts then with_name seen name else seen
+seen_once counts name seen = if counts then with_table_name seen name else seen
 
 -- second items
 abbrev pub second_items : TextKind → List (List ℕ) → Trees → List Fault
@@ -183,12 +183,12 @@ abbrev pub second_declared : List (List ℕ) → Trees → List Fault
 second_declared seen nothing = []
 second_declared seen (word w at rest) = second_declared seen rest
 second_declared seen (list items at rest) =
-    once true (head_of items) at seen ++ second_declared (with_name seen (head_of items)) rest
+    once true (head_of items) at seen ++ second_declared (with_table_name seen (head_of items)) rest
 
 abbrev pub declared_after : List (List ℕ) → Trees → List (List ℕ)
 declared_after seen nothing = seen
 declared_after seen (word w at rest) = declared_after seen rest
-declared_after seen (list items at rest) = declared_after (with_name seen (head_of items)) rest
+declared_after seen (list items at rest) = declared_after (with_table_name seen (head_of items)) rest
 
 -- whether an item has declarations of this kind
 abbrev pub declares : Declared → Item → Bool

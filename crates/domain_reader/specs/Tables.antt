@@ -8,7 +8,7 @@ use Rattle.form_reader.specs.declared.items.TextKind.TheVariants.{Domain}
 use Rattle.form_reader.specs.Effects.{is_total_cost}
 use Rattle.form_reader.specs.Items.{item_of}
 use Rattle.form_reader.specs.Rows.{head_of, inner_of, is_dash, tail_of}
-use Rattle.name_tables.specs.Names.{Signed, with_name, with_signature}
+use Rattle.name_tables.specs.Names.{Signed, with_table_name, with_signature}
 use Rattle.name_tables.specs.Variables.{named_words, seen_after}
 use Rattle.name_tables.specs.Vocabulary.{with_total_cost}
 use Rattle.name_tables.specs.declared.vocabulary.Vocabulary.{Vocabulary}
@@ -21,7 +21,7 @@ name_of t = head_of (tail_of (inner_of (tail_of (inner_of t))))
 abbrev pub types_in : List (List ℕ) → Trees → List (List ℕ)
 types_in names nothing = names
 types_in names (word text at rest) =
-    types_in (if is_dash text then names else with_name names text) rest
+    types_in (if is_dash text then names else with_table_name names text) rest
 types_in names (list items at rest) = types_in names rest
 
 -- how many arguments a declaration gives; the total cost has none
@@ -92,4 +92,4 @@ abbrev pub heads_in : List (List ℕ) → Trees → List (List ℕ)
 heads_in names nothing = names
 heads_in names (word text at rest) = heads_in names rest
 heads_in names (list items at rest) =
-    heads_in (if is_derived_item (item_of Domain (head_of items)) then with_name names (headed items) else names) rest
+    heads_in (if is_derived_item (item_of Domain (head_of items)) then with_table_name names (headed items) else names) rest

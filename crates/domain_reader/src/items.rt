@@ -2,7 +2,7 @@
 #![tactic(auto, using(form_reader::proofs::FaultsFirstLemmas::first_append))]
 
 ghost use Rattle.std.specs.Prelude.{◌≡◌, IfOk, OnOk};
-ghost use Rattle.sexpr_text.specs.Trees.{trees, place_of};
+ghost use Rattle.sexpr_text.specs.Trees.{trees, place_of_first};
 ghost use Rattle.form_reader.specs.Faults.{first};
 ghost use Rattle.form_reader.specs.declared.keys.Key.TheVariants.{NoKey};
 ghost use Rattle.domain_reader.specs.Names as specs;
@@ -105,7 +105,7 @@ fn check_functions(
 
 /// The place of the first tree, or 0.
 fn first_place(items: &[Tree]) -> usize
-    ensures { result ≡ place_of (trees items.now) }
+    ensures { result ≡ place_of_first (trees items.now) }
 {
     match front_of(items) {
         Front::End => 0,

@@ -2,7 +2,7 @@
 ghost use Rattle.std.specs.Prelude.{◌≡◌, IfOk};
 ghost use Rattle.sexpr_text.specs.Trees.{tree, trees};
 ghost use Rattle.task_model.specs.Fit.{IsFitDomain};
-ghost use Rattle.name_tables.specs.Sizes.{IsBounded};
+ghost use Rattle.name_tables.specs.Sizes.{IsBoundedTree};
 ghost use Rattle.domain_reader.specs.Domains as specs;
 
 use crate::domain::{check_derived, check_plain, check_types, domain_of};
@@ -82,7 +82,7 @@ fn read(alloc: Global, text: &Tree) -> Result<Domain, InputFault>
 pub fn read_domain(alloc: Global, text: &Tree) -> Result<Domain, InputFault>
     ensures reads { specs.DomainReads (tree text.now) result }
     // Of a tree as texts of at most 4 MiB give it, the domain is fit.
-    ensures fit { IfOk result (λ d. IsBounded (tree text.now) → IsFitDomain d) }
+    ensures fit { IfOk result (λ d. IsBoundedTree (tree text.now) → IsFitDomain d) }
 {
     read(alloc, text)
 }

@@ -37,13 +37,13 @@ among i (j ∷ js) m =
     behind false e = e
 
 -- each instance has one entry in the list
-pub supposed_distinct : (task : Task) (known : Known) (notes : List Note) (tried : List Instance) (passes : ℕ) (list : List dreams.Entry)
+pub supposed_distinct : (task : Task) (known : Known) (notes : List Note) (tried : List Instance) (passes : ℕ) (list : List dreams.SupposedEntry)
     → AreSupposed task known notes tried passes list → AreDistinct (dreams.instances_of list)
 supposed_distinct task known notes tried zero list none = subst (λ l. AreDistinct (dreams.instances_of l)) (sym none) distinct_nil
 supposed_distinct task known notes tried (suc passes) list (old, before, pass) =
     let names = (supposing task known old old).names in
     subst (λ l. AreDistinct (dreams.instances_of l)) (sym pass.added)
-    (subst AreDistinct (sym (map-append (λ (e : dreams.Entry). e.instance) old pass.more))
+    (subst AreDistinct (sym (map-append (λ (e : dreams.SupposedEntry). e.instance) old pass.more))
     (distinct_append (dreams.instances_of old) (dreams.instances_of pass.more) (supposed_distinct task known notes tried passes old before)
     (ascending_distinct (instance_cmp names) (instances_total names) (dreams.instances_of pass.more) pass.ascend)
     (λ i there again. not_both (list_any (same_instance i) (dreams.instances_of old)) (among i (dreams.instances_of old) there)
@@ -53,7 +53,7 @@ at_same : (places : List ℕ) (i p q : ℕ) → p ≡ q → slice_get places i �
 at_same places i p q same at = at ∙ ap Some same
 
 -- what is chosen of a list at ascending places
-chosen_distinct : (list entries : List dreams.Entry) (places : List ℕ) → AreAscending nat_cmp places
+chosen_distinct : (list entries : List dreams.SupposedEntry) (places : List ℕ) → AreAscending nat_cmp places
     → map (slice_get list) places ≡ map Some entries → AreDistinct (dreams.instances_of list)
     → AreDistinct (dreams.instances_of entries)
 chosen_distinct list entries places ascend chosen distinct i j x at_i at_j =
@@ -62,11 +62,11 @@ chosen_distinct list entries places ascend chosen distinct i j x at_i at_j =
     let same : a.0 ≡ b.0 = distinct a.0 b.0 x a.1.1 b.1.1 in
     ascending_distinct nat_cmp nat_cmp_total places ascend i j b.0 (at_same places i a.0 b.0 same a.1.0) b.1.0
   where
-    by : (p : Option ℕ) (e : Option dreams.Entry) → option_map (slice_get list) p ≡ option_map Some e
-        → option_map (λ (y : dreams.Entry). y.instance) e ≡ Some x
-        → (q : ℕ) × ((p ≡ Some q) × (option_map (λ (y : dreams.Entry). y.instance) (slice_get list q) ≡ Some x))
+    by : (p : Option ℕ) (e : Option dreams.SupposedEntry) → option_map (slice_get list) p ≡ option_map Some e
+        → option_map (λ (y : dreams.SupposedEntry). y.instance) e ≡ Some x
+        → (q : ℕ) × ((p ≡ Some q) × (option_map (λ (y : dreams.SupposedEntry). y.instance) (slice_get list q) ≡ Some x))
     by (Some q) (Some e) is has =
-        (q, (refl, (let there : slice_get list q ≡ Some e = cc in ap (option_map (λ (y : dreams.Entry). y.instance)) there ∙ has)))
+        (q, (refl, (let there : slice_get list q ≡ Some e = cc in ap (option_map (λ (y : dreams.SupposedEntry). y.instance)) there ∙ has)))
     by (Some q) None is has = absurd (cc)
     by None (Some e) is has = absurd (cc)
     by None None is has = absurd (cc)
@@ -76,12 +76,12 @@ chosen_distinct list entries places ascend chosen distinct i j x at_i at_j =
     from k at =
         let r = by (slice_get places k) (slice_get entries k)
         (sym (slice_get-map (slice_get list) places k) ∙ ap (λ os. slice_get os k) chosen ∙ slice_get-map Some entries k)
-        (sym (slice_get-map (λ (y : dreams.Entry). y.instance) entries k) ∙ at) in
-        (r.0, (r.1.0, slice_get-map (λ (y : dreams.Entry). y.instance) list r.0 ∙ r.1.1))
+        (sym (slice_get-map (λ (y : dreams.SupposedEntry). y.instance) entries k) ∙ at) in
+        (r.0, (r.1.0, slice_get-map (λ (y : dreams.SupposedEntry). y.instance) list r.0 ∙ r.1.1))
 
 pub dream_distinct : (limits : Limits) (task : Task) (before : List Entry) (tried : List Instance)
     (uses : List DreamUse) (steps : List Call)
-    (entries : List dreams.Entry) → IsDreamAfter limits task before tried uses steps entries
+    (entries : List dreams.SupposedEntry) → IsDreamAfter limits task before tried uses steps entries
     → AreDistinct (dreams.instances_of entries)
 dream_distinct limits task before tried uses steps entries d =
     chosen_distinct d.list entries d.dream.places d.dream.ascend d.dream.chosen

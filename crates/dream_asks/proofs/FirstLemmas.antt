@@ -16,14 +16,14 @@ use Rattle.task_model.specs.Known.{Known}
 use Rattle.task_model.specs.Streams.{Note, is_due, same_instance, yields_of}
 use Rattle.task_model.specs.declared.stream.Instance.{Instance}
 use Rattle.task_model.specs.declared.task.Task.{Task}
-use Rattle.transcript_model.specs.Dreaming.{all_replaced, next_sent, ready, sent_instances}
+use Rattle.transcript_model.specs.Dreaming.{all_replaced, next_sent, ready_instance, sent_instances}
 use Rattle.transcript_model.specs.Transcript.{known_of, notes_of}
 use Rattle.transcript_model.specs.declared.entry.Entry.{Entry}
 
 -- ---- entries one by one
 
 -- the next entry is asked, or passed over
-pub first_next : (p : Instance → Bool) (entries : List dreams.Entry) (i : ℕ) (e : dreams.Entry) → i < length entries
+pub first_next : (p : Instance → Bool) (entries : List dreams.SupposedEntry) (i : ℕ) (e : dreams.SupposedEntry) → i < length entries
     → e ≡ get_or entries i e
     → filter p (dreams.instances_of (take (i + 1) entries))
     ≡ filter p (dreams.instances_of (take i entries)) ++ cond (p e.instance) (e.instance ∷ []) []
@@ -31,11 +31,11 @@ first_next p entries i e lt is =
     let one : take (i + 1) entries ≡ take i entries ++ e ∷ [] =
     rw add-one (take-suc entries i e lt ∙ ap (λ y. take i entries ++ y ∷ []) (sym is)) in
     ap (λ es. filter p (dreams.instances_of es)) one
-    ∙ ap (filter p) (map-append (λ (y : dreams.Entry). y.instance) (take i entries) (e ∷ []))
+    ∙ ap (filter p) (map-append (λ (y : dreams.SupposedEntry). y.instance) (take i entries) (e ∷ []))
     ∙ filter-append p (dreams.instances_of (take i entries)) (e.instance ∷ [])
 
 -- what was asked of the first entries, and of the next
-module _ (task : Task) (known : Known) (notes : List Note) (real : ℕ) (entries : List dreams.Entry) (i : ℕ) (e : dreams.Entry)
+module _ (task : Task) (known : Known) (notes : List Note) (real : ℕ) (entries : List dreams.SupposedEntry) (i : ℕ) (e : dreams.SupposedEntry)
     (lt : i < length entries) (is : e ≡ get_or entries i e) (old : List Due)
     (so_far : AreFirstAsks task known notes real (take i entries) old) where
   pub next_passed : is_askable task known notes real e.instance ≡ false → AreFirstAsks task known notes real (take (i + 1) entries) old
@@ -86,11 +86,11 @@ module _ (task : Task) (before : List Entry) (real : ℕ) where
   notes = notes_of task before
 
   -- what is asked of an entry, where these were asked already
-  abbrev asked : List Instance → dreams.Entry → Option Instance
+  abbrev asked : List Instance → dreams.SupposedEntry → Option Instance
   asked taken e =
       if is_askable task known notes real e.instance && not (list_any (same_instance e.instance) taken) then Some e.instance else None
 
-  ready_first : (taken : List Instance) (e : dreams.Entry) → ready task before real [] taken e ≡ asked taken e
+  ready_first : (taken : List Instance) (e : dreams.SupposedEntry) → ready_instance task before real [] taken e ≡ asked taken e
   ready_first taken e =
       ap (λ inputs. option_and_then (λ i. if is_due task known notes i && not (list_any (same_instance i) taken) then Some i else None)
       (option_map (λ inputs. record { stream = e.instance.stream; inputs = inputs }) inputs)) (replaced_by_themselves e.instance.inputs)
@@ -110,7 +110,7 @@ module _ (task : Task) (before : List Entry) (real : ℕ) where
       rw (instances_apart i j (apart j (contains_here j js))) (none_taken i js (λ k m. apart k (contains_later j js k m)))
 
   -- of entries whose instances are apart from those that were asked already
-  first_from : (number : ℕ) (taken : List Instance) (es : List dreams.Entry) → AreDistinct (dreams.instances_of es)
+  first_from : (number : ℕ) (taken : List Instance) (es : List dreams.SupposedEntry) → AreDistinct (dreams.instances_of es)
       → ((i j : Instance) → Contains (dreams.instances_of es) i → Contains taken j → ¬ (i ≡ j))
       → sent_instances (next_sent task before real [] number taken es) ≡ first_instances task known notes real es
   first_from number taken [] distinct apart = refl
@@ -148,7 +148,7 @@ module _ (task : Task) (before : List Entry) (real : ℕ) where
       by true = λ with_it without. ap (λ is. e.instance ∷ is) with_it
       by false = λ with_it without. without
 
-pub first_sent : (task : Task) (before : List Entry) (real number : ℕ) (entries : List dreams.Entry)
+pub first_sent : (task : Task) (before : List Entry) (real number : ℕ) (entries : List dreams.SupposedEntry)
     → AreDistinct (dreams.instances_of entries)
     → sent_instances (next_sent task before real [] number [] entries)
     ≡ first_instances task (known_of task before) (notes_of task before) real entries

@@ -20,7 +20,7 @@ use Rattle.task_model.specs.Known.{Known}
 use Rattle.task_model.specs.Streams.{IsDue, Note, is_due, same_instance}
 use Rattle.task_model.specs.declared.stream.Instance.{Instance}
 use Rattle.task_model.specs.declared.task.Task.{Task}
-use Rattle.transcript_model.specs.Dreaming.{Sent, become, next_sent, ready, sent_instances}
+use Rattle.transcript_model.specs.Dreaming.{Sent, become, next_sent, ready_instance, sent_instances}
 use Rattle.transcript_model.specs.Transcript.{known_of, notes_of}
 use Rattle.transcript_model.specs.declared.entry.Entry.{Entry}
 
@@ -37,15 +37,15 @@ seen_more false true c = refl
 seen_more false false c = refl
 
 module _ (task : Task) (known : Known) (notes : List Note) (p : Progress) (taken : List Instance) where
-  abbrev left_by : List Instance → List dreams.Entry → List DreamAsk
+  abbrev left_by : List Instance → List dreams.SupposedEntry → List DreamAsk
   left_by now = asks_by task known notes p (seen_in now taken)
 
-  pub begun_asks : (now : List Instance) (es : List dreams.Entry) (asks : List DreamAsk) → now ≡ [] → asks ≡ []
+  pub begun_asks : (now : List Instance) (es : List dreams.SupposedEntry) (asks : List DreamAsk) → now ≡ [] → asks ≡ []
       → asks_by task known notes p (λ i. list_any (same_instance i) taken) es
       ≡ asks ++ asks_by task known notes p (seen_in now taken) (drop 0 es)
   begun_asks now es asks none none_asked = λ k. sym none_asked k ++ left_by (sym none k) es
 
-  module _ (now : List Instance) (es : List dreams.Entry) (asks all : List DreamAsk) (i : ℕ) (e : dreams.Entry)
+  module _ (now : List Instance) (es : List dreams.SupposedEntry) (asks all : List DreamAsk) (i : ℕ) (e : dreams.SupposedEntry)
       (lt : i < length es) (is : e ≡ get_or es i e)
       (so_far : all ≡ asks ++ asks_by task known notes p (seen_in now taken) (drop i es)) where
     looked : all ≡ asks
@@ -80,7 +80,7 @@ module _ (task : Task) (known : Known) (notes : List Note) (p : Progress) (taken
         ∙ sym (append_assoc asks (a ∷ []) (left_by more (drop (i + 1) es)))
         ∙ ap (λ xs. xs ++ left_by more (drop (i + 1) es)) (sym is_longer)
 
-  pub all_asks : (now : List Instance) (es : List dreams.Entry) (asks all : List DreamAsk) (i : ℕ) → length es ≤ i
+  pub all_asks : (now : List Instance) (es : List dreams.SupposedEntry) (asks all : List DreamAsk) (i : ℕ) → length es ≤ i
       → all ≡ asks ++ asks_by task known notes p (seen_in now taken) (drop i es) → all ≡ asks
   all_asks now es asks all i past so_far = so_far ∙ ap (λ xs. asks ++ left_by now xs) (drop_all i es past) ∙ append-nil asks
 
@@ -89,15 +89,15 @@ module _ (task : Task) (known : Known) (notes : List Note) (p : Progress) (taken
 module _ (task : Task) (known : Known) (notes : List Note) (p : Progress) (before : List Entry) (sent : List Sent)
     (is_known : known ≡ known_of task before) (are_notes : notes ≡ notes_of task before)
     (is : IsProgress task before p sent) where
-  ready_same : (seen : Instance → Bool) (taken : List Instance) (e : dreams.Entry)
+  ready_same : (seen : Instance → Bool) (taken : List Instance) (e : dreams.SupposedEntry)
       → ((i : Instance) → seen i ≡ list_any (same_instance i) taken)
-      → ready_by task known notes p seen e.instance ≡ ready task before p.real sent taken e
+      → ready_by task known notes p seen e.instance ≡ ready_instance task before p.real sent taken e
   ready_same seen taken e same = λ k.
       option_and_then (λ i. if is_due task (is_known k) (are_notes k) i && not (same i k) then Some i else None)
       (option_map (λ inputs. record { stream = e.instance.stream; inputs = inputs })
       (all_stand_replaced task before p sent is e.instance.inputs k))
 
-  pub sent_next : (seen : Instance → Bool) (number : ℕ) (taken : List Instance) (es : List dreams.Entry)
+  pub sent_next : (seen : Instance → Bool) (number : ℕ) (taken : List Instance) (es : List dreams.SupposedEntry)
       → ((i : Instance) → seen i ≡ list_any (same_instance i) taken)
       → numbered number (asks_by task known notes p seen es) ≡ next_sent task before p.real sent number taken es
   sent_next seen number taken [] same = refl
@@ -105,7 +105,7 @@ module _ (task : Task) (known : Known) (notes : List Note) (p : Progress) (befor
       ap (λ o. numbered number (option_map_or (λ i. record { instance = i; outputs = e.outputs }
       ∷ asks_by task known notes p (λ j. same_instance j i || seen j) es) o (asks_by task known notes p seen es)))
       (ready_same seen taken e same)
-      ∙ by (ready task before p.real sent taken e)
+      ∙ by (ready_instance task before p.real sent taken e)
       (λ i. sent_next (λ j. same_instance j i || seen j) (number + 1) (i ∷ taken) es
       (λ j. ap (λ b. same_instance j i || b) (same j)))
       (sent_next seen number taken es same)
@@ -130,7 +130,7 @@ module _ (task : Task) (before : List Entry) (real : ℕ) (sent : List Sent) whe
     pub due : IsDue task (known_of task before) (notes_of task before) i
     pub new : list_any (same_instance i) taken ≡ false
 
-  ready_free : (taken : List Instance) (e : dreams.Entry) (i : Instance) → ready task before real sent taken e ≡ Some i
+  ready_free : (taken : List Instance) (e : dreams.SupposedEntry) (i : Instance) → ready_instance task before real sent taken e ≡ Some i
       → IsFree taken i
   ready_free taken e i = by (become task before real sent e)
     where
@@ -178,13 +178,13 @@ module _ (task : Task) (before : List Entry) (real : ℕ) (sent : List Sent) whe
       by j (inl same) = subst (IsFree taken) same free
       by j (inr m) = later j (rest.each j m)
 
-  pub sent_free : (number : ℕ) (taken : List Instance) (es : List dreams.Entry)
+  pub sent_free : (number : ℕ) (taken : List Instance) (es : List dreams.SupposedEntry)
       → AreFree taken (sent_instances (next_sent task before real sent number taken es))
   sent_free number taken [] = record { each = λ i m. absurd (contains_none i m); distinct = distinct_nil }
   sent_free number taken (e ∷ es) =
-      by (ready task before real sent taken e) refl (λ i. sent_free (number + 1) (i ∷ taken) es) (sent_free number taken es)
+      by (ready_instance task before real sent taken e) refl (λ i. sent_free (number + 1) (i ∷ taken) es) (sent_free number taken es)
     where
-      by : (o : Option Instance) → ready task before real sent taken e ≡ o
+      by : (o : Option Instance) → ready_instance task before real sent taken e ≡ o
           → ((i : Instance) → AreFree (i ∷ taken) (sent_instances (next_sent task before real sent (number + 1) (i ∷ taken) es)))
           → AreFree taken (sent_instances (next_sent task before real sent number taken es))
           → AreFree taken (sent_instances (option_map_or (λ i. record { number = number; instance = i; outputs = e.outputs }

@@ -1,7 +1,7 @@
 -- What is asked first of a dream.
 use Rattle.std.specs.Prelude.{◌≡◌, ℕ, nat_lt, List, Bool, All, ◌&&◌}
 use Rattle.std.specs.List.{filter, list_all}
-use Rattle.instance_queue.specs.Level.{instances_of}
+use Rattle.instance_queue.specs.Level.{due_instances}
 use Rattle.instance_queue.specs.declared.due.Due.{Due}
 use Rattle.task_model.specs.Dreams as dreams
 use Rattle.task_model.specs.Known.{Known}
@@ -16,13 +16,13 @@ is_askable task known notes real i =
     list_all (λ o. nat_lt o real) i.inputs && is_due task known notes i
 
 -- the instances of the entries that may be asked at once, in their order
-abbrev pub first_instances : Task → Known → List Note → ℕ → List dreams.Entry → List Instance
+abbrev pub first_instances : Task → Known → List Note → ℕ → List dreams.SupposedEntry → List Instance
 first_instances task known notes real entries =
     filter (is_askable task known notes real) (dreams.instances_of entries)
 
 -- The asks are of these instances, each with its turn.
 pub record AreFirstAsks (task : Task) (known : Known) (notes : List Note)
-    (real : ℕ) (entries : List dreams.Entry)
+    (real : ℕ) (entries : List dreams.SupposedEntry)
     (dues : List Due) : Type 0 where
-  pub instances : instances_of dues ≡ first_instances task known notes real entries
+  pub instances : due_instances dues ≡ first_instances task known notes real entries
   pub turns : All (λ (d : Due). d.turn ≡ yields_of notes d.instance) dues

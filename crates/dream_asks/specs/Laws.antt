@@ -14,7 +14,7 @@ use Rattle.transcript_model.specs.declared.entry.Entry.{Entry}
 -- asked of it yet, so no placeholder stands for a value, and no two entries have become one instance.
 abbrev pub FirstAsksAreSentFirst : Type 0
 FirstAsksAreSentFirst =
-    (task : Task) (before : List Entry) (real number : ℕ) (entries : List dreams.Entry)
+    (task : Task) (before : List Entry) (real number : ℕ) (entries : List dreams.SupposedEntry)
     → AreDistinct (dreams.instances_of entries)
     → sent_instances (next_sent task before real [] number [] entries)
     ≡ first_instances task (known_of task before) (notes_of task before) real entries

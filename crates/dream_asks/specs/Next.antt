@@ -3,7 +3,7 @@ use Rattle.std.specs.Prelude.{◌≡◌, ℕ, List, [], ◌∷◌, map, Bool, Al
 use Rattle.std.specs.Option.{option_and_then, option_map_or}
 use Rattle.dream_asks.specs.Progress.{IsProgress, Progress, became, numbered}
 use Rattle.dream_asks.specs.declared.asks.DreamAsk.{DreamAsk}
-use Rattle.instance_queue.specs.Level.{instances_of}
+use Rattle.instance_queue.specs.Level.{due_instances}
 use Rattle.instance_queue.specs.declared.due.Due.{Due}
 use Rattle.task_model.specs.Dreams as dreams
 use Rattle.task_model.specs.Known.{Known}
@@ -21,7 +21,7 @@ module _ (task : Task) (known : Known) (notes : List Note) (p : Progress) where
       option_and_then (λ i. if is_due task known notes i && not (seen i) then Some i else None) (became p instance)
 
   -- the entries that are asked, in order, each as the instance that it has become, of which none was seen
-  abbrev pub asks_by : (Instance → Bool) → List dreams.Entry → List DreamAsk
+  abbrev pub asks_by : (Instance → Bool) → List dreams.SupposedEntry → List DreamAsk
   asks_by seen [] = []
   asks_by seen (e ∷ es) =
       option_map_or (λ i. record { instance = i; outputs = e.outputs }
@@ -29,7 +29,7 @@ module _ (task : Task) (known : Known) (notes : List Note) (p : Progress) where
 
 -- By each transcript by which this is known and noted, and which has the dream's requests, these are the entries that
 -- are asked next, whatever number the first of them has.
-abbrev pub AreNext : Task → Known → List Note → Progress → List dreams.Entry → List DreamAsk → Type 0
+abbrev pub AreNext : Task → Known → List Note → Progress → List dreams.SupposedEntry → List DreamAsk → Type 0
 AreNext task known notes p entries asks =
     (before : List Entry) (sent : List Sent) (number : ℕ) → known ≡ known_of task before → notes ≡ notes_of task before
     → IsProgress task before p sent
@@ -40,5 +40,5 @@ asked_instances = map (λ (a : DreamAsk). a.instance)
 
 -- the asks' instances, each with its turn
 pub record AreDuesOf (notes : List Note) (asks : List DreamAsk) (dues : List Due) : Type 0 where
-  pub instances : instances_of dues ≡ asked_instances asks
+  pub instances : due_instances dues ≡ asked_instances asks
   pub turns : All (λ (d : Due). d.turn ≡ yields_of notes d.instance) dues

@@ -13,7 +13,7 @@ use Rattle.transcript_model.specs.declared.entry.Entry.{Entry}
 
 module _ (limits : Limits) (task : Task) (before : List Entry) (tried : List Instance) (l : Ledger)
     (h : IsLedger limits.version task before l) (depth : ℕ) (deep : limits.depth ≡ depth) where
-  pub supposed_after : (list : List dreams.Entry) → AreSupposed task l.facts.known l.queue tried depth list
+  pub supposed_after : (list : List dreams.SupposedEntry) → AreSupposed task l.facts.known l.queue tried depth list
       → AreSupposedAfter limits task before tried list
   supposed_after list so =
       subst (λ n. AreSupposed task (known_of task before) (notes_of task before) tried n list) (sym deep)

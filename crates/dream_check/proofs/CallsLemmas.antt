@@ -12,7 +12,7 @@ use Rattle.optimistic_set.specs.Dreamable.{Dreamable}
 use Rattle.task_model.proofs.StreamsLemmas.{names_there}
 use Rattle.task_model.proofs.KnownLemmas.{numbers_decided}
 use Rattle.task_model.proofs.StreamsLemmas.{instances_same, instance_itself}
-use Rattle.task_model.specs.Dreams.{Entry}
+use Rattle.task_model.specs.Dreams.{SupposedEntry}
 use Rattle.task_model.specs.Known.{same_numbers}
 use Rattle.task_model.specs.Streams.{same_instance}
 use Rattle.task_model.specs.declared.stream.Instance.{Instance}
@@ -42,7 +42,7 @@ instance_shown task names distinct call i is =
     (λ k. record { name = sym (named_stream task call.name stream.0 stream.1) k; args = sym objects k })
     ∙ ap (call_of_instance task names) inputs.2
 
-module _ (task : Task) (d : Dreamable) (h : IsListed task d) (names : List (List ℕ)) (same : names ≡ d.known.names) (place : ℕ) (e : Entry)
+module _ (task : Task) (d : Dreamable) (h : IsListed task d) (names : List (List ℕ)) (same : names ≡ d.known.names) (place : ℕ) (e : SupposedEntry)
     (at : slice_get d.list place ≡ Some e) (call : Call) where
   pub distinct : AreDistinct names
   distinct = subst AreDistinct (sym same) d.coherent.names

@@ -21,7 +21,7 @@ use Rattle.transcript_model.specs.declared.entry.Entry.{Entry}
 
 module _ (limits : Limits) (task : Task) (before : List Entry) (tried : List Instance) where
   -- a front of the uses names a front of the entries
-  front_chosen : (uses : List DreamUse) (list entries : List dreams.Entry) → IsChosen limits task before tried uses list entries
+  front_chosen : (uses : List DreamUse) (list entries : List dreams.SupposedEntry) → IsChosen limits task before tried uses list entries
       → (n : ℕ) → IsChosen limits task before tried (take n uses) list (take n entries)
   front_chosen uses list entries c n =
       let shown_as = call_of_instance task (supposing task (known_of task before) list list).names in
@@ -36,10 +36,10 @@ module _ (limits : Limits) (task : Task) (before : List Entry) (tried : List Ins
             ∙ take-map (λ place. place + 1) n c.places;
         calls = sym (take-map (λ (u : DreamUse). u.call) n uses) ∙ ap (take n) c.calls
             ∙ take-map shown_as n (instances_of entries)
-            ∙ ap (map shown_as) (take-map (λ (e : dreams.Entry). e.instance) n entries);
+            ∙ ap (map shown_as) (take-map (λ (e : dreams.SupposedEntry). e.instance) n entries);
       }
 
-  module _ (uses : List DreamUse) (steps : List Call) (entries : List dreams.Entry)
+  module _ (uses : List DreamUse) (steps : List Call) (entries : List dreams.SupposedEntry)
       (x : IsDreamAfter limits task before tried uses steps entries) where
     -- what it uses is chosen
     abbrev pub choice : IsChosen limits task before tried uses x.list entries

@@ -26,11 +26,11 @@ module _ (limits : Limits) (limit : ℕ) (task : Task) (before : List Entry) (tr
         let few = u.few in omega (arith, many, few),
   )
 
-  module _ (list : List dreams.Entry) (few : length list ≤ 20000) (so : AreSupposedAfter limits task before tried list) where
-    abbrev over : List dreams.Entry → Known
+  module _ (list : List dreams.SupposedEntry) (few : length list ≤ 20000) (so : AreSupposedAfter limits task before tried list) where
+    abbrev over : List dreams.SupposedEntry → Known
     over es = supposing task (known_of task before) es es
 
-    once : (other : List dreams.Entry) → AreSupposedAfter limits task before tried other → other ≡ list
+    once : (other : List dreams.SupposedEntry) → AreSupposedAfter limits task before tried other → other ≡ list
     once other also = supposed_once task (known_of task before) (notes_of task before) tried limits.depth other list also so
 
     decided : ¬ (IsUndecided task (over list) limits.states limit) → ¬ (IsUndecidedNone limits task before tried limit)

@@ -36,13 +36,13 @@ use Rattle.transcript_model.specs.declared.entry.Entry.{Entry}
 use Rattle.dream_check.proofs.DreamLinesLemmas.{choice, dream_lines}
 use Rattle.dream_check.proofs.UsesLemmas.{used_front}
 use Rattle.dream_check.specs.Judged.{IsDreamJudged}
-use Rattle.dream_check.specs.Lines.{AreUsable, BreaksStep, BreaksUse, CanDream, IsChosen, IsFirstWrongLine, IsWrongLine}
-use Rattle.dream_check.specs.Listed.{AreUsed, IsJudgedOver, IsPartJudged, IsThinPlan, StopsAtUse, known_with}
+use Rattle.dream_check.specs.Lines.{AreUsable, BreaksDreamStep, BreaksUse, CanDream, IsChosen, IsFirstWrongLine, IsWrongLine}
+use Rattle.dream_check.specs.Listed.{AreUsed, IsJudgedOver, IsPartJudged, IsThinPlan, StopsAtUse, known_at}
 use Rattle.dream_check.specs.declared.dream.Dreamed.{Dreamed}
 use Rattle.dream_check.specs.declared.dream.Dreamed.TheVariants.{Right, Use, Step, Last}
 
 -- where entries are chosen, the places are places of the list
-chosen_below : (list : List dreams.Entry) (places : List ℕ) (entries : List dreams.Entry)
+chosen_below : (list : List dreams.SupposedEntry) (places : List ℕ) (entries : List dreams.SupposedEntry)
     → map (slice_get list) places ≡ map Some entries → AreBelow list places
 chosen_below list [] entries e = All-nil (λ place. place < length list)
 chosen_below list (p ∷ ps) [] e = absurd (cc)
@@ -85,7 +85,7 @@ module _ (limits : Limits) (task : Task) (before : List Entry) (tried : List Ins
   usable uses places u = (d.list, entries_at d.list places, chosen_so uses places u)
 
   -- what is chosen after the transcript is used over the list
-  module _ (uses : List DreamUse) (list entries : List dreams.Entry) (c : IsChosen limits task before tried uses list entries) where
+  module _ (uses : List DreamUse) (list entries : List dreams.SupposedEntry) (c : IsChosen limits task before tried uses list entries) where
     one_list : list ≡ d.list
     one_list = supposed_once task known (notes_of task before) tried limits.depth list d.list c.supposed so
 
@@ -112,15 +112,15 @@ module _ (limits : Limits) (task : Task) (before : List Entry) (tried : List Ins
     }
 
     -- what is known with them
-    known_so : (places : List ℕ) → AreUsed task d uses places → supposing task known list entries ≡ known_with task d places
+    known_so : (places : List ℕ) → AreUsed task d uses places → supposing task known list entries ≡ known_at task d places
     known_so places u =
         (λ i. supposing task (sym base i) (one_list i) (entries_are i))
-        ∙ ap (known_with task d) (places_same c.places places (sym c.numbers ∙ u.numbers))
+        ∙ ap (known_at task d) (places_same c.places places (sym c.numbers ∙ u.numbers))
 
   -- ---- steps
 
   can_dream : (uses : List DreamUse) (places : List ℕ) (calls : List Call) → AreUsed task d uses places
-      → CanRun task (known_with task d places) calls → CanDream limits task before tried uses calls
+      → CanRun task (known_at task d places) calls → CanDream limits task before tried uses calls
   can_dream uses places calls u can = (
     d.list,
     entries_at d.list places,
@@ -129,19 +129,19 @@ module _ (limits : Limits) (task : Task) (before : List Entry) (tried : List Ins
   )
 
   dream_can : (uses : List DreamUse) (places : List ℕ) (calls : List Call) → AreUsed task d uses places
-      → CanDream limits task before tried uses calls → CanRun task (known_with task d places) calls
+      → CanDream limits task before tried uses calls → CanRun task (known_at task d places) calls
   dream_can uses places calls u (list, entries, c, can) =
       subst (λ k. CanRun task k calls) (known_so uses list entries c places u) can
 
   -- ---- dreams
 
-  dream_of : (uses : List DreamUse) (steps : List Call) (places : List ℕ) (entries : List dreams.Entry) → AreUsed task d uses places
+  dream_of : (uses : List DreamUse) (steps : List Call) (places : List ℕ) (entries : List dreams.SupposedEntry) → AreUsed task d uses places
       → entries ≡ entries_at d.list places → IsThinPlan task d places steps → 0 < length uses
       → IsDreamAfter limits task before tried uses steps entries
   dream_of uses steps places entries u are thin some =
       dream_after limits task before tried d h base uses steps entries plan.steps thin.0.0 so shows some
     where
-      plan : IsPlan task (known_with task d places) steps thin.0.0
+      plan : IsPlan task (known_at task d places) steps thin.0.0
       plan = thin.0.1
 
       needed : (place other : ℕ) → place < length entries
@@ -169,7 +169,7 @@ module _ (limits : Limits) (task : Task) (before : List Entry) (tried : List Ins
 
   module _ (coherent : IsCoherent known) where
     -- what is known with some of the entries is coherent
-    coherent_with : (places : List ℕ) → IsCoherent (known_with task d places)
+    coherent_with : (places : List ℕ) → IsCoherent (known_at task d places)
     coherent_with places =
         supposing_coherent task d.base d.list (entries_at d.list places) h.plain.base.fit h.plain.base.declared
         (subst IsCoherent (sym base) coherent) h.plain.base.real (plain_few task d.base d.list h.plain) h.plain.few
@@ -181,7 +181,7 @@ module _ (limits : Limits) (task : Task) (before : List Entry) (tried : List Ins
         subst (λ es. IsCoherent (supposing task d.base d.list es)) (without_is task d.base d.list places place all)
         (coherent_with (places_without task d.base d.list places place (place + 1)))
 
-    module _ (uses : List DreamUse) (steps : List Call) (places : List ℕ) (u : AreUsed task d uses places) (entries : List dreams.Entry)
+    module _ (uses : List DreamUse) (steps : List Call) (places : List ℕ) (u : AreUsed task d uses places) (entries : List dreams.SupposedEntry)
         (x : IsDreamAfter limits task before tried uses steps entries) where
       is_list : x.list ≡ d.list
       is_list = one_list uses x.list entries (choice limits task before tried uses steps entries x)
@@ -191,10 +191,10 @@ module _ (limits : Limits) (task : Task) (before : List Entry) (tried : List Ins
           entries_are uses x.list entries (choice limits task before tried uses steps entries x)
           ∙ ap (entries_at d.list) (places_same x.dream.places places (sym x.numbers ∙ u.numbers))
 
-      is_known : supposing task known x.list entries ≡ known_with task d places
+      is_known : supposing task known x.list entries ≡ known_at task d places
       is_known = λ i. supposing task (sym base i) (is_list i) (are_entries i)
 
-      its_plan : IsPlan task (known_with task d places) steps x.dream.cost
+      its_plan : IsPlan task (known_at task d places) steps x.dream.cost
       its_plan = record {
         steps = x.plan;
         shown = x.shown ∙ ap (λ (k : Known). map (call_of_step task k.names) x.plan) is_known;
@@ -207,10 +207,10 @@ module _ (limits : Limits) (task : Task) (before : List Entry) (tried : List Ins
           (supposing task d.base d.list (without_entry task d.base d.list (entries_at d.list places) place)) steps other)
           → q.steps ≡ x.plan
       one_plan place other q =
-          shown_once task h.plain.base.fit (known_with task d places).names (coherent_with places).names q.steps x.plan
+          shown_once task h.plain.base.fit (known_at task d places).names (coherent_with places).names q.steps x.plan
           (valid_named task (supposing task d.base d.list (without_entry task d.base d.list (entries_at d.list places) place))
           (coherent_without places place u.below) q.steps other q.valid)
-          (valid_named task (known_with task d places) (coherent_with places) x.plan x.dream.cost
+          (valid_named task (known_at task d places) (coherent_with places) x.plan x.dream.cost
           (subst (λ k. IsValid task k x.plan x.dream.cost) is_known x.dream.valid))
           (sym q.shown ∙ x.shown ∙ ap (λ (k : Known). map (call_of_step task k.names) x.plan) is_known)
 
@@ -243,18 +243,18 @@ module _ (limits : Limits) (task : Task) (before : List Entry) (tried : List Ins
 
     -- no step of these is wrong
     steps_right : (uses : List DreamUse) (steps : List Call) (places : List ℕ) (n : ℕ) → AreUsed task d uses places
-        → CanRun task (known_with task d places) (take n steps) → (place : ℕ) → place < n
+        → CanRun task (known_at task d places) (take n steps) → (place : ℕ) → place < n
         → CanDream limits task before tried uses (take (place + 1) steps)
     steps_right uses steps places n u can place lt =
         can_dream uses places (take (place + 1) steps) u
-        (subst (CanRun task (known_with task d places)) (take-take (place + 1) n steps (omega (arith, lt)))
-        (front_can task (known_with task d places) (take n steps) (place + 1) can))
+        (subst (CanRun task (known_at task d places)) (take-take (place + 1) n steps (omega (arith, lt)))
+        (front_can task (known_at task d places) (take n steps) (place + 1) can))
 
     all_steps_right : (uses : List DreamUse) (steps : List Call) (places : List ℕ) (offset : ℕ) → AreUsed task d uses places
-        → CanRun task (known_with task d places) steps → ¬ (BreaksStep limits task before tried uses steps offset)
+        → CanRun task (known_at task d places) steps → ¬ (BreaksDreamStep limits task before tried uses steps offset)
     all_steps_right uses steps places offset u can b =
         b.stuck (can_dream uses places (take (b.place + 1) steps) u
-        (front_can task (known_with task d places) steps (b.place + 1) can))
+        (front_can task (known_at task d places) steps (b.place + 1) can))
 
     -- a use is the first wrong line
     use_wrong : (uses : List DreamUse) (steps : List Call) (place : ℕ) → StopsAtUse task d uses place

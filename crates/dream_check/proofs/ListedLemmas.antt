@@ -3,7 +3,7 @@ use Rattle.std.proofs.Common.{◌≡◌, ℕ, ◌+◌, ◌<◌, ◌↔◌, Bool,
 use Rattle.std.proofs.lemmas.List.{take_more}
 use Rattle.std.specs.Prelude.{IsTrue}
 use Rattle.dreaming.proofs.PartLemmas.{part_then}
-use Rattle.dreaming.specs.Parts.{IsPart, Portion}
+use Rattle.dreaming.specs.Parts.{IsPortion, Portion}
 use Rattle.optimistic_set.specs.Dreamable.{Dreamable}
 use Rattle.shown_steps.proofs.PlansLemmas.{goal_reached, plan_at_end, run_can}
 use Rattle.shown_steps.specs.Runs.{IsRunOf}
@@ -15,15 +15,15 @@ use Rattle.task_model.specs.declared.task.Task.{Task}
 use Rattle.transcript_model.specs.declared.entry.Call.{Call}
 use Rattle.transcript_model.specs.declared.entry.DreamUse.{DreamUse}
 use Rattle.dream_check.proofs.UsesLemmas.{next_behind, next_first, none_used}
-use Rattle.dream_check.specs.Listed.{AreUsed, HasTaken, IsFollowed, IsNext, MayBeNext, MayBeUsed, StopsAtUse}
+use Rattle.dream_check.specs.Listed.{AreUsed, HasTakenUses, IsFollowed, IsNext, MayBeNext, MayBeUsed, StopsAtUse}
 use Rattle.dream_check.specs.declared.steps.Followed.TheVariants.{Misses, Reaches}
 
 -- ---- uses
 
 module _ (task : Task) (d : Dreamable) where
   -- before the first
-  pub taken_first : (p : Portion) → IsPart task p → p.base ≡ d.base → p.list ≡ d.list → p.places ≡ []
-      → HasTaken task d [] p 0
+  pub taken_first : (p : Portion) → IsPortion task p → p.base ≡ d.base → p.list ≡ d.list → p.places ≡ []
+      → HasTakenUses task d [] p 0
   taken_first p part base list places = record {
     used = subst (AreUsed task d []) (sym places) (none_used task d);
     part_at = record { part = part; base = base; list = list; places_are = refl };
@@ -31,14 +31,14 @@ module _ (task : Task) (d : Dreamable) where
   }
 
   module _ (all : List DreamUse) (i : ℕ) (u : DreamUse) (old : Portion) (next : ℕ) (within : i < length all) (is : u ≡ get_or all i u)
-      (h : HasTaken task d (take i all) old next) where
+      (h : HasTakenUses task d (take i all) old next) where
     one_more : take (i + 1) all ≡ take i all ++ u ∷ []
     one_more = take_more all i u within ∙ ap (λ (x : DreamUse). take i all ++ x ∷ []) (sym is)
 
     -- one entry more was taken
-    pub taken_next : (new : Portion) (place : ℕ) → MayBeNext task d (take i all) old.places u (Some place) → IsPart task new
+    pub taken_next : (new : Portion) (place : ℕ) → MayBeNext task d (take i all) old.places u (Some place) → IsPortion task new
         → new.base ≡ old.base → new.list ≡ old.list → new.places ≡ old.places ++ place ∷ []
-        → HasTaken task d (take (i + 1) all) new (place + 1)
+        → HasTakenUses task d (take (i + 1) all) new (place + 1)
     taken_next new place m part base list places =
         let there = part_then task d old.places old new place h.part_at part base list places in
         record {

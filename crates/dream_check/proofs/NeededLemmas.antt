@@ -12,7 +12,7 @@ use Rattle.task_model.specs.Dreams.{supposing, without_entry}
 use Rattle.task_model.specs.Known.{Known}
 use Rattle.task_model.specs.declared.task.Task.{Task}
 use Rattle.transcript_model.specs.declared.entry.Call.{Call}
-use Rattle.dream_check.specs.Listed.{IsNeeded}
+use Rattle.dream_check.specs.Listed.{IsEntryNeeded}
 
 module _ (task : Task) (d : Dreamable) (places : List ℕ) (calls : List Call) (place : ℕ) where
   -- what is known with the entries that are left
@@ -29,7 +29,7 @@ module _ (task : Task) (d : Dreamable) (places : List ℕ) (calls : List Call) (
   -- an entry is needed where the calls are no plan without it
   pub needed_where : (known : Known) (stays : Bool) → known ≡ known_without
       → (IsTrue stays ↔ ((cost : ℕ) × IsPlan task known calls cost))
-      → (IsTrue (not stays) ↔ IsNeeded task d places calls place)
+      → (IsTrue (not stays) ↔ IsEntryNeeded task d places calls place)
   needed_where known true is are = (
     λ yes. absurd (cc),
     λ needed.

@@ -9,7 +9,7 @@ use Rattle.dreaming.proofs.PartLemmas.{plain_few}
 use Rattle.dreaming.specs.Parts.{IsListed}
 use Rattle.lemmas.specs.Lists.{AreDistinct}
 use Rattle.name_tables.proofs.NamesLemmas.{name_found, name_there, place_named, place_there}
-use Rattle.name_tables.specs.Names.{has_name, with_name}
+use Rattle.name_tables.specs.Names.{has_name, with_table_name}
 use Rattle.name_tables.specs.Names as tables
 use Rattle.optimistic_set.proofs.DraftLemmas.{few_names}
 use Rattle.optimistic_set.specs.Dreamable.{Dreamable}
@@ -19,7 +19,7 @@ use Rattle.task_model.specs.declared.task.Task.{Task}
 
 -- one name more of distinct ones
 pub name_next : (names : List (List ℕ)) (i : ℕ) (name : List ℕ) → AreDistinct names → i < length names
-    → slice_get names i ≡ Some name → with_name (take i names) name ≡ take (i + 1) names
+    → slice_get names i ≡ Some name → with_table_name (take i names) name ≡ take (i + 1) names
 name_next names i name distinct lt at =
     ap (λ b. cond b (take i names) (take i names ++ name ∷ [])) absent
     ∙ ap (λ n. take i names ++ n ∷ []) (sym (get_or_from_slice_get names i name name at))
@@ -52,12 +52,12 @@ few_placeholders task d names h is =
 -- ---- looking up
 
 -- what stands behind the first names
-pub found_behind : (names more : List (List ℕ)) (name : List ℕ) (place : ℕ) → tables.place_of name more ≡ Some place
+pub found_behind : (names more : List (List ℕ)) (name : List ℕ) (place : ℕ) → tables.table_place name more ≡ Some place
     → slice_get (names ++ more) (length names + place) ≡ Some name
 found_behind names more name place is = get_behind names more place name (place_named name more place is)
 
 -- a name that is in neither
-pub in_neither : (names more : List (List ℕ)) (name : List ℕ) → ¬ (Contains names name) → tables.place_of name more ≡ None
+pub in_neither : (names more : List (List ℕ)) (name : List ℕ) → ¬ (Contains names name) → tables.table_place name more ≡ None
     → ¬ (Contains (names ++ more) name)
 in_neither names more name first none there =
     elim (Contains-append_cases names more name there) [

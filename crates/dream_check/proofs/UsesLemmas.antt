@@ -18,7 +18,7 @@ use Rattle.lemmas.proofs.Members.{get_at_length, get_single, get_append, push_ca
 use Rattle.lemmas.specs.Lists.{AreAscending}
 use Rattle.optimistic_set.specs.Dreamable.{Dreamable}
 use Rattle.shown_steps.proofs.RunsLemmas.{ends}
-use Rattle.task_model.specs.Dreams.{Entry, HaveSupport, instances_of, is_supported}
+use Rattle.task_model.specs.Dreams.{SupposedEntry, HaveSupport, instances_of, is_supported}
 use Rattle.task_model.specs.declared.stream.Instance.{Instance}
 use Rattle.task_model.specs.declared.task.Task.{Task}
 use Rattle.transcript_model.specs.Names.{call_of_instance}
@@ -116,16 +116,16 @@ module _ (task : Task) (d : Dreamable) where
         numbers = sym (take-map (λ (u : DreamUse). u.number) k uses) ∙ ap (take k) h.numbers ∙ take-map (λ place. place + 1) k places;
         calls = sym (take-map (λ (u : DreamUse). u.call) k uses) ∙ ap (take k) h.calls
             ∙ take-map shown_as k (instances_of (entries_at d.list places))
-            ∙ ap (map shown_as) (take-map (λ (e : Entry). e.instance) k (entries_at d.list places))
+            ∙ ap (map shown_as) (take-map (λ (e : SupposedEntry). e.instance) k (entries_at d.list places))
             ∙ ap (λ es. map shown_as (instances_of es)) (sym front);
       }
 
   module _ (uses : List DreamUse) (places : List ℕ) (u : DreamUse) (used : AreUsed task d uses places) where
-    abbrev entries : List Entry
+    abbrev entries : List SupposedEntry
     entries = entries_at d.list places
 
     -- one use more
-    pub one_more : (place : ℕ) (e : Entry) → slice_get d.list place ≡ Some e → AreAscending nat_cmp (places ++ place ∷ [])
+    pub one_more : (place : ℕ) (e : SupposedEntry) → slice_get d.list place ≡ Some e → AreAscending nat_cmp (places ++ place ∷ [])
         → u.number ≡ place + 1 → u.call ≡ shown_as e.instance → is_supported task d.base d.list entries e ≡ true
         → AreUsed task d (uses ++ u ∷ []) (places ++ place ∷ [])
     one_more place e at ascend number call support =
@@ -140,7 +140,7 @@ module _ (task : Task) (d : Dreamable) where
               ∙ sym (map-append (λ place. place + 1) places (place ∷ []));
           calls = map-append (λ (x : DreamUse). x.call) uses (u ∷ []) ∙ (λ i. used.calls i ++ call i ∷ [])
               ∙ sym (map-append shown_as (instances_of entries) (e.instance ∷ []))
-              ∙ ap (map shown_as) (sym (map-append (λ (x : Entry). x.instance) entries (e ∷ [])))
+              ∙ ap (map shown_as) (sym (map-append (λ (x : SupposedEntry). x.instance) entries (e ∷ [])))
               ∙ ap (λ es. map shown_as (instances_of es)) (sym pushed);
         }
 
@@ -149,7 +149,7 @@ module _ (task : Task) (d : Dreamable) where
       pub place : ℕ
       pub are : all ≡ places ++ place ∷ []
       pub number : u.number ≡ place + 1
-      pub entry : Entry
+      pub entry : SupposedEntry
       pub at : slice_get d.list place ≡ Some entry
       pub ascend : AreAscending nat_cmp (places ++ place ∷ [])
       pub call : u.call ≡ shown_as entry.instance
@@ -184,7 +184,7 @@ module _ (task : Task) (d : Dreamable) where
             at_place d.list (places ++ parts.1 ∷ []) (subst (AreBelow d.list) are h.below) (length places) parts.1
             (get_at_length places parts.1)
 
-        there : (e : Entry) × (slice_get d.list parts.1 ≡ Some e)
+        there : (e : SupposedEntry) × (slice_get d.list parts.1 ≡ Some e)
         there = get_there d.list parts.1 within
 
         pushed : entries_at d.list all ≡ entries ++ there.0 ∷ []
@@ -195,7 +195,7 @@ module _ (task : Task) (d : Dreamable) where
         ends_so =
             sym (map-append (λ (x : DreamUse). x.call) uses (u ∷ [])) ∙ h.calls
             ∙ ap (λ es. map shown_as (instances_of es)) pushed
-            ∙ ap (map shown_as) (map-append (λ (x : Entry). x.instance) entries (there.0 ∷ []))
+            ∙ ap (map shown_as) (map-append (λ (x : SupposedEntry). x.instance) entries (there.0 ∷ []))
             ∙ map-append shown_as (instances_of entries) (there.0.instance ∷ [])
 
     -- ---- why it may not be used
@@ -215,7 +215,7 @@ module _ (task : Task) (d : Dreamable) where
             let within = slice_get_within d.list l.place l.entry l.at in
             let number = l.number in omega (arith, far, number, within)
 
-    module _ (place : ℕ) (e : Entry) (at : slice_get d.list place ≡ Some e) (number : u.number ≡ place + 1) where
+    module _ (place : ℕ) (e : SupposedEntry) (at : slice_get d.list place ≡ Some e) (number : u.number ≡ place + 1) where
       same_last : (all : List ℕ) (l : NamesLast all) → l.entry ≡ e
       same_last all l =
           let also = l.number in
@@ -225,7 +225,7 @@ module _ (task : Task) (d : Dreamable) where
       pub shown_otherwise : ¬ (u.call ≡ shown_as e.instance) → ¬ (MayBeUsed task d (uses ++ u ∷ []))
       shown_otherwise other m =
           let l = last_used m.0 m.1 in
-          other (l.call ∙ ap (λ (x : Entry). shown_as x.instance) (same_last m.0 l))
+          other (l.call ∙ ap (λ (x : SupposedEntry). shown_as x.instance) (same_last m.0 l))
 
       pub unsupported : is_supported task d.base d.list entries e ≡ false → ¬ (MayBeUsed task d (uses ++ u ∷ []))
       unsupported none m =

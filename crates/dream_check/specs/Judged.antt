@@ -37,7 +37,7 @@ module _ (limits : Limits) (task : Task) (before : List Entry) (tried : List Ins
   -- It isn't decided whether no plan rests on what is supposed: more than so many states are reached over a list that
   -- isn't too long, and the report allows more.
   pub record IsUndecidedNone (limit : ℕ) : Type 0 where
-    pub list : List dreams.Entry
+    pub list : List dreams.SupposedEntry
     pub supposed : AreSupposedAfter limits task before tried list
     pub few : length list ≤ MOST_SUPPOSED
     pub below : limit < limits.states

@@ -14,6 +14,6 @@ use Rattle.dream_check.specs.Lines.{IsWrongLine}
 abbrev pub DreamsHaveNoWrongLine : Type 0
 DreamsHaveNoWrongLine =
     (limits : Limits) (task : Task) (before : List Entry) (tried : List Instance) (uses : List DreamUse)
-    (steps : List Call) (entries : List dreams.Entry) (offset : ℕ)
+    (steps : List Call) (entries : List dreams.SupposedEntry) (offset : ℕ)
     → IsDreamAfter limits task before tried uses steps entries
     → ¬ (IsWrongLine limits task before tried uses steps offset)

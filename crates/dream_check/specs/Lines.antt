@@ -19,7 +19,7 @@ use Rattle.transcript_model.specs.declared.entry.Entry.{Entry}
 module _ (limits : Limits) (task : Task) (before : List Entry) (tried : List Instance) where
   -- The uses name these entries of the list that is supposed after the transcript: by number and call, in its order,
   -- each with support by those before it.
-  pub record IsChosen (uses : List DreamUse) (list entries : List dreams.Entry) : Type 0 where
+  pub record IsChosen (uses : List DreamUse) (list entries : List dreams.SupposedEntry) : Type 0 where
     pub supposed : AreSupposedAfter limits task before tried list
     pub few : length list ≤ MOST_SUPPOSED
     pub places : List ℕ
@@ -33,12 +33,12 @@ module _ (limits : Limits) (task : Task) (before : List Entry) (tried : List Ins
   -- the uses name entries that may be used
   abbrev pub AreUsable : List DreamUse → Type 0
   AreUsable uses =
-      (list : List dreams.Entry) × (entries : List dreams.Entry) × IsChosen uses list entries
+      (list : List dreams.SupposedEntry) × (entries : List dreams.SupposedEntry) × IsChosen uses list entries
 
   -- the calls are steps that can be taken, one after another, with the entries that the uses name
   abbrev pub CanDream : List DreamUse → List Call → Type 0
   CanDream uses calls =
-      (list : List dreams.Entry) × (entries : List dreams.Entry) × IsChosen uses list entries
+      (list : List dreams.SupposedEntry) × (entries : List dreams.SupposedEntry) × IsChosen uses list entries
       × CanRun task (supposing task (known_of task before) list entries) calls
 
   -- ---- lines, by how many they are behind the dream's first
@@ -51,7 +51,7 @@ module _ (limits : Limits) (task : Task) (before : List Entry) (tried : List Ins
     pub is : offset ≡ place + 1
 
   -- up to this one the steps can't be taken
-  pub record BreaksStep (uses : List DreamUse) (steps : List Call) (offset : ℕ) : Type 0 where
+  pub record BreaksDreamStep (uses : List DreamUse) (steps : List Call) (offset : ℕ) : Type 0 where
     pub place : ℕ
     pub within : place < length steps
     pub stuck : ¬ (CanDream uses (take (place + 1) steps))
@@ -61,12 +61,12 @@ module _ (limits : Limits) (task : Task) (before : List Entry) (tried : List Ins
   abbrev pub BreaksDream : List DreamUse → List Call → ℕ → Type 0
   BreaksDream uses steps offset =
       (offset ≡ length uses + length steps)
-      × ((entries : List dreams.Entry) → ¬ (IsDreamAfter limits task before tried uses steps entries))
+      × ((entries : List dreams.SupposedEntry) → ¬ (IsDreamAfter limits task before tried uses steps entries))
 
   -- the line is wrong
   abbrev pub IsWrongLine : List DreamUse → List Call → ℕ → Type 0
   IsWrongLine uses steps offset =
-      BreaksUse uses offset ⊎ (BreaksStep uses steps offset ⊎ BreaksDream uses steps offset)
+      BreaksUse uses offset ⊎ (BreaksDreamStep uses steps offset ⊎ BreaksDream uses steps offset)
 
   -- the line is wrong, and none before it is
   abbrev pub IsFirstWrongLine : List DreamUse → List Call → ℕ → Type 0

@@ -53,7 +53,7 @@ module _ (task : Task) (d : Dreamable) where
     pub stuck : ¬ (MayBeUsed (take (place + 1) uses))
 
   -- the uses so far name the entries of the part, and what may come next stands there or behind
-  pub record HasTaken (uses : List DreamUse) (part : Portion) (next : ℕ) : Type 0 where
+  pub record HasTakenUses (uses : List DreamUse) (part : Portion) (next : ℕ) : Type 0 where
     pub used : AreUsed uses part.places
     pub part_at : IsPartAt task d part.places part
     pub behind : IsNext part.places next
@@ -75,29 +75,29 @@ IsFollowed task known calls Reaches = (cost : ℕ) × IsPlan task known calls co
 
 module _ (task : Task) (d : Dreamable) where
   -- what is known with the entries at these places
-  abbrev pub known_with : List ℕ → Known
-  known_with places = supposing task d.base d.list (entries_at d.list places)
+  abbrev pub known_at : List ℕ → Known
+  known_at places = supposing task d.base d.list (entries_at d.list places)
 
   -- without this one of the entries, and without those that lack support then, the calls are no plan
-  abbrev pub IsNeeded : List ℕ → List Call → ℕ → Type 0
-  IsNeeded places calls place =
+  abbrev pub IsEntryNeeded : List ℕ → List Call → ℕ → Type 0
+  IsEntryNeeded places calls place =
       let others = without_entry task d.base d.list (entries_at d.list places) place in
       (cost : ℕ) → ¬ (IsPlan task (supposing task d.base d.list others) calls cost)
 
-  abbrev pub AreNeeded : List ℕ → List Call → Type 0
-  AreNeeded places calls = (place : ℕ) → place < length places → IsNeeded places calls place
+  abbrev pub AreEntriesNeeded : List ℕ → List Call → Type 0
+  AreEntriesNeeded places calls = (place : ℕ) → place < length places → IsEntryNeeded places calls place
 
   -- the calls are a plan with these entries, and with none of them left out
   abbrev pub IsThinPlan : List ℕ → List Call → Type 0
-  IsThinPlan places calls = ((cost : ℕ) × IsPlan task (known_with places) calls cost) × AreNeeded places calls
+  IsThinPlan places calls = ((cost : ℕ) × IsPlan task (known_at places) calls cost) × AreEntriesNeeded places calls
 
   -- what is said of the steps with the entries at these places
   abbrev pub IsPartJudged : List ℕ → List Call → Dreamed → Type 0
   IsPartJudged places calls (Right entries) =
       (entries.items ≡ entries_at d.list places) × IsThinPlan places calls
   IsPartJudged places calls (Use place) = ⊥
-  IsPartJudged places calls (Step place) = StopsAtStep task (known_with places) calls place
-  IsPartJudged places calls Last = CanRun task (known_with places) calls × ¬ (IsThinPlan places calls)
+  IsPartJudged places calls (Step place) = StopsAtStep task (known_at places) calls place
+  IsPartJudged places calls Last = CanRun task (known_at places) calls × ¬ (IsThinPlan places calls)
 
   -- a use names no entry that may be used, or all do and that is said of the steps
   abbrev pub IsJudgedOver : List DreamUse → List Call → Dreamed → Type 0

@@ -1,7 +1,7 @@
 //! Whether a dream that a report shows is one.
 ghost use Rattle.std.specs.Prelude.{◌≡◌, ℕ, ◌<◌, List, length, All, IfOk};
 ghost use Rattle.dream_check.specs.Judged.{IsDreamJudged};
-ghost use Rattle.dream_check.specs.Listed.{IsPartJudged, IsJudgedOver, known_with};
+ghost use Rattle.dream_check.specs.Listed.{IsPartJudged, IsJudgedOver, known_at};
 ghost use Rattle.dreaming.specs.Parts.{IsListed, IsListing};
 ghost use Rattle.dreaming.specs.Thinning.{IsPartAt};
 ghost use Rattle.shown_steps.specs.Plans.{IsPlan};
@@ -45,7 +45,7 @@ fn judge_plan(
     requires names { table.now ≡ listing.now.supposed.now.known.names }
     requires below { All (λ place. place < length listing.now.supposed.now.list) places.now }
     requires plan { (cost : ℕ) × IsPlan listing.now.task.now
-        (known_with listing.now.task.now listing.now.supposed.now places.now) steps.now cost }
+        (known_at listing.now.task.now listing.now.supposed.now places.now) steps.now cost }
     ensures { IfOk result (IsPartJudged listing.now.task.now listing.now.supposed.now places.now
         steps.now) }
 {

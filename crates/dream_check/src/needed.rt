@@ -1,6 +1,6 @@
 //! Whether a plan needs each of the entries that it uses.
 ghost use Rattle.std.specs.Prelude.{◌≡◌, ◌<◌, ◌↔◌, IsTrue, All, length, IfOk};
-ghost use Rattle.dream_check.specs.Listed.{AreNeeded, IsNeeded};
+ghost use Rattle.dream_check.specs.Listed.{AreEntriesNeeded, IsEntryNeeded};
 ghost use Rattle.dreaming.specs.Parts.{IsListing};
 
 use crate::table::Table;
@@ -22,7 +22,7 @@ fn is_needed(
     requires names { table.now ≡ listing.now.supposed.now.known.names }
     requires below { All (λ place. place < length listing.now.supposed.now.list) places.now }
     requires place { place < length places.now }
-    ensures { IfOk result (λ yes. IsTrue yes ↔ IsNeeded listing.now.task.now
+    ensures { IfOk result (λ yes. IsTrue yes ↔ IsEntryNeeded listing.now.task.now
         listing.now.supposed.now places.now steps.now place) }
 {
     let mut part = part_at(listing, &places[..place])?;
@@ -41,7 +41,7 @@ pub(crate) fn are_needed(
     requires listing { IsListing listing.now }
     requires names { table.now ≡ listing.now.supposed.now.known.names }
     requires below { All (λ place. place < length listing.now.supposed.now.list) places.now }
-    ensures { IfOk result (λ yes. IsTrue yes ↔ AreNeeded listing.now.task.now
+    ensures { IfOk result (λ yes. IsTrue yes ↔ AreEntriesNeeded listing.now.task.now
         listing.now.supposed.now places.now steps.now) }
 {
     for place in 0..places.len() {

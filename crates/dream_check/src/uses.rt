@@ -3,7 +3,7 @@ ghost use Rattle.std.specs.Prelude.{◌≡◌, ◌<◌, ◌↔◌, IsTrue, List,
 ghost use Rattle.dream_check.specs.Listed.{AreTaken, IsNext, MayBeNext, AreUsed};
 ghost use Rattle.dreaming.specs.Parts.{IsListing};
 ghost use Rattle.dreaming.specs.Thinning.{IsPartAt};
-ghost use Rattle.task_model.specs.Dreams.{Entry as AnyEntry};
+ghost use Rattle.task_model.specs.Dreams.{SupposedEntry as AnyEntry};
 ghost use Rattle.transcript_model.specs.Names.{call_of_instance};
 ghost use Rattle.transcript_model.specs.declared.entry.DreamUse.{DreamUse as AnyUse};
 

@@ -20,7 +20,7 @@ use Rattle.task_model.specs.declared.stream.Stream.{Stream}
 use Rattle.task_model.specs.declared.task.Task.{Task}
 use Rattle.transcript_model.proofs.CoherentLemmas.{coherent}
 use Rattle.transcript_model.proofs.LegalStepLemmas.{mark_adds}
-use Rattle.transcript_model.specs.Dreaming.{IsDreamAfter, replaced, all_replaced, become, ready, next_sent}
+use Rattle.transcript_model.specs.Dreaming.{IsDreamAfter, replaced, all_replaced, become, ready_instance, next_sent}
 use Rattle.transcript_model.specs.Laws.{AddsMark}
 use Rattle.transcript_model.specs.Legal.{IsLegal}
 use Rattle.transcript_model.specs.Rounds.{Limits}
@@ -72,13 +72,13 @@ module _ (task : Task) (now : List Entry) (names : List (List ℕ)) where
       (real_stays o (All-head (IsIn names) o os known))
       ∙ ap (option_map (λ objects. o ∷ objects)) (all_real os (All-tail (IsIn names) o os known))
 
-  becomes_itself : (e : dreams.Entry) → All (IsIn names) e.instance.inputs → become task now (length names) [] e ≡ Some e.instance
+  becomes_itself : (e : dreams.SupposedEntry) → All (IsIn names) e.instance.inputs → become task now (length names) [] e ≡ Some e.instance
   becomes_itself e known =
       ap (option_map (λ inputs. record { stream = e.instance.stream; inputs = inputs })) (all_real e.instance.inputs known)
 
-  is_ready : (e : dreams.Entry) → All (IsIn names) e.instance.inputs
+  is_ready : (e : dreams.SupposedEntry) → All (IsIn names) e.instance.inputs
       → is_due task (known_of task now) (notes_of task now) e.instance ≡ true
-      → ready task now (length names) [] [] e ≡ Some e.instance
+      → ready_instance task now (length names) [] [] e ≡ Some e.instance
   is_ready e known due =
       ap (option_and_then (λ i.
       if is_due task (known_of task now) (notes_of task now) i && not (list_any (same_instance i) []) then Some i else None))
@@ -86,7 +86,7 @@ module _ (task : Task) (now : List Entry) (names : List (List ℕ)) where
       ∙ ap (λ b. if b then Some e.instance else None)
       (and_from (is_due task (known_of task now) (notes_of task now) e.instance) true due refl)
 
-  is_asked : (number : ℕ) (e : dreams.Entry) (es : List dreams.Entry) → ready task now (length names) [] [] e ≡ Some e.instance
+  is_asked : (number : ℕ) (e : dreams.SupposedEntry) (es : List dreams.SupposedEntry) → ready_instance task now (length names) [] [] e ≡ Some e.instance
       → 0 < length (next_sent task now (length names) [] number [] (e ∷ es))
   is_asked number e es is =
       subst (λ o. 0 < length (option_map_or (λ i. record { number = number; instance = i; outputs = e.outputs }
@@ -99,7 +99,7 @@ module _ (limits : Limits) (task : Task) (before : List Entry) (tried : List Ins
   abbrev known : Known
   known = known_of task before
 
-  pub dreams_once : (uses : List DreamUse) (steps others : List Call) (xs ys : List dreams.Entry)
+  pub dreams_once : (uses : List DreamUse) (steps others : List Call) (xs ys : List dreams.SupposedEntry)
       → IsDreamAfter limits task before tried uses steps xs → IsDreamAfter limits task before tried uses others ys → xs ≡ ys
   dreams_once uses steps others xs ys first second =
       let list = supposed_once task known (notes_of task before) tried limits.depth first.list second.list first.supposed second.supposed in
@@ -107,7 +107,7 @@ module _ (limits : Limits) (task : Task) (before : List Entry) (tried : List Ins
       somes_same xs ys (sym first.dream.chosen ∙ (λ i. map (slice_get (list i)) (places i)) ∙ second.dream.chosen)
 
   -- an entry with support from what is known alone is due
-  first_due : (list : List dreams.Entry) (place : ℕ) (e : dreams.Entry) → is_supported task known list [] e ≡ true
+  first_due : (list : List dreams.SupposedEntry) (place : ℕ) (e : dreams.SupposedEntry) → is_supported task known list [] e ≡ true
       → IsOfList task known (notes_of task before) tried list place e
       → IsDue task known (notes_of task before) e.instance
   first_due list place e supported o =
@@ -123,7 +123,7 @@ module _ (limits : Limits) (task : Task) (before : List Entry) (tried : List Ins
       }
 
   module _ (fit : IsFit task) (legal : IsLegal limits.version task before) where
-    pub dream_asks : (uses : List DreamUse) (steps : List Call) (entries : List dreams.Entry) (number : ℕ)
+    pub dream_asks : (uses : List DreamUse) (steps : List Call) (entries : List dreams.SupposedEntry) (number : ℕ)
         → IsDreamAfter limits task before tried uses steps entries
         → 0 < length (next_sent task (before ++ entry.Dream uses steps ∷ []) (length (names_of task before)) [] number [] entries)
     dream_asks uses steps [] number d = absurd (omega (arith, d.dream.some))

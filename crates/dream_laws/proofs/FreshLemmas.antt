@@ -13,7 +13,7 @@ use Rattle.lemmas.proofs.Members.{append_cases, get_and_take}
 use Rattle.lemmas.proofs.Numbers.{length-numbers_from}
 use Rattle.lemmas.specs.Lists.{numbers_from}
 use Rattle.task_model.proofs.KnownLemmas.{below_names, fact_member, with_facts-is}
-use Rattle.task_model.specs.Dreams.{AreSupposed, Entry, HasFreshOutputs, entry_facts, supposing}
+use Rattle.task_model.specs.Dreams.{AreSupposed, SupposedEntry, HasFreshOutputs, entry_facts, supposing}
 use Rattle.task_model.specs.Initial.{sorts_with, type_facts}
 use Rattle.task_model.specs.Known.{IsCoherent, IsIn, Known, type_fact}
 use Rattle.task_model.specs.Streams.{Note, certified_by, fact_of, output_types}
@@ -26,22 +26,22 @@ use Rattle.task_model.specs.declared.task.Task.{Task}
 
 -- ---- numbers of outputs
 
-abbrev pub outputs_in : List Entry → ℕ
-outputs_in list = sum_by (λ (e : Entry). length e.outputs) list
+abbrev pub outputs_in : List SupposedEntry → ℕ
+outputs_in list = sum_by (λ (e : SupposedEntry). length e.outputs) list
 
-pub outputs_behind : (list : List Entry) (k : ℕ) (e : Entry) → slice_get list k ≡ Some e
+pub outputs_behind : (list : List SupposedEntry) (k : ℕ) (e : SupposedEntry) → slice_get list k ≡ Some e
     → outputs_in (take k list) + length e.outputs ≤ outputs_in list
 outputs_behind [] k e at = absurd (cc)
 outputs_behind (x ∷ xs) zero e at =
-    let same : length x.outputs ≡ length e.outputs = ap (λ (y : Entry). length y.outputs) (same_Some x e at) in
-    omega (arith, same, sum_by-cons (λ (y : Entry). length y.outputs) x xs)
+    let same : length x.outputs ≡ length e.outputs = ap (λ (y : SupposedEntry). length y.outputs) (same_Some x e at) in
+    omega (arith, same, sum_by-cons (λ (y : SupposedEntry). length y.outputs) x xs)
 outputs_behind (x ∷ xs) (suc k) e at =
     let rest = outputs_behind xs k e at in
     omega (
       arith,
       rest,
-      sum_by-cons (λ (y : Entry). length y.outputs) x xs,
-      sum_by-cons (λ (y : Entry). length y.outputs) x (take k xs),
+      sum_by-cons (λ (y : SupposedEntry). length y.outputs) x xs,
+      sum_by-cons (λ (y : SupposedEntry). length y.outputs) x (take k xs),
     )
 
 in_row : (first n o : ℕ) → Contains (numbers_from first n) o → (first ≤ o) × (o < first + n)
@@ -55,7 +55,7 @@ in_row first (suc n) o m =
 -- ---- outputs are fresh
 
 module _ (task : Task) (known : Known) (notes : List Note) (tried : List Instance) where
-  pub each_is_fresh : (depth : ℕ) (list : List Entry) → AreSupposed task known notes tried depth list → (k : ℕ) (e : Entry)
+  pub each_is_fresh : (depth : ℕ) (list : List SupposedEntry) → AreSupposed task known notes tried depth list → (k : ℕ) (e : SupposedEntry)
       → slice_get list k ≡ Some e → HasFreshOutputs task known (take k list) e
   each_is_fresh zero list so k e at = let none : slice_get [] k ≡ Some e = ap (λ es. slice_get es k) (sym so) ∙ at in absurd (cc)
   each_is_fresh (suc depth) list (old, so_far, pass) k e at =
@@ -70,11 +70,11 @@ module _ (task : Task) (known : Known) (notes : List Note) (tried : List Instanc
       ]
 
 -- the outputs of an entry are numbers in a row
-pub record AreInRow (known : Known) (before : List Entry) (e : Entry) : Type 0 where
+pub record AreInRow (known : Known) (before : List SupposedEntry) (e : SupposedEntry) : Type 0 where
   pub count : ℕ
   pub are : e.outputs ≡ numbers_from (length known.names + outputs_in before) count
 
-rows : (task : Task) (known : Known) (before : List Entry) (e : Entry) → HasFreshOutputs task known before e
+rows : (task : Task) (known : Known) (before : List SupposedEntry) (e : SupposedEntry) → HasFreshOutputs task known before e
     → AreInRow known before e
 rows task known before e fresh = by (slice_get task.streams e.instance.stream) refl
   where
@@ -82,7 +82,7 @@ rows task known before e fresh = by (slice_get task.streams e.instance.stream) r
     by None at = record { count = 0; are = rw at at fresh }
     by (Some s) at = record { count = length s.outputs; are = rw at at fresh }
 
-outputs_many : (task : Task) (known : Known) (before : List Entry) (e : Entry) (s : Stream) → HasFreshOutputs task known before e
+outputs_many : (task : Task) (known : Known) (before : List SupposedEntry) (e : SupposedEntry) (s : Stream) → HasFreshOutputs task known before e
     → slice_get task.streams e.instance.stream ≡ Some s → length e.outputs ≡ length s.outputs
 outputs_many task known before e s fresh named =
     ap length row ∙ length-numbers_from (length known.names + outputs_in before) (length s.outputs)
@@ -91,13 +91,13 @@ outputs_many task known before e s fresh named =
     row = rw named at fresh
 
 -- no entry has more outputs than a stream of the task
-pub few_outputs : (task : Task) (known : Known) (notes : List Note) (tried : List Instance) (depth most : ℕ) (list : List Entry)
+pub few_outputs : (task : Task) (known : Known) (notes : List Note) (tried : List Instance) (depth most : ℕ) (list : List SupposedEntry)
     → AreSupposed task known notes tried depth list
     → ((k : ℕ) (s : Stream) → slice_get task.streams k ≡ Some s → length s.outputs ≤ most)
-    → All (λ (e : Entry). length e.outputs ≤ most) list
-few_outputs task known notes tried depth most list so few = all_by_place (λ (e : Entry). length e.outputs ≤ most) list one
+    → All (λ (e : SupposedEntry). length e.outputs ≤ most) list
+few_outputs task known notes tried depth most list so few = all_by_place (λ (e : SupposedEntry). length e.outputs ≤ most) list one
   where
-    one : (k : ℕ) (e : Entry) → slice_get list k ≡ Some e → length e.outputs ≤ most
+    one : (k : ℕ) (e : SupposedEntry) → slice_get list k ≡ Some e → length e.outputs ≤ most
     one k e at =
         let o = each_is_of task known notes tried depth list so k e at in
         omega (
@@ -106,16 +106,16 @@ few_outputs task known notes tried depth most list so few = all_by_place (λ (e 
           outputs_many task known (take k list) e o.stream (each_is_fresh task known notes tried depth list so k e at) o.named,
         )
 
-module _ (task : Task) (known : Known) (list : List Entry)
-    (fresh : (k : ℕ) (e : Entry) → slice_get list k ≡ Some e → HasFreshOutputs task known (take k list) e) where
+module _ (task : Task) (known : Known) (list : List SupposedEntry)
+    (fresh : (k : ℕ) (e : SupposedEntry) → slice_get list k ≡ Some e → HasFreshOutputs task known (take k list) e) where
   -- where an output of an entry stands
-  pub own_behind : (k : ℕ) (e : Entry) (object : ℕ) → slice_get list k ≡ Some e → Contains e.outputs object
+  pub own_behind : (k : ℕ) (e : SupposedEntry) (object : ℕ) → slice_get list k ≡ Some e → Contains e.outputs object
       → length known.names + outputs_in (take k list) ≤ object
   own_behind k e object at out =
       let r = rows task known (take k list) e (fresh k e at) in
       (in_row (length known.names + outputs_in (take k list)) r.count object (subst (λ os. Contains os object) r.are out)).0
 
-  own_before : (k : ℕ) (e : Entry) (object : ℕ) → slice_get list k ≡ Some e → Contains e.outputs object
+  own_before : (k : ℕ) (e : SupposedEntry) (object : ℕ) → slice_get list k ≡ Some e → Contains e.outputs object
       → object < length known.names + outputs_in (take k list) + length e.outputs
   own_before k e object at out =
       let r = rows task known (take k list) e (fresh k e at) in
@@ -124,7 +124,7 @@ module _ (task : Task) (known : Known) (list : List Entry)
       ap length r.are ∙ length-numbers_from (length known.names + outputs_in (take k list)) r.count in
       omega (arith, low.1, many)
 
-  apart : (j k : ℕ) (d e : Entry) (object : ℕ) → j < k → slice_get list j ≡ Some d → slice_get list k ≡ Some e
+  apart : (j k : ℕ) (d e : SupposedEntry) (object : ℕ) → j < k → slice_get list j ≡ Some d → slice_get list k ≡ Some e
       → Contains d.outputs object → Contains e.outputs object → ⊥
   apart j k d e object less at_j at_k out_d out_e =
       let there = get_and_take list j k d less at_j in
@@ -133,7 +133,7 @@ module _ (task : Task) (known : Known) (list : List Entry)
       omega (arith, low, same, own_before j d object at_j out_d, own_behind k e object at_k out_e)
 
   -- no object is an output of two entries
-  pub one_owner : (j k : ℕ) (d e : Entry) (object : ℕ) → slice_get list j ≡ Some d → slice_get list k ≡ Some e
+  pub one_owner : (j k : ℕ) (d e : SupposedEntry) (object : ℕ) → slice_get list j ≡ Some d → slice_get list k ≡ Some e
       → Contains d.outputs object → Contains e.outputs object → j ≡ k
   one_owner j k d e object at_j at_k out_d out_e =
       elim (cases_order j k) [
@@ -159,7 +159,7 @@ type_of_output domain (s ∷ ss) (o ∷ os) sort object m =
     ]
 
 module _ (task : Task) where
-  type_of_entry : (e : Entry) (sort object : ℕ) → Contains (entry_facts task e) (type_fact sort object) → Contains e.outputs object
+  type_of_entry : (e : SupposedEntry) (sort object : ℕ) → Contains (entry_facts task e) (type_fact sort object) → Contains e.outputs object
   type_of_entry e sort object m = by (slice_get task.streams e.instance.stream) refl
     where
       by : (o : Option Stream) → slice_get task.streams e.instance.stream ≡ o → Contains e.outputs object
@@ -176,8 +176,8 @@ module _ (task : Task) where
                 absurd (cc)
           ]
 
-  module _ (known : Known) (coherent : IsCoherent known) (list : List Entry)
-      (fresh : (k : ℕ) (e : Entry) → slice_get list k ≡ Some e → HasFreshOutputs task known (take k list) e) where
+  module _ (known : Known) (coherent : IsCoherent known) (list : List SupposedEntry)
+      (fresh : (k : ℕ) (e : SupposedEntry) → slice_get list k ≡ Some e → HasFreshOutputs task known (take k list) e) where
     typed_below : (sort object : ℕ) → Contains known.facts (type_fact sort object) → object < length known.names
     typed_below sort object m =
         below_names known.names object
@@ -185,9 +185,9 @@ module _ (task : Task) where
         (omega arith))
 
     -- with which a type of an output is known, among those is an entry that has it
-    pub owner_there : (kept : List Entry) (sort object : ℕ) → has_type (supposing task known list kept) object sort ≡ true
-        → (k : ℕ) (e : Entry) → slice_get list k ≡ Some e → Contains e.outputs object
-        → (d : Entry) × Contains kept d × Contains d.outputs object
+    pub owner_there : (kept : List SupposedEntry) (sort object : ℕ) → has_type (supposing task known list kept) object sort ≡ true
+        → (k : ℕ) (e : SupposedEntry) → slice_get list k ≡ Some e → Contains e.outputs object
+        → (d : SupposedEntry) × Contains kept d × Contains d.outputs object
     owner_there kept sort object typed k e at out =
         let more = flat_map (entry_facts task) kept in
         let now = supposing task known list kept in

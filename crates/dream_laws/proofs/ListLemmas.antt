@@ -9,7 +9,7 @@ use Rattle.lemmas.proofs.Distinct.{in_mapped}
 use Rattle.lemmas.proofs.Members.{append_cases, member_at}
 use Rattle.lemmas.proofs.Pigeonhole.{pigeons}
 use Rattle.task_model.proofs.StreamsLemmas.{instances_total}
-use Rattle.task_model.specs.Dreams.{Entry, instances_of, supposing, HasFreshOutputs, IsPass, AreSupposed, is_supported, HaveSupport}
+use Rattle.task_model.specs.Dreams.{SupposedEntry, instances_of, supposing, HasFreshOutputs, IsPass, AreSupposed, is_supported, HaveSupport}
 use Rattle.task_model.specs.Known.{Known}
 use Rattle.task_model.specs.Streams.{Note, IsDue, at_stream, instance_cmp, same_instance, is_finished}
 use Rattle.task_model.specs.declared.stream.Instance.{Instance}
@@ -22,38 +22,38 @@ use Rattle.dream_laws.proofs.SupportLemmas.{supported_later, support_stays}
 
 -- ---- fronts of what was added to
 
-pub added_front : (list old more : List Entry) → list ≡ old ++ more → (n : ℕ) → n ≤ length old → take n list ≡ take n old
+pub added_front : (list old more : List SupposedEntry) → list ≡ old ++ more → (n : ℕ) → n ≤ length old → take n list ≡ take n old
 added_front list old more added n few = ap (take n) added ∙ take-append-le n old more few
 
-pub added_behind : (list old more : List Entry) → list ≡ old ++ more → (k j : ℕ) → k ≡ length old + j
+pub added_behind : (list old more : List SupposedEntry) → list ≡ old ++ more → (k j : ℕ) → k ≡ length old + j
     → take k list ≡ old ++ take j more
 added_behind list old more added k j is =
     ap (take k) added ∙ ap (λ n. take n (old ++ more)) is ∙ take-append-add old more j
 
 module _ (task : Task) (known : Known) where
-  abbrev AreFresh : List Entry → List Entry → Type 0
-  AreFresh old more = (k : ℕ) (e : Entry) → slice_get more k ≡ Some e → HasFreshOutputs task known (old ++ take k more) e
+  abbrev AreFresh : List SupposedEntry → List SupposedEntry → Type 0
+  AreFresh old more = (k : ℕ) (e : SupposedEntry) → slice_get more k ≡ Some e → HasFreshOutputs task known (old ++ take k more) e
 
   -- ---- entries are their instances
 
-  head_fresh : (old more : List Entry) (x : Entry) → AreFresh old (x ∷ more) → HasFreshOutputs task known old x
+  head_fresh : (old more : List SupposedEntry) (x : SupposedEntry) → AreFresh old (x ∷ more) → HasFreshOutputs task known old x
   head_fresh old more x fresh = subst (λ es. HasFreshOutputs task known es x) (append-nil old) (fresh 0 x refl)
 
-  tail_fresh : (old more : List Entry) (x : Entry) → AreFresh old (x ∷ more) → AreFresh (old ++ x ∷ []) more
+  tail_fresh : (old more : List SupposedEntry) (x : SupposedEntry) → AreFresh old (x ∷ more) → AreFresh (old ++ x ∷ []) more
   tail_fresh old more x fresh k e at =
       subst (λ es. HasFreshOutputs task known es e) (sym (append_assoc old (x ∷ []) (take k more))) (fresh (suc k) e at)
 
-  same_entry : (old : List Entry) (x y : Entry) → x.instance ≡ y.instance → HasFreshOutputs task known old x
+  same_entry : (old : List SupposedEntry) (x y : SupposedEntry) → x.instance ≡ y.instance → HasFreshOutputs task known old x
       → HasFreshOutputs task known old y → x ≡ y
   same_entry old x y same first second =
       let outputs : x.outputs ≡ y.outputs =
       first
       ∙ ap (λ (i : Instance). at_stream task i.stream [] (λ stream.
-      numbers_from (length known.names + sum_by (λ (e : Entry). length e.outputs) old) (length stream.outputs))) same
+      numbers_from (length known.names + sum_by (λ (e : SupposedEntry). length e.outputs) old) (length stream.outputs))) same
       ∙ sym second in
       λ i. record { instance = same i; outputs = outputs i }
 
-  same_entries : (old xs ys : List Entry) → instances_of xs ≡ instances_of ys → AreFresh old xs → AreFresh old ys → xs ≡ ys
+  same_entries : (old xs ys : List SupposedEntry) → instances_of xs ≡ instances_of ys → AreFresh old xs → AreFresh old ys → xs ≡ ys
   same_entries old [] [] same first second = refl
   same_entries old [] (y ∷ ys) same first second = absurd (cc)
   same_entries old (x ∷ xs) [] same first second = absurd (cc)
@@ -68,14 +68,14 @@ module _ (task : Task) (known : Known) where
   module _ (notes : List Note) (tried : List Instance) where
     -- ---- one list
 
-    pass_once : (old xs ys : List Entry) → IsPass task known notes tried old xs → IsPass task known notes tried old ys → xs ≡ ys
+    pass_once : (old xs ys : List SupposedEntry) → IsPass task known notes tried old xs → IsPass task known notes tried old ys → xs ≡ ys
     pass_once old xs ys first second =
         let names = (supposing task known old old).names in
         let same = same_list (instance_cmp names) (instances_total names) (instances_of first.more) (instances_of second.more)
         first.ascend second.ascend (λ i m. (second.each i).1 ((first.each i).0 m)) (λ i m. (first.each i).1 ((second.each i).0 m)) in
         first.added ∙ ap (λ es. old ++ es) (same_entries old first.more second.more same first.fresh second.fresh) ∙ sym second.added
 
-    pub supposed_once : (depth : ℕ) (xs ys : List Entry) → AreSupposed task known notes tried depth xs
+    pub supposed_once : (depth : ℕ) (xs ys : List SupposedEntry) → AreSupposed task known notes tried depth xs
         → AreSupposed task known notes tried depth ys → xs ≡ ys
     supposed_once zero xs ys first second = first ∙ sym second
     supposed_once (suc depth) xs ys (old, so_far, pass) (other, likewise, again) =
@@ -85,13 +85,13 @@ module _ (task : Task) (known : Known) where
     -- ---- what comes of more
 
     -- the list after fewer passes is a front of the list
-    pub record HasFront (passes : ℕ) (list : List Entry) : Type 0 where
-      pub front : List Entry
+    pub record HasFront (passes : ℕ) (list : List SupposedEntry) : Type 0 where
+      pub front : List SupposedEntry
       pub supposed : AreSupposed task known notes tried passes front
-      pub rest : List Entry
+      pub rest : List SupposedEntry
       pub added : list ≡ front ++ rest
 
-    pub front_after : (depth passes : ℕ) (list : List Entry) → passes ≤ depth → AreSupposed task known notes tried depth list
+    pub front_after : (depth passes : ℕ) (list : List SupposedEntry) → passes ≤ depth → AreSupposed task known notes tried depth list
         → HasFront passes list
     front_after zero passes list few so =
         let none : 0 ≡ passes = omega (arith, few) in
@@ -119,7 +119,7 @@ module _ (task : Task) (known : Known) where
           }
         ]
 
-    pub more_come : (most depth : ℕ) (list : List Entry) → MoreAreSupposed most task known notes tried depth
+    pub more_come : (most depth : ℕ) (list : List SupposedEntry) → MoreAreSupposed most task known notes tried depth
         → AreSupposed task known notes tried depth list → most < length list
     more_come most depth list m so = by found found.supposed
       where
@@ -141,7 +141,7 @@ module _ (task : Task) (known : Known) where
               many,
               m.many,
               ap length same,
-              length-map pass.more (λ (e : Entry). e.instance),
+              length-map pass.more (λ (e : SupposedEntry). e.instance),
               ap length pass.added,
               length-append old pass.more,
               ap length h.added,
@@ -151,13 +151,13 @@ module _ (task : Task) (known : Known) where
     -- ---- entries of a list
 
     -- each entry is of a stream of the task, is reachable by what is known with earlier entries, and hasn't finished
-    pub record IsOfList (list : List Entry) (k : ℕ) (e : Entry) : Type 0 where
+    pub record IsOfList (list : List SupposedEntry) (k : ℕ) (e : SupposedEntry) : Type 0 where
       pub stream : Stream
       pub named : slice_get task.streams e.instance.stream ≡ Some stream
       pub unfinished : is_finished stream notes e.instance ≡ false
       pub supported : is_supported task known list (take k list) e ≡ true
 
-    pub each_is_of : (depth : ℕ) (list : List Entry) → AreSupposed task known notes tried depth list → (k : ℕ) (e : Entry)
+    pub each_is_of : (depth : ℕ) (list : List SupposedEntry) → AreSupposed task known notes tried depth list → (k : ℕ) (e : SupposedEntry)
         → slice_get list k ≡ Some e → IsOfList list k e
     each_is_of zero list so k e at = let none : slice_get [] k ≡ Some e = ap (λ es. slice_get es k) (sym so) ∙ at in absurd (cc)
     each_is_of (suc depth) list (old, so_far, pass) k e at =
@@ -178,7 +178,7 @@ module _ (task : Task) (known : Known) where
 
         new : (j : ℕ) → k ≡ length old + j → slice_get pass.more j ≡ Some e → IsOfList list k e
         new j is there =
-            let d = ((pass.each e.instance).0 (in_mapped (λ (x : Entry). x.instance) pass.more e (member_at pass.more j e there))).0 in
+            let d = ((pass.each e.instance).0 (in_mapped (λ (x : SupposedEntry). x.instance) pass.more e (member_at pass.more j e there))).0 in
             record {
               stream = d.stream;
               named = d.named;
@@ -187,6 +187,6 @@ module _ (task : Task) (known : Known) where
                   (supported_later task known old list old (take j pass.more) e d.stream d.named d.reachable);
             }
 
-    pub list_supported : (depth : ℕ) (list : List Entry) → AreSupposed task known notes tried depth list
+    pub list_supported : (depth : ℕ) (list : List SupposedEntry) → AreSupposed task known notes tried depth list
         → HaveSupport task known list list
     list_supported depth list so k e at = (each_is_of depth list so k e at).supported

@@ -7,7 +7,7 @@ use Rattle.std.specs.List.{flat_map}
 use Rattle.lemmas.proofs.Members.{from_take, push_cases}
 use Rattle.task_model.proofs.KnownLemmas.{facts_kept, facts_then}
 use Rattle.task_model.proofs.StreamsLemmas.{reachable_kept}
-use Rattle.task_model.specs.Dreams.{Entry, entry_facts, supposing, is_supported, HaveSupport, supported_after}
+use Rattle.task_model.specs.Dreams.{SupposedEntry, entry_facts, supposing, is_supported, HaveSupport, supported_after}
 use Rattle.task_model.specs.Known.{Known, is_fact, with_facts}
 use Rattle.task_model.specs.Streams.{is_reachable}
 use Rattle.task_model.specs.declared.fact.Fact.{Fact}
@@ -18,7 +18,7 @@ use Rattle.task_model.specs.declared.task.Task.{Task}
 
 module _ (task : Task) (known : Known) where
   -- what is known with entries is known with more
-  supposed_stays : (list other before more : List Entry) (fact : Fact) → is_fact (supposing task known list before).facts fact ≡ true
+  supposed_stays : (list other before more : List SupposedEntry) (fact : Fact) → is_fact (supposing task known list before).facts fact ≡ true
       → is_fact (supposing task known other (before ++ more)).facts fact ≡ true
   supposed_stays list other before more fact e =
       subst (λ fs. is_fact fs fact ≡ true)
@@ -27,7 +27,7 @@ module _ (task : Task) (known : Known) where
       (facts_kept (with_facts known.facts (flat_map (entry_facts task) before)) (flat_map (entry_facts task) more) fact e)
 
   -- an instance of this stream that is reachable with entries has support behind them and more
-  pub supported_later : (list other before more : List Entry) (e : Entry) (stream : Stream)
+  pub supported_later : (list other before more : List SupposedEntry) (e : SupposedEntry) (stream : Stream)
       → slice_get task.streams e.instance.stream ≡ Some stream
       → is_reachable stream (supposing task known list before) e.instance ≡ true
       → is_supported task known other (before ++ more) e ≡ true
@@ -37,12 +37,12 @@ module _ (task : Task) (known : Known) where
       (supposed_stays list other before more) stream e.instance reached)
 
   -- the stream of an entry that has support
-  pub record HasStream (list before : List Entry) (e : Entry) : Type 0 where
+  pub record HasStream (list before : List SupposedEntry) (e : SupposedEntry) : Type 0 where
     pub stream : Stream
     pub named : slice_get task.streams e.instance.stream ≡ Some stream
     pub reached : is_reachable stream (supposing task known list before) e.instance ≡ true
 
-  pub stream_of : (list before : List Entry) (e : Entry) → is_supported task known list before e ≡ true → HasStream list before e
+  pub stream_of : (list before : List SupposedEntry) (e : SupposedEntry) → is_supported task known list before e ≡ true → HasStream list before e
   stream_of list before e s = by (slice_get task.streams e.instance.stream) refl s
     where
       by : (o : Option Stream) → slice_get task.streams e.instance.stream ≡ o → is_supported task known list before e ≡ true
@@ -50,17 +50,17 @@ module _ (task : Task) (known : Known) where
       by None at t = let no : false ≡ true = rw at at t in absurd (cc)
       by (Some found) at t = record { stream = found; named = at; reached = rw at at t }
 
-  pub support_stays : (list other before more : List Entry) (e : Entry) → is_supported task known list before e ≡ true
+  pub support_stays : (list other before more : List SupposedEntry) (e : SupposedEntry) → is_supported task known list before e ≡ true
       → is_supported task known other (before ++ more) e ≡ true
   support_stays list other before more e s =
       let h = stream_of list before e s in supported_later list other before more e h.stream h.named h.reached
 
   -- ---- entries that have support
 
-  pub support_none : (list : List Entry) → HaveSupport task known list []
+  pub support_none : (list : List SupposedEntry) → HaveSupport task known list []
   support_none list k e at = absurd (cc)
 
-  pub support_pushed : (list entries : List Entry) (e : Entry) → HaveSupport task known list entries
+  pub support_pushed : (list entries : List SupposedEntry) (e : SupposedEntry) → HaveSupport task known list entries
       → is_supported task known list entries e ≡ true → HaveSupport task known list (entries ++ e ∷ [])
   support_pushed list entries e each here k x at =
       elim (push_cases entries e k x at) [
@@ -76,14 +76,14 @@ module _ (task : Task) (known : Known) where
       whole : (k : ℕ) → k ≡ length entries → is_supported task known list (take k entries) e ≡ true
       whole k same = subst (λ es. is_supported task known list es e ≡ true) (sym (take_all k entries (omega (arith, same)))) here
 
-  pub support_front : (list entries : List Entry) (count : ℕ) → HaveSupport task known list entries
+  pub support_front : (list entries : List SupposedEntry) (count : ℕ) → HaveSupport task known list entries
       → HaveSupport task known list (take count entries)
   support_front list entries count each k e at =
       let there = from_take entries count k e at in
       subst (λ es. is_supported task known list es e ≡ true) (sym (take-take k count entries (omega (arith, there.0)))) (each k e there.1)
 
   -- what is left of a rest after what is kept has support
-  pub support_after : (list kept rest : List Entry) → HaveSupport task known list kept
+  pub support_after : (list kept rest : List SupposedEntry) → HaveSupport task known list kept
       → HaveSupport task known list (supported_after task known list kept rest)
   support_after list kept [] each = each
   support_after list kept (e ∷ rest) each =

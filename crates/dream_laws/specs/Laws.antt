@@ -23,20 +23,20 @@ use Rattle.transcript_model.specs.declared.entry.Entry.TheVariants as entry
 -- There is one list after so many passes.
 abbrev pub SupposedListsAreOne : Type 0
 SupposedListsAreOne =
-    (task : Task) (known : Known) (notes : List Note) (tried : List Instance) (depth : ℕ) (xs ys : List dreams.Entry)
+    (task : Task) (known : Known) (notes : List Note) (tried : List Instance) (depth : ℕ) (xs ys : List dreams.SupposedEntry)
     → AreSupposed task known notes tried depth xs → AreSupposed task known notes tried depth ys → xs ≡ ys
 
 -- Where more entries than so many are supposed, the list has more.
 abbrev pub MoreAreTooMany : Type 0
 MoreAreTooMany =
     (most : ℕ) (task : Task) (known : Known) (notes : List Note) (tried : List Instance) (depth : ℕ)
-    (list : List dreams.Entry) → MoreAreSupposed most task known notes tried depth
+    (list : List dreams.SupposedEntry) → MoreAreSupposed most task known notes tried depth
     → AreSupposed task known notes tried depth list → most < length list
 
 -- Each entry of the list has support among those before it.
 abbrev pub ListsHaveSupport : Type 0
 ListsHaveSupport =
-    (task : Task) (known : Known) (notes : List Note) (tried : List Instance) (depth : ℕ) (list : List dreams.Entry)
+    (task : Task) (known : Known) (notes : List Note) (tried : List Instance) (depth : ℕ) (list : List dreams.SupposedEntry)
     → AreSupposed task known notes tried depth list → HaveSupport task known list list
 
 -- ---- dreams
@@ -52,14 +52,14 @@ PlansIgnoreNames =
 abbrev pub DreamsAreOne : Type 0
 DreamsAreOne =
     (limits : Limits) (task : Task) (before : List Entry) (tried : List Instance) (uses : List DreamUse)
-    (steps others : List Call) (xs ys : List dreams.Entry) → IsDreamAfter limits task before tried uses steps xs
+    (steps others : List Call) (xs ys : List dreams.SupposedEntry) → IsDreamAfter limits task before tried uses steps xs
     → IsDreamAfter limits task before tried uses others ys → xs ≡ ys
 
 -- Behind a dream something is asked: its first entry, if nothing else.
 abbrev pub ADreamAsks : Type 0
 ADreamAsks =
     (limits : Limits) (task : Task) (before : List Entry) (tried : List Instance) (uses : List DreamUse)
-    (steps : List Call) (entries : List dreams.Entry) (number : ℕ) → IsFit task → IsLegal limits.version task before
+    (steps : List Call) (entries : List dreams.SupposedEntry) (number : ℕ) → IsFit task → IsLegal limits.version task before
     → IsDreamAfter limits task before tried uses steps entries
     → 0 < length (next_sent task (before ++ entry.Dream uses steps ∷ []) (length (names_of task before)) [] number []
     entries)

@@ -34,7 +34,7 @@ use Rattle.transcript_model.specs.Transcript.{objects_in, names_of, known_of, no
 use Rattle.transcript_model.specs.declared.entry.Entry.{Entry}
 use Rattle.transcript_model.specs.declared.entry.Entry.TheVariants as entry
 use Rattle.dreaming.proofs.ThinLemmas.{dream_after, known_plan, sure_none}
-use Rattle.dreaming.specs.Answers.{HasSureNoDreamAfter, IsDreamed, IsKnownPlan, IsSureNone, HasFewSteps, IsThinDream, ComesOfList}
+use Rattle.dreaming.specs.Answers.{HasSureNoDreamAfter, IsDreamed, IsKnownPlan, IsSureNone, HasFewDreamSteps, IsThinDream, ComesOfList}
 use Rattle.dreaming.specs.Parts.{IsListed}
 use Rattle.dreaming.specs.declared.answer.Dreamt.{Dreamt}
 use Rattle.dreaming.specs.declared.answer.Dreamt.TheVariants.{Dream, Empty}
@@ -108,7 +108,7 @@ pub listed : (task : Task) (known : Known) (notes : List Note) (tried : List Ins
     → ArePlainEntries task d.base d.list → IsListed task d
 listed task known notes tried depth d base so is plain = record {
   plain = plain;
-  fresh = subst (λ k. (n : ℕ) (e : dreams.Entry) → slice_get d.list n ≡ Some e → HasFreshOutputs task k (take n d.list) e) (sym base)
+  fresh = subst (λ k. (n : ℕ) (e : dreams.SupposedEntry) → slice_get d.list n ≡ Some e → HasFreshOutputs task k (take n d.list) e) (sym base)
       (each_is_fresh task known notes tried depth d.list so);
   support = subst (λ k. dreams.HaveSupport task k d.list d.list) (sym base) (list_supported task known notes tried depth d.list so);
   known = is ∙ ap (λ k. supposing task k d.list d.list) (sym base);
@@ -147,7 +147,7 @@ plan_known task before d h base most (Dream uses steps entries plan cost) c =
     known_plan task before d h base uses steps entries.items plan.steps cost c.0
 plan_known task before d h base most Empty c = tt
 
-pub few_steps : (task : Task) (d : Dreamable) (most : ℕ) (x : Dreamt) → ComesOfList task d most x → HasFewSteps most x
+pub few_steps : (task : Task) (d : Dreamable) (most : ℕ) (x : Dreamt) → ComesOfList task d most x → HasFewDreamSteps most x
 few_steps task d most (Dream uses steps entries plan cost) c =
     (c.1, omega (arith, c.1, ap length c.0.shown, length-map plan.steps (call_of_step task d.known.names)))
 few_steps task d most Empty c = tt
@@ -162,7 +162,7 @@ module _ (task : Task) (s : State) (h : IsSession task s) (working : s.failed �
   told : notes ≡ notes_of task s.entries
   told = of_notes ∙ session_notes task s h working learnt
 
-  supposed_there : (limits : Limits) → limits.depth ≡ depth → (list : List dreams.Entry) → AreSupposed task known notes tried depth list
+  supposed_there : (limits : Limits) → limits.depth ≡ depth → (list : List dreams.SupposedEntry) → AreSupposed task known notes tried depth list
       → AreSupposed task (known_of task s.entries) (notes_of task s.entries) tried limits.depth list
   supposed_there limits deep list so =
       subst (λ n. AreSupposed task (known_of task s.entries) (notes_of task s.entries) tried n list) (sym deep)
@@ -180,8 +180,8 @@ module _ (task : Task) (s : State) (h : IsSession task s) (working : s.failed �
     session_knows =
         IfOk-weaker r (ComesOfList task d most) (IsKnownPlan task s.entries) (plan_known task s.entries d l (base ∙ there) most) of_list
 
-    pub session_few : IfOk r (HasFewSteps most)
-    session_few = IfOk-weaker r (ComesOfList task d most) (HasFewSteps most) (few_steps task d most) of_list
+    pub session_few : IfOk r (HasFewDreamSteps most)
+    session_few = IfOk-weaker r (ComesOfList task d most) (HasFewDreamSteps most) (few_steps task d most) of_list
 
     pub session_sure : (limits : Limits) → limits.depth ≡ depth → limits.states ≡ most
         → IfOk r (IsSureNone limits task s.entries tried)

@@ -14,7 +14,7 @@ use Rattle.lemmas.proofs.ListTests.{get_there, all_by_place}
 use Rattle.lemmas.proofs.Members.{push_cases, get_single, from_take, place_of}
 use Rattle.lemmas.specs.Lists.{AreAscending}
 use Rattle.optimistic_set.specs.Dreamable.{Dreamable}
-use Rattle.task_model.specs.Dreams.{Entry, is_supported, HaveSupport, supported_after, without_entry}
+use Rattle.task_model.specs.Dreams.{SupposedEntry, is_supported, HaveSupport, supported_after, without_entry}
 use Rattle.task_model.specs.Known.{Known}
 use Rattle.task_model.specs.declared.task.GroundAction.{GroundAction}
 use Rattle.task_model.specs.declared.task.Task.{Task}
@@ -24,7 +24,7 @@ use Rattle.dreaming.specs.Parts.{entries_at}
 use Rattle.dreaming.specs.Thinning.{has_support, supported_places, places_without, IsValidWith, IsEssential, IsKeptOf, AreNeededOf}
 use Rattle.dreaming.specs.declared.trial.Kept.{Kept}
 
-module _ (task : Task) (known : Known) (list : List Entry) where
+module _ (task : Task) (known : Known) (list : List SupposedEntry) where
   -- what holds of what is left, whichever of the rest has support
   pub below_push : (kept : List ℕ) (p : ℕ) → AreBelow list kept → p < length list → AreBelow list (kept ++ p ∷ [])
   below_push kept p below lt = all_by_place (λ place. place < length list) (kept ++ p ∷ []) each
@@ -85,7 +85,7 @@ module _ (task : Task) (known : Known) (list : List Entry) where
             | inr last ↦ others 0 (suc j) a b (omega arith) (ap Some (sym last.1)) at_j
           ]
 
-  either : (kept : List ℕ) (p : ℕ) (ps : List ℕ) (e : Entry) → slice_get list p ≡ Some e
+  either : (kept : List ℕ) (p : ℕ) (ps : List ℕ) (e : SupposedEntry) → slice_get list p ≡ Some e
       → entries_at list (supported_places task known list (kept ++ p ∷ []) ps)
       ≡ supported_after task known list (entries_at list (kept ++ p ∷ [])) (entries_at list ps)
       → entries_at list (supported_places task known list kept ps)

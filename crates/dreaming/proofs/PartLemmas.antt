@@ -15,7 +15,7 @@ use Rattle.optimistic_set.proofs.SupposingLemmas.{supposing_coherent}
 use Rattle.optimistic_set.specs.Dreamable.{Dreamable}
 use Rattle.optimistic_set.specs.Entries.{ArePlainEntries}
 use Rattle.task_model.proofs.KnownLemmas.{facts_then}
-use Rattle.task_model.specs.Dreams.{Entry, entry_facts, entry_values, entry_names, supposing, is_supported}
+use Rattle.task_model.specs.Dreams.{SupposedEntry, entry_facts, entry_values, entry_names, supposing, is_supported}
 use Rattle.task_model.specs.Known.{Known, IsCoherent, with_facts, with_values}
 use Rattle.task_model.specs.Plans.{IsValid}
 use Rattle.task_model.specs.Streams.{certified_by, worth_by, is_reachable}
@@ -28,20 +28,20 @@ use Rattle.task_model.specs.declared.task.Valued.{Valued}
 use Rattle.transcript_model.proofs.LegalPrefixLemmas.{values_then}
 use Rattle.transcript_model.proofs.NamedObjectLemmas.{fit_stream_at}
 use Rattle.dreaming.proofs.PlacesLemmas.{AreBelow, entry_of_list, entries_pushed, at_place}
-use Rattle.dreaming.specs.Parts.{Portion, entries_at, IsListed, IsPart}
+use Rattle.dreaming.specs.Parts.{Portion, entries_at, IsListed, IsPortion}
 use Rattle.dreaming.specs.Thinning.{IsPartAt, IsValidWith, has_support, supported_places}
 
 -- ---- plain entries
 
-pub plain_few : (task : Task) (known : Known) (list : List Entry) → ArePlainEntries task known list → HaveFew list
+pub plain_few : (task : Task) (known : Known) (list : List SupposedEntry) → ArePlainEntries task known list → HaveFew list
 plain_few task known list plain =
-    all_by_place (λ (e : Entry). length e.outputs ≤ 8) list
+    all_by_place (λ (e : SupposedEntry). length e.outputs ≤ 8) list
     (λ k e at.
     let p = plain.each k e at in
     let parts = fit_parts task.domain p.stream (fit_stream_at task e.instance.stream p.stream plain.base.fit p.named) in
     omega (arith, p.outputs, parts.outputs))
 
-pub part_coherent : (task : Task) (p : Portion) → IsPart task p → IsCoherent p.known
+pub part_coherent : (task : Task) (p : Portion) → IsPortion task p → IsCoherent p.known
 part_coherent task p h =
     subst IsCoherent (sym h.known)
     (supposing_coherent task p.base p.list (entries_at p.list p.places) h.plain.base.fit h.plain.base.declared h.coherent h.plain.base.real
@@ -68,7 +68,7 @@ module _ (task : Task) (d : Dreamable) (p : Portion) (names : List (List ℕ)) (
       ap (λ vs. p.base.values ++ vs) no_values ∙ append-nil p.base.values
       ∙ ap (λ ps. with_values p.base.values (flat_map (entry_values task) (entries_at p.list ps))) (sym places)
 
-  pub none_taken : IsCoherent p.base → p.known ≡ laid_over p.base names facts values → IsPart task p
+  pub none_taken : IsCoherent p.base → p.known ≡ laid_over p.base names facts values → IsPortion task p
   none_taken coherent known = record {
     plain = subst (λ b. ArePlainEntries task b p.list) (sym base) (subst (ArePlainEntries task d.base) (sym list) h.plain);
     coherent = coherent;
@@ -78,13 +78,13 @@ module _ (task : Task) (d : Dreamable) (p : Portion) (names : List (List ℕ)) (
 
 -- ---- one entry more
 
-module _ (task : Task) (old new : Portion) (place : ℕ) (e : Entry) (stream : Stream) (h : IsPart task old)
+module _ (task : Task) (old new : Portion) (place : ℕ) (e : SupposedEntry) (stream : Stream) (h : IsPortion task old)
     (at : slice_get old.list place ≡ Some e) (named : slice_get task.streams e.instance.stream ≡ Some stream)
     (base : new.base ≡ old.base) (list : new.list ≡ old.list) (places : new.places ≡ old.places ++ place ∷ [])
     (names : new.known.names ≡ old.known.names)
     (facts : new.known.facts ≡ with_facts old.known.facts (certified_by task.domain stream e.instance.inputs e.outputs))
     (values : new.known.values ≡ with_values old.known.values (worth_by stream e.instance.inputs 0)) where
-  abbrev kept : List Entry
+  abbrev kept : List SupposedEntry
   kept = entries_at old.list old.places
 
   grown : entries_at new.list new.places ≡ kept ++ e ∷ []
@@ -131,7 +131,7 @@ module _ (task : Task) (old new : Portion) (place : ℕ) (e : Entry) (stream : S
             | inr last ↦ subst (λ n. n < length old.list) (sym last.1) (slice_get_within old.list place e at)
           ]
 
-  pub one_taken : IsPart task new
+  pub one_taken : IsPortion task new
   one_taken = record {
     plain = subst (λ b. ArePlainEntries task b new.list) (sym base) (subst (ArePlainEntries task old.base) (sym list) h.plain);
     coherent = subst IsCoherent (sym base) h.coherent;
@@ -145,21 +145,21 @@ module _ (task : Task) (old new : Portion) (place : ℕ) (e : Entry) (stream : S
 
 -- ---- support
 
-module _ (task : Task) (p : Portion) (h : IsPart task p) where
+module _ (task : Task) (p : Portion) (h : IsPortion task p) where
   -- the test of an instance that is reachable by what is known with the entries
-  pub supports_is : (e x : Entry) (stream : Stream) (known : Known) (i : Instance) (b : Bool) → x ≡ e → i ≡ x.instance
+  pub supports_is : (e x : SupposedEntry) (stream : Stream) (known : Known) (i : Instance) (b : Bool) → x ≡ e → i ≡ x.instance
       → Some stream ≡ slice_get task.streams i.stream → known ≡ p.known → b ≡ is_reachable stream known i
       → b ≡ is_supported task p.base p.list (entries_at p.list p.places) e
   supports_is e x stream known i b same of named is test =
-      let same_instance : i ≡ e.instance = of ∙ ap (λ (y : Entry). y.instance) same in
+      let same_instance : i ≡ e.instance = of ∙ ap (λ (y : SupposedEntry). y.instance) same in
       let there : slice_get task.streams e.instance.stream ≡ Some stream =
       ap (λ (j : Instance). slice_get task.streams j.stream) (sym same_instance) ∙ sym named in
       test ∙ (λ k. is_reachable stream ((is ∙ h.known) k) (same_instance k)) ∙ sym (rw there refl)
 
-  pub supports_not : (e x : Entry) (i : Instance) → x ≡ e → i ≡ x.instance → None ≡ slice_get task.streams i.stream
+  pub supports_not : (e x : SupposedEntry) (i : Instance) → x ≡ e → i ≡ x.instance → None ≡ slice_get task.streams i.stream
       → false ≡ is_supported task p.base p.list (entries_at p.list p.places) e
   supports_not e x i same of named =
-      let same_instance : i ≡ e.instance = of ∙ ap (λ (y : Entry). y.instance) same in
+      let same_instance : i ≡ e.instance = of ∙ ap (λ (y : SupposedEntry). y.instance) same in
       let there : slice_get task.streams e.instance.stream ≡ None =
       ap (λ (j : Instance). slice_get task.streams j.stream) (sym same_instance) ∙ sym named in
       sym (rw there refl)
@@ -167,7 +167,7 @@ module _ (task : Task) (p : Portion) (h : IsPart task p) where
 -- ---- parts at places
 
 pub part_then : (task : Task) (d : Dreamable) (places : List ℕ) (old new : Portion) (place : ℕ) → IsPartAt task d places old
-    → IsPart task new → new.base ≡ old.base → new.list ≡ old.list → new.places ≡ old.places ++ place ∷ []
+    → IsPortion task new → new.base ≡ old.base → new.list ≡ old.list → new.places ≡ old.places ++ place ∷ []
     → IsPartAt task d (places ++ place ∷ []) new
 part_then task d places old new place h part base list places_are = record {
   part = part;
@@ -177,7 +177,7 @@ part_then task d places old new place h part base list places_are = record {
 }
 
 pub part_more : (task : Task) (d : Dreamable) (all : List ℕ) (i : ℕ) (old new : Portion) → i < length all
-    → IsPartAt task d (take i all) old → IsPart task new → new.base ≡ old.base → new.list ≡ old.list
+    → IsPartAt task d (take i all) old → IsPortion task new → new.base ≡ old.base → new.list ≡ old.list
     → new.places ≡ old.places ++ get_or all i 0 ∷ [] → IsPartAt task d (take (i + 1) all) new
 part_more task d all i old new lt h part base list places =
     subst (λ ps. IsPartAt task d ps new) (sym (take_more all i 0 lt))
@@ -203,8 +203,8 @@ part_not_valid task d steps places p h not cost valid =
 
 -- ---- one place of a rest
 
-module _ (task : Task) (known : Known) (list : List Entry) where
-  pub has_support_is : (places : List ℕ) (place : ℕ) (e : Entry) → slice_get list place ≡ Some e
+module _ (task : Task) (known : Known) (list : List SupposedEntry) where
+  pub has_support_is : (places : List ℕ) (place : ℕ) (e : SupposedEntry) → slice_get list place ≡ Some e
       → has_support task known list places place ≡ is_supported task known list (entries_at list places) e
   has_support_is places place e at = rw at refl
 

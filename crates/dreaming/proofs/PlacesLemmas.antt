@@ -12,16 +12,16 @@ use Rattle.lemmas.proofs.Ascending.{contains_none, contains_cases, contains_here
 use Rattle.lemmas.proofs.ListTests.{get_there, all_by_place}
 use Rattle.lemmas.proofs.Members.{push_cases, get_behind, get_single, from_take, member_at}
 use Rattle.lemmas.specs.Lists.{AreAscending, numbers_from}
-use Rattle.task_model.specs.Dreams.{Entry}
+use Rattle.task_model.specs.Dreams.{SupposedEntry}
 use Rattle.dreaming.specs.Parts.{entries_at}
 
 -- the places are places of the list
-abbrev pub AreBelow : List Entry → List ℕ → Type 0
+abbrev pub AreBelow : List SupposedEntry → List ℕ → Type 0
 AreBelow list places = All (λ place. place < length list) places
 
 -- ---- which entries stand there
 
-pub chosen_at : (list : List Entry) (places : List ℕ) → AreBelow list places
+pub chosen_at : (list : List SupposedEntry) (places : List ℕ) → AreBelow list places
     → map (slice_get list) places ≡ map Some (entries_at list places)
 chosen_at list [] below = refl
 chosen_at list (p ∷ ps) below =
@@ -29,25 +29,25 @@ chosen_at list (p ∷ ps) below =
     let rest = chosen_at list ps (All-tail (λ place. place < length list) p ps below) in
     (λ i. there.1 i ∷ rest i) ∙ sym (ap (λ o. map Some (cons_option o (entries_at list ps))) there.1)
 
-pub length-entries_at : (list : List Entry) (places : List ℕ) → AreBelow list places → length (entries_at list places) ≡ length places
+pub length-entries_at : (list : List SupposedEntry) (places : List ℕ) → AreBelow list places → length (entries_at list places) ≡ length places
 length-entries_at list places below =
     sym (length-map (entries_at list places) Some) ∙ sym (ap length (chosen_at list places below)) ∙ length-map places (slice_get list)
 
-pub from_entries : (list : List Entry) (places : List ℕ) (e : Entry) → Contains (entries_at list places) e
+pub from_entries : (list : List SupposedEntry) (places : List ℕ) (e : SupposedEntry) → Contains (entries_at list places) e
     → (q : ℕ) × Contains places q × (slice_get list q ≡ Some e)
 from_entries list [] e m = absurd (contains_none e m)
 from_entries list (p ∷ ps) e m =
     by (λ c. let r = from_entries list ps e c in (r.0, contains_later p ps r.0 r.1, r.2)) (slice_get list p) refl m
   where
     by : (Contains (entries_at list ps) e → (q : ℕ) × Contains (p ∷ ps) q × (slice_get list q ≡ Some e))
-        → (o : Option Entry) → slice_get list p ≡ o → Contains (cons_option o (entries_at list ps)) e
+        → (o : Option SupposedEntry) → slice_get list p ≡ o → Contains (cons_option o (entries_at list ps)) e
         → (q : ℕ) × Contains (p ∷ ps) q × (slice_get list q ≡ Some e)
     by later None is c = later c
     by later (Some x) is c =
         elim (contains_cases x (entries_at list ps) e c)
         [ inl same ↦ (p, contains_here p ps, is ∙ ap Some same) | inr other ↦ later other ]
 
-pub in_entries : (list : List Entry) (places : List ℕ) (q : ℕ) (e : Entry) → Contains places q → slice_get list q ≡ Some e
+pub in_entries : (list : List SupposedEntry) (places : List ℕ) (q : ℕ) (e : SupposedEntry) → Contains places q → slice_get list q ≡ Some e
     → Contains (entries_at list places) e
 in_entries list [] q e m at = absurd (contains_none q m)
 in_entries list (p ∷ ps) q e m at =
@@ -58,21 +58,21 @@ in_entries list (p ∷ ps) q e m at =
       | inr later ↦ by (slice_get list p) (in_entries list ps q e later at)
     ]
   where
-    by : (o : Option Entry) → Contains (entries_at list ps) e → Contains (cons_option o (entries_at list ps)) e
+    by : (o : Option SupposedEntry) → Contains (entries_at list ps) e → Contains (cons_option o (entries_at list ps)) e
     by None c = c
     by (Some x) c = contains_later x (entries_at list ps) e c
 
-pub entry_of_list : (list : List Entry) (places : List ℕ) (k : ℕ) (e : Entry) → slice_get (entries_at list places) k ≡ Some e
+pub entry_of_list : (list : List SupposedEntry) (places : List ℕ) (k : ℕ) (e : SupposedEntry) → slice_get (entries_at list places) k ≡ Some e
     → (q : ℕ) × (slice_get list q ≡ Some e)
 entry_of_list list places k e at =
     let r = from_entries list places e (member_at (entries_at list places) k e at) in (r.0, r.2)
 
-pub entries_pushed : (list : List Entry) (places : List ℕ) (place : ℕ) (e : Entry) → slice_get list place ≡ Some e
+pub entries_pushed : (list : List SupposedEntry) (places : List ℕ) (place : ℕ) (e : SupposedEntry) → slice_get list place ≡ Some e
     → entries_at list (places ++ place ∷ []) ≡ entries_at list places ++ e ∷ []
 entries_pushed list places place e at =
     filter_map-append (slice_get list) places (place ∷ []) ∙ ap (λ o. entries_at list places ++ cons_option o []) at
 
-pub entries_more : (list : List Entry) (places : List ℕ) (i : ℕ) (e : Entry) → i < length places
+pub entries_more : (list : List SupposedEntry) (places : List ℕ) (i : ℕ) (e : SupposedEntry) → i < length places
     → slice_get list (get_or places i 0) ≡ Some e
     → entries_at list (take (i + 1) places) ≡ entries_at list (take i places) ++ e ∷ []
 entries_more list places i e lt at =
@@ -84,10 +84,10 @@ pub below_at : (n : ℕ) (places : List ℕ) → All (λ place. place < n) place
 below_at n places below k p at =
     subst (λ q. q < n) (get_or_from_slice_get places k p p at) (below k p (slice_get_within places k p at))
 
-pub at_place : (list : List Entry) (places : List ℕ) → AreBelow list places → (k p : ℕ) → slice_get places k ≡ Some p → p < length list
+pub at_place : (list : List SupposedEntry) (places : List ℕ) → AreBelow list places → (k p : ℕ) → slice_get places k ≡ Some p → p < length list
 at_place list places = below_at (length list) places
 
-pub below_front : (list : List Entry) (places : List ℕ) (n : ℕ) → AreBelow list places → AreBelow list (take n places)
+pub below_front : (list : List SupposedEntry) (places : List ℕ) (n : ℕ) → AreBelow list places → AreBelow list (take n places)
 below_front list places n below =
     all_by_place (λ place. place < length list) (take n places)
     (λ k p at. let there = from_take places n k p at in at_place list places below k p there.1)
@@ -98,19 +98,19 @@ from_drop (suc n) [] k x at = absurd (cc)
 from_drop (suc n) (y ∷ ys) k x at =
     let same : suc n + k ≡ suc (n + k) = omega arith in ap (slice_get (y ∷ ys)) same ∙ from_drop n ys k x at
 
-pub below_rest : (list : List Entry) (places : List ℕ) (n : ℕ) → AreBelow list places → AreBelow list (drop n places)
+pub below_rest : (list : List SupposedEntry) (places : List ℕ) (n : ℕ) → AreBelow list places → AreBelow list (drop n places)
 below_rest list places n below =
     all_by_place (λ place. place < length list) (drop n places)
     (λ k p at. at_place list places below (n + k) p (from_drop n places k p at))
 
-pub entries_front : (list : List Entry) (places : List ℕ) (n : ℕ) → AreBelow list places
+pub entries_front : (list : List SupposedEntry) (places : List ℕ) (n : ℕ) → AreBelow list places
     → entries_at list (take n places) ≡ take n (entries_at list places)
 entries_front list places n below =
     somes_same (entries_at list (take n places)) (take n (entries_at list places))
     (sym (chosen_at list (take n places) (below_front list places n below)) ∙ sym (take-map (slice_get list) n places)
     ∙ ap (take n) (chosen_at list places below) ∙ take-map Some n (entries_at list places))
 
-pub entries_rest : (list : List Entry) (places : List ℕ) (n : ℕ) → AreBelow list places
+pub entries_rest : (list : List SupposedEntry) (places : List ℕ) (n : ℕ) → AreBelow list places
     → entries_at list (drop n places) ≡ drop n (entries_at list places)
 entries_rest list places n below =
     somes_same (entries_at list (drop n places)) (drop n (entries_at list places))
@@ -127,15 +127,15 @@ number_at first (suc n) zero p at =
 number_at first (suc n) (suc k) p at =
     let later = number_at (first + 1) n k p at in (omega (arith, later.0), omega (arith, later.1))
 
-pub all_below : (list : List Entry) → AreBelow list (numbers_from 0 (length list))
+pub all_below : (list : List SupposedEntry) → AreBelow list (numbers_from 0 (length list))
 all_below list =
     all_by_place (λ place. place < length list) (numbers_from 0 (length list))
     (λ k p at. let there = number_at 0 (length list) k p at in omega (arith, there.0, there.1))
 
-pub all_entries : (list : List Entry) → entries_at list (numbers_from 0 (length list)) ≡ list
+pub all_entries : (list : List SupposedEntry) → entries_at list (numbers_from 0 (length list)) ≡ list
 all_entries list = from [] list
   where
-    from : (before rest : List Entry) → entries_at (before ++ rest) (numbers_from (length before) (length rest)) ≡ rest
+    from : (before rest : List SupposedEntry) → entries_at (before ++ rest) (numbers_from (length before) (length rest)) ≡ rest
     from before [] = refl
     from before (x ∷ xs) =
         let place : length before ≡ length before + 0 = omega arith in

@@ -46,7 +46,7 @@ module _ (task : Task) (d : Dreamable) (steps : List GroundAction) where
       all = ap (entries_at d.list) are ∙ all_entries d.list
 
   -- what is kept in the end, as it is shown
-  pub thin_shown : (k : Kept) (uses : List DreamUse) (shown : List Call) (entries : List dreams.Entry)
+  pub thin_shown : (k : Kept) (uses : List DreamUse) (shown : List Call) (entries : List dreams.SupposedEntry)
       → IsThinOf task d steps k → entries ≡ entries_at d.list k.places.items
       → map (λ (u : DreamUse). u.number) uses ≡ map (λ place. place + 1) k.places.items
       → map (λ (u : DreamUse). u.call) uses ≡ map (call_of_instance task d.known.names) (instances_of (entries_at d.list k.places.items))
@@ -72,7 +72,7 @@ module _ (task : Task) (d : Dreamable) (steps : List GroundAction) where
 -- ---- names
 
 -- an entry of the list has a stream of the task, and its inputs have names
-pub named_entry : (task : Task) (d : Dreamable) (place : ℕ) (e : dreams.Entry) → IsListed task d → slice_get d.list place ≡ Some e
+pub named_entry : (task : Task) (d : Dreamable) (place : ℕ) (e : dreams.SupposedEntry) → IsListed task d → slice_get d.list place ≡ Some e
     → IsNamed task d.known.names e.instance
 named_entry task d place e h at =
     let p = h.plain.each place e at in
@@ -83,7 +83,7 @@ named_entry task d place e h at =
     }
 
 -- one use more
-module _ (task : Task) (d : Dreamable) (places : List ℕ) (i : ℕ) (old new : List DreamUse) (u : DreamUse) (e : dreams.Entry)
+module _ (task : Task) (d : Dreamable) (places : List ℕ) (i : ℕ) (old new : List DreamUse) (u : DreamUse) (e : dreams.SupposedEntry)
     (lt : i < length places) (at : slice_get d.list (get_or places i 0) ≡ Some e) (added : new ≡ old ++ u ∷ []) where
   pub numbers_grow : u.number ≡ get_or places i 0 + 1
       → map (λ (x : DreamUse). x.number) old ≡ map (λ place. place + 1) (take i places)
@@ -103,7 +103,7 @@ module _ (task : Task) (d : Dreamable) (places : List ℕ) (i : ℕ) (old new : 
       ∙ (λ k. so_far k ++ is k ∷ [])
       ∙ sym (map-append (call_of_instance task d.known.names) (instances_of (entries_at d.list (take i places))) (e.instance ∷ []))
       ∙ ap (map (call_of_instance task d.known.names))
-      (sym (map-append (λ (x : dreams.Entry). x.instance) (entries_at d.list (take i places)) (e ∷ [])))
+      (sym (map-append (λ (x : dreams.SupposedEntry). x.instance) (entries_at d.list (take i places)) (e ∷ [])))
       ∙ ap (λ es. map (call_of_instance task d.known.names) (instances_of es)) (sym more)
 
 -- ---- after a transcript
@@ -113,7 +113,7 @@ module _ (limits : Limits) (task : Task) (before : List Entry) (tried : List Ins
   abbrev known : Known
   known = known_of task before
 
-  pub dream_after : (uses : List DreamUse) (shown : List Call) (entries : List dreams.Entry) (steps : List GroundAction) (cost : ℕ)
+  pub dream_after : (uses : List DreamUse) (shown : List Call) (entries : List dreams.SupposedEntry) (steps : List GroundAction) (cost : ℕ)
       → AreSupposed task known (notes_of task before) tried limits.depth d.list → ShowsThin task d uses shown entries steps cost
       → 0 < length uses → IsDreamAfter limits task before tried uses shown entries
   dream_after uses shown entries steps cost supposed s some = record {
@@ -144,7 +144,7 @@ module _ (limits : Limits) (task : Task) (before : List Entry) (tried : List Ins
       lengths : length uses ≡ length entries
       lengths =
           sym (length-map uses (λ (u : DreamUse). u.call)) ∙ ap length s.calls
-          ∙ length-map (instances_of entries) (call_of_instance task d.known.names) ∙ length-map entries (λ (e : dreams.Entry). e.instance)
+          ∙ length-map (instances_of entries) (call_of_instance task d.known.names) ∙ length-map entries (λ (e : dreams.SupposedEntry). e.instance)
 
   pub sure_none : AreSupposed task known (notes_of task before) tried limits.depth d.list
       → (¬ (IsSolvable task d.known)) ⊎ IsFar task d.known limits.states → HasSureNoDreamAfter limits task before tried
@@ -158,7 +158,7 @@ module _ (limits : Limits) (task : Task) (before : List Entry) (tried : List Ins
 
 -- where nothing is used, the plan is valid by what is known
 pub known_plan : (task : Task) (before : List Entry) (d : Dreamable) (h : IsListed task d) (base : d.base ≡ known_of task before)
-    (uses : List DreamUse) (shown : List Call) (entries : List dreams.Entry) (steps : List GroundAction) (cost : ℕ)
+    (uses : List DreamUse) (shown : List Call) (entries : List dreams.SupposedEntry) (steps : List GroundAction) (cost : ℕ)
     → ShowsThin task d uses shown entries steps cost → uses ≡ [] → (entries ≡ []) × IsValid task (known_of task before) steps cost
 known_plan task before d h base uses shown entries steps cost s none =
     let no_entries = no_more entries (sym (s.calls) ∙ ap (map (λ (u : DreamUse). u.call)) none) in
@@ -168,6 +168,6 @@ known_plan task before d h base uses shown entries steps cost s none =
           (valid_same (supposing task d.base d.list []) d.base.names task steps cost valid),
     )
   where
-    no_more : (es : List dreams.Entry) → map (call_of_instance task d.known.names) (instances_of es) ≡ [] → es ≡ []
+    no_more : (es : List dreams.SupposedEntry) → map (call_of_instance task d.known.names) (instances_of es) ≡ [] → es ≡ []
     no_more [] e = refl
     no_more (x ∷ xs) e = absurd (cc)

@@ -7,7 +7,7 @@ use Rattle.dream_laws.proofs.SupportLemmas.{stream_of}
 use Rattle.lemmas.proofs.Ascending.{contains_none, contains_cases, from_flat_map}
 use Rattle.lemmas.proofs.Members.{from_take, member_at, place_of}
 use Rattle.optimistic_set.specs.Dreamable.{Dreamable}
-use Rattle.task_model.specs.Dreams.{Entry, supposing}
+use Rattle.task_model.specs.Dreams.{SupposedEntry, supposing}
 use Rattle.task_model.specs.Known.{Known, IsCoherent}
 use Rattle.task_model.specs.Plans.{Executes}
 use Rattle.task_model.specs.State.{Atoms}
@@ -67,9 +67,9 @@ module _ (known : Known) where
 
 module _ (task : Task) (d : Dreamable) (h : IsListed task d) (coherent : IsCoherent d.base) where
   -- the place of an entry whose output has a type that is known with some of those at the places
-  its_place : (places : List ℕ) (kept : List Entry)
-      → ((x : Entry) → Contains kept x → Contains (entries_at d.list places) x) → (object sort : ℕ)
-      → has_type (supposing task d.base d.list kept) object sort ≡ true → (place : ℕ) (e : Entry)
+  its_place : (places : List ℕ) (kept : List SupposedEntry)
+      → ((x : SupposedEntry) → Contains kept x → Contains (entries_at d.list places) x) → (object sort : ℕ)
+      → has_type (supposing task d.base d.list kept) object sort ≡ true → (place : ℕ) (e : SupposedEntry)
       → slice_get d.list place ≡ Some e → Contains e.outputs object → Contains places place
   its_place places kept within object sort typed place e at out =
       let owner = owner_there task d.base coherent d.list h.fresh kept sort object typed place e at out in
@@ -79,7 +79,7 @@ module _ (task : Task) (d : Dreamable) (h : IsListed task d) (coherent : IsCoher
 
   module _ (steps : List GroundAction) where
     -- the entry of an object of a step
-    pub step_essential : (object : ℕ) → Contains (flat_map (λ (s : GroundAction). s.args) steps) object → (place : ℕ) (e : Entry)
+    pub step_essential : (object : ℕ) → Contains (flat_map (λ (s : GroundAction). s.args) steps) object → (place : ℕ) (e : SupposedEntry)
         → slice_get d.list place ≡ Some e → Contains e.outputs object → IsEssential task d steps place
     step_essential object m place e at out places cost below support valid =
         let r = from_flat_map (λ (s : GroundAction). s.args) steps object m in
@@ -87,8 +87,8 @@ module _ (task : Task) (d : Dreamable) (h : IsListed task d) (coherent : IsCoher
         its_place places (entries_at d.list places) (λ x c. c) object t.0 t.1 place e at out
 
     -- the entry of an input of one that can't be left out
-    pub input_essential : (user : ℕ) (u : Entry) → slice_get d.list user ≡ Some u → IsEssential task d steps user → (object : ℕ)
-        → Contains u.instance.inputs object → (place : ℕ) (e : Entry) → slice_get d.list place ≡ Some e
+    pub input_essential : (user : ℕ) (u : SupposedEntry) → slice_get d.list user ≡ Some u → IsEssential task d steps user → (object : ℕ)
+        → Contains u.instance.inputs object → (place : ℕ) (e : SupposedEntry) → slice_get d.list place ≡ Some e
         → Contains e.outputs object → IsEssential task d steps place
     input_essential user u at_user essential object input place e at out places cost below support valid =
         let kept = entries_at d.list places in
@@ -99,6 +99,6 @@ module _ (task : Task) (d : Dreamable) (h : IsListed task d) (coherent : IsCoher
         object input in
         its_place places (take there.0 kept) (front kept there.0) object t.0 t.1 place e at out
       where
-        front : (xs : List Entry) (n : ℕ) (x : Entry) → Contains (take n xs) x → Contains xs x
+        front : (xs : List SupposedEntry) (n : ℕ) (x : SupposedEntry) → Contains (take n xs) x → Contains xs x
         front xs n x c =
             let p = place_of (take n xs) x c in member_at xs p.0 x (from_take xs n p.0 x p.1).1

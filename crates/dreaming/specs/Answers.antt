@@ -29,7 +29,7 @@ module _ (limits : Limits) (task : Task) (before : List Entry) (tried : List Ins
   abbrev pub HasSureNoDreamAfter : Type 0
   HasSureNoDreamAfter =
       MoreAreSupposed MOST_SUPPOSED task (known_of task before) (notes_of task before) tried limits.depth
-      ⊎ ((list : List dreams.Entry) × AreSupposedAfter limits task before tried list
+      ⊎ ((list : List dreams.SupposedEntry) × AreSupposedAfter limits task before tried list
       × ((¬ (IsSolvable task (supposing task (known_of task before) list list)))
       ⊎ IsFar task (supposing task (known_of task before) list list) limits.states))
 
@@ -51,16 +51,16 @@ IsKnownPlan task before (Dream uses steps entries plan cost) =
 IsKnownPlan task before Empty = Unit {0}
 
 -- at most so many steps
-abbrev pub HasFewSteps : ℕ → Dreamt → Type 0
-HasFewSteps most (Dream uses steps entries plan cost) = (length plan.steps ≤ most) × (length steps ≤ most)
-HasFewSteps most Empty = Unit {0}
+abbrev pub HasFewDreamSteps : ℕ → Dreamt → Type 0
+HasFewDreamSteps most (Dream uses steps entries plan cost) = (length plan.steps ≤ most) × (length steps ≤ most)
+HasFewDreamSteps most Empty = Unit {0}
 
 -- ---- over a list
 
 -- The entries are some of the list in its order, each with support, and the plan is valid with them at this cost, but
 -- not without any one of them. So are the uses and the steps, by name.
 pub record ShowsThin (task : Task) (d : Dreamable) (uses : List DreamUse) (steps : List Call)
-    (entries : List dreams.Entry) (plan : List GroundAction) (cost : ℕ) : Type 0 where
+    (entries : List dreams.SupposedEntry) (plan : List GroundAction) (cost : ℕ) : Type 0 where
   pub places : List ℕ
   pub ascend : AreAscending nat_cmp places
   pub chosen : map (slice_get d.list) places ≡ map Some entries

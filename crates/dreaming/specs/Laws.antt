@@ -23,6 +23,6 @@ SureIsNone =
 -- of the transcript.
 abbrev pub PlaceholdersAreOwn : Type 0
 PlaceholdersAreOwn =
-    (limits : Limits) (task : Task) (before : List Entry) (tried : List Instance) (list : List dreams.Entry)
+    (limits : Limits) (task : Task) (before : List Entry) (tried : List Instance) (list : List dreams.SupposedEntry)
     → IsFit task → AreSupposedAfter limits task before tried list → length list ≤ MOST_SUPPOSED
     → AreDistinct (names_of task before ++ entry_names 1 list)

@@ -3,24 +3,24 @@ use Rattle.std.specs.Prelude.{◌≡◌, ℕ, ◌+◌, ◌<◌, ◌^◌, List, [
 use Rattle.std.specs.Ordering.{nat_cmp}
 use Rattle.lemmas.specs.Lists.{AreAscending}
 use Rattle.optimistic_set.specs.Dreamable.{Dreamable}
-use Rattle.task_model.specs.Dreams.{Entry, is_supported, supposing, HaveSupport}
+use Rattle.task_model.specs.Dreams.{SupposedEntry, is_supported, supposing, HaveSupport}
 use Rattle.task_model.specs.Known.{Known}
 use Rattle.task_model.specs.Plans.{IsValid}
 use Rattle.task_model.specs.declared.task.GroundAction.{GroundAction}
 use Rattle.task_model.specs.declared.task.Task.{Task}
-use Rattle.dreaming.specs.Parts.{Portion, IsListing, IsPart, entries_at}
+use Rattle.dreaming.specs.Parts.{Portion, IsListing, IsPortion, entries_at}
 use Rattle.dreaming.specs.declared.trial.Kept.{Kept}
 use Rattle.dreaming.specs.declared.trial.Trial.{Trial}
 use Rattle.dreaming.specs.declared.wanted.Wanted.{Wanted}
 
 -- ---- places
 
-module _ (task : Task) (known : Known) (list : List Entry) where
+module _ (task : Task) (known : Known) (list : List SupposedEntry) where
   -- the entry at this place has support behind those at these places
   abbrev pub has_support : List ℕ → ℕ → Bool
   has_support places place = of (slice_get list place)
     where
-      of : Option Entry → Bool
+      of : Option SupposedEntry → Bool
       of (Some e) = is_supported task known list (entries_at list places) e
       of None = false
 
@@ -36,7 +36,7 @@ module _ (task : Task) (known : Known) (list : List Entry) where
 
 -- a part of the list that has the entries at these places
 pub record IsPartAt (task : Task) (d : Dreamable) (places : List ℕ) (p : Portion) : Type 0 where
-  pub part : IsPart task p
+  pub part : IsPortion task p
   pub base : p.base ≡ d.base
   pub list : p.list ≡ d.list
   pub places_are : p.places ≡ places
@@ -75,7 +75,7 @@ IsWanted w object = get_or w.flags.items object false ≡ true
 -- an output of the entry at this place is wanted
 abbrev pub HasWanted : Dreamable → Wanted → ℕ → Type 0
 HasWanted d w place =
-    (e : Entry) × (slice_get d.list place ≡ Some e) × (object : ℕ) × Contains e.outputs object × IsWanted w object
+    (e : SupposedEntry) × (slice_get d.list place ≡ Some e) × (object : ℕ) × Contains e.outputs object × IsWanted w object
 
 module _ (task : Task) (d : Dreamable) (steps : List GroundAction) where
   -- this place is among any places whose entries have support, and with which the plan is valid
@@ -88,7 +88,7 @@ module _ (task : Task) (d : Dreamable) (steps : List GroundAction) where
   -- so is the place of the entry that has a wanted object among its outputs
   abbrev pub AreEssential : Wanted → Type 0
   AreEssential w =
-      (object : ℕ) → IsWanted w object → (place : ℕ) (e : Entry) → slice_get d.list place ≡ Some e
+      (object : ℕ) → IsWanted w object → (place : ℕ) (e : SupposedEntry) → slice_get d.list place ≡ Some e
       → Contains e.outputs object → IsEssential place
 
 -- ---- a trial
@@ -100,15 +100,15 @@ pub record IsTrial (t : Trial) : Type 0 where
   pub few : length t.plan.now.steps < 2 ^ 26
   pub essential : AreEssential t.listing.task.now t.listing.supposed.now t.plan.now.steps t.wanted.now
 
-abbrev pub IsKept : Trial → Kept → Type 0
-IsKept t k = IsKeptOf t.listing.task.now t.listing.supposed.now t.plan.now.steps k
+abbrev pub TrialKeeps : Trial → Kept → Type 0
+TrialKeeps t k = IsKeptOf t.listing.task.now t.listing.supposed.now t.plan.now.steps k
 
-abbrev pub AreNeeded : Trial → List ℕ → ℕ → ℕ → Type 0
-AreNeeded t places from to = AreNeededOf t.listing.task.now t.listing.supposed.now t.plan.now.steps places from to
+abbrev pub TrialNeeds : Trial → List ℕ → ℕ → ℕ → Type 0
+TrialNeeds t places from to = AreNeededOf t.listing.task.now t.listing.supposed.now t.plan.now.steps places from to
 
 -- each of them is needed
 abbrev pub AreSingleNeeded : Trial → List ℕ → Type 0
-AreSingleNeeded t places = (place : ℕ) → place < length places → AreNeeded t places place (place + 1)
+AreSingleNeeded t places = (place : ℕ) → place < length places → TrialNeeds t places place (place + 1)
 
 abbrev pub IsThin : Trial → Kept → Type 0
 IsThin t k = IsThinOf t.listing.task.now t.listing.supposed.now t.plan.now.steps k

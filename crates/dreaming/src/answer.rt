@@ -4,9 +4,9 @@ ghost use Rattle.task_model.specs.Plans.{IsValid};
 ghost use Rattle.task_model.specs.declared.limits.TheConstants.{MOST_STATES};
 ghost use Rattle.session_core.specs.Session.{IsSession, IsLearnt};
 ghost use Rattle.transcript_model.specs.Rounds.{Limits};
-ghost use Rattle.dreaming.specs.Answers.{IsDreamed, IsKnownPlan, HasFewSteps, IsSureNone, IsThinDream, ComesOfList};
+ghost use Rattle.dreaming.specs.Answers.{IsDreamed, IsKnownPlan, HasFewDreamSteps, IsSureNone, IsThinDream, ComesOfList};
 ghost use Rattle.dreaming.specs.Parts.{IsListed};
-ghost use Rattle.dreaming.specs.Thinning.{IsTrial, IsKept, IsThinOf};
+ghost use Rattle.dreaming.specs.Thinning.{IsTrial, TrialKeeps, IsThinOf};
 ghost use Rattle.shown_plan.specs.Shown.{AreNamedSteps};
 
 use crate::shown::{all_places, entries_of, uses_of};
@@ -48,7 +48,7 @@ fn kept_first(trial: &Trial<'_>, cost: u64) -> Result<Kept, AllocError>
     requires trial { IsTrial trial.now }
     requires valid { IsValid trial.now.listing.task.now trial.now.listing.supposed.now.known
         trial.now.plan.now.steps cost }
-    ensures { IfOk result (IsKept trial.now) }
+    ensures { IfOk result (TrialKeeps trial.now) }
 {
     let listing = &trial.listing;
     let named = places_named(listing.alloc, listing.supposed, trial.wanted)?;
@@ -182,7 +182,7 @@ pub fn dream(
     ensures dream { (limits : Limits) → limits.depth ≡ depth
         → IfOk result (IsDreamed limits task.now session.now.entries tried.now) }
     ensures known { IfOk result (IsKnownPlan task.now session.now.entries) }
-    ensures few { IfOk result (HasFewSteps states) }
+    ensures few { IfOk result (HasFewDreamSteps states) }
     ensures empty { (limits : Limits) → limits.depth ≡ depth → limits.states ≡ states
         → IfOk result (IsSureNone limits task.now session.now.entries tried.now) }
 {

@@ -34,8 +34,8 @@ impl<'a> Model for Part<'a> {
 
 impl<'a> Part<'a> {
     ghost use Rattle.std.specs.Prelude.{◌≡◌, ◌<◌, ◌++◌, ◌∷◌, [], length, Some, slice_get, OnOk};
-    ghost use Rattle.dreaming.specs.Parts.{IsListed, IsPart, entries_at};
-    ghost use Rattle.task_model.specs.Dreams.{Entry as AnyEntry, is_supported};
+    ghost use Rattle.dreaming.specs.Parts.{IsListed, IsPortion, entries_at};
+    ghost use Rattle.task_model.specs.Dreams.{SupposedEntry as AnyEntry, is_supported};
     ghost use Rattle.task_model.specs.declared.task.Task.{Task as AnyTask};
 
     /// The entry at this place of the list.
@@ -51,7 +51,7 @@ impl<'a> Part<'a> {
 
     /// Nothing of the list, which takes no memory.
     pub fn new(alloc: Global, supposed: &'a Supposed<'a>) -> Part<'a>
-        ensures part { (task : AnyTask) → IsListed task supposed.now → IsPart task result }
+        ensures part { (task : AnyTask) → IsListed task supposed.now → IsPortion task result }
         ensures base { result.base ≡ supposed.now.base }
         ensures list { result.list ≡ supposed.now.list }
         ensures places { result.places ≡ [] }
@@ -67,7 +67,7 @@ impl<'a> Part<'a> {
 
     /// What is known with the entries, for look-ups. It takes no memory.
     pub fn look(&self) -> Layer<'_>
-        requires { (task : AnyTask) × IsPart task self.now }
+        requires { (task : AnyTask) × IsPortion task self.now }
         ensures { result.known ≡ self.now.known }
     {
         Layer::new(self.facts, self.names, &self.more)
@@ -76,7 +76,7 @@ impl<'a> Part<'a> {
     /// Whether the entry at this place of the list has support: its inputs have their types and its
     /// domain facts are known, by what is known with the entries.
     pub fn supports(&self, alloc: Global, task: &Task, place: usize) -> bool
-        requires part { IsPart task.now self.now }
+        requires part { IsPortion task.now self.now }
         requires place { place < length self.now.list }
         ensures { (e : AnyEntry) → slice_get self.now.list place ≡ Some e
             → result ≡ is_supported task.now self.now.base self.now.list
@@ -92,9 +92,9 @@ impl<'a> Part<'a> {
     /// Puts the entry at this place of the list behind the others. Fails only where memory is
     /// wanting; then the part is no longer one, and may not be asked again.
     pub fn take(&mut self, alloc: Global, task: &Task, place: usize) -> Result<(), AllocError>
-        requires part { IsPart task.now self.old }
+        requires part { IsPortion task.now self.old }
         requires place { place < length self.old.list }
-        ensures part { OnOk result (IsPart task.now self.new) }
+        ensures part { OnOk result (IsPortion task.now self.new) }
         ensures base { OnOk result (self.new.base ≡ self.old.base) }
         ensures list { OnOk result (self.new.list ≡ self.old.list) }
         ensures places { OnOk result (self.new.places ≡ self.old.places ++ place ∷ []) }

@@ -1,6 +1,6 @@
 //! Leaving out the entries that a plan doesn't need.
 ghost use Rattle.std.specs.Prelude.{◌≡◌, ◌<◌, ◌≤◌, length, true, false, IfOk, OnOk};
-ghost use Rattle.dreaming.specs.Thinning.{IsTrial, IsKept, IsThin, AreSingleNeeded};
+ghost use Rattle.dreaming.specs.Thinning.{IsTrial, TrialKeeps, IsThin, AreSingleNeeded};
 
 use crate::trial::{Kept, Trial, without};
 use std::alloc::AllocError;
@@ -9,9 +9,9 @@ use std::alloc::AllocError;
 /// answers whether some were left out.
 fn leave_out(trial: &Trial<'_>, kept: &mut Kept, size: usize) -> Result<bool, AllocError>
     requires trial { IsTrial trial.now }
-    requires kept { IsKept trial.now kept.old }
+    requires kept { TrialKeeps trial.now kept.old }
     requires size { 1 ≤ size }
-    ensures kept { OnOk result (IsKept trial.now kept.new) }
+    ensures kept { OnOk result (TrialKeeps trial.now kept.new) }
     ensures most { OnOk result (length kept.new.places.items ≤ length kept.old.places.items) }
     ensures fewer { IfOk result (λ some. some ≡ true
         → length kept.new.places.items < length kept.old.places.items) }
@@ -37,7 +37,7 @@ fn leave_out(trial: &Trial<'_>, kept: &mut Kept, size: usize) -> Result<bool, Al
 /// can be left out without the plan losing validity.
 pub(crate) fn thin(trial: &Trial<'_>, kept: &mut Kept) -> Result<(), AllocError>
     requires trial { IsTrial trial.now }
-    requires kept { IsKept trial.now kept.old }
+    requires kept { TrialKeeps trial.now kept.old }
     ensures { OnOk result (IsThin trial.now kept.new) }
 {
     let mut size = (kept.places.len() / 2).max(1);

@@ -3,7 +3,7 @@ ghost use Rattle.std.specs.Prelude.{ℕ, ◌<◌, ◌≤◌, length, All, IfOk, 
 ghost use Rattle.task_model.specs.Plans.{IsValid};
 ghost use Rattle.std.specs.Ordering.{nat_cmp};
 ghost use Rattle.lemmas.specs.Lists.{AreAscending};
-ghost use Rattle.dreaming.specs.Thinning.{IsTrial, IsPartAt, IsKept, AreNeeded};
+ghost use Rattle.dreaming.specs.Thinning.{IsTrial, IsPartAt, TrialKeeps, TrialNeeds};
 
 use crate::part::Part;
 use crate::taken::{Listing, part_at, take_supported};
@@ -74,7 +74,7 @@ pub(crate) fn kept_of(trial: &Trial<'_>, places: &[usize]) -> Result<Option<Kept
     requires trial { IsTrial trial.now }
     requires below { All (λ place. place < length trial.now.listing.supposed.now.list) places.now }
     requires ascend { AreAscending nat_cmp places.now }
-    ensures { IfOk result (λ found. IfSome found (IsKept trial.now)) }
+    ensures { IfOk result (λ found. IfSome found (TrialKeeps trial.now)) }
 {
     let listing = &trial.listing;
     let mut part = Part::new(listing.alloc, listing.supposed);
@@ -98,14 +98,14 @@ pub(crate) fn without(
     to: usize,
 ) -> Result<Option<Kept>, AllocError>
     requires trial { IsTrial trial.now }
-    requires kept { IsKept trial.now kept.now }
+    requires kept { TrialKeeps trial.now kept.now }
     requires from { from < to }
     requires to { to ≤ length kept.now.places.items }
-    ensures kept { IfOk result (λ found. IfSome found (IsKept trial.now)) }
+    ensures kept { IfOk result (λ found. IfSome found (TrialKeeps trial.now)) }
     ensures fewer { IfOk result (λ found. IfSome found
         (λ fewer. length fewer.places.items < length kept.now.places.items)) }
     ensures needed { IfOk result (λ found. IfNone found
-        (AreNeeded trial.now kept.now.places.items from to)) }
+        (TrialNeeds trial.now kept.now.places.items from to)) }
 {
     let places = kept.places.as_slice();
     if trial.wants_some(&places[from..to]) {

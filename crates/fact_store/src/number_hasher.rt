@@ -19,14 +19,14 @@ pub(crate) struct NumberHasher {
 /// The state after one number more.
 #[inline(always)]
 fn added(state: u64, number: u64) -> u64
-    ensures { result ≡ specs.added state number }
+    ensures { result ≡ specs.hashed_with state number }
 {
     state.wrapping_mul(MULTIPLIER).wrapping_add(number)
 }
 
 /// The state after bytes that are numbers each.
 fn each_added(state: u64, bytes: &[u8]) -> u64
-    ensures { result ≡ fold specs.added state bytes.now }
+    ensures { result ≡ fold specs.hashed_with state bytes.now }
 {
     let mut hash = state;
     for byte in bytes {

@@ -13,11 +13,11 @@ pub(crate) struct Slots {
 
 impl Model for Slots {
     ghost use Rattle.std.specs.Prelude.{ℕ, List};
-    ghost use Rattle.fit_check.specs.Filled.{places_of};
+    ghost use Rattle.fit_check.specs.Filled.{places_up};
 
     ghost Value = { List ℕ };
 
-    ghost view = { λ s. places_of 0 s.filled };
+    ghost view = { λ s. places_up 0 s.filled };
 }
 
 impl Slots {

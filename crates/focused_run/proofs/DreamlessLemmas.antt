@@ -3,8 +3,8 @@ use Rattle.std.proofs.Common.{All, map, not, IsTrue, ◌↔◌, Option, ◌≡�
 use Rattle.std.proofs.lemmas.Bool.{lt-ltb}
 use Rattle.std.specs.Prelude.{⊤}
 use Rattle.focused_run.proofs.FocusingLemmas.{empty_front, empty_turn}
-use Rattle.focused_run.specs.Focusing.{Begins, MayFallBack, RanDreaming, carrying, idle_of}
-use Rattle.instance_queue.specs.Level.{instances_of}
+use Rattle.focused_run.specs.Focusing.{BeginsFocusedTurn, MayFallBack, RanDreaming, carrying, idle_of}
+use Rattle.instance_queue.specs.Level.{due_instances}
 use Rattle.instance_queue.specs.declared.due.Due.{Due}
 use Rattle.io_world.specs.Talks.{Talk}
 use Rattle.level_run.proofs.AskingLemmas.{asked_marked}
@@ -62,7 +62,7 @@ some_tried (first ∷ more) false same = lt-ltb 0 (length (first ∷ more)) (ome
 module _ (head : Head) (task : Task) (skeletons : List Skeleton) (may : MayFallBack head.mode skeletons) (tried : List Instance)
     (dues : List Due)
     (old mid new : State) (marked : IsMarked entry.Nothing old mid)
-    (none : HasNoDreamAfter (limits_of head) task old.entries tried) (begins : Begins task head old dues) (is_tried : Bool)
+    (none : HasNoDreamAfter (limits_of head) task old.entries tried) (begins : BeginsFocusedTurn task head old dues) (is_tried : Bool)
     (even : nat_lt 0 (length tried) ≡ is_tried) (b : Batch) (ran : RanFallback task head is_tried dues mid new b) where
   fallback : IsFallback (limits_of head) task mid.entries tried ran.more (cut_by b)
   fallback = ran.fallback tried even
@@ -164,7 +164,7 @@ module _ (head : Head) (task : Task) (skeletons : List Skeleton) (may : MayFallB
 
 module _ (head : Head) (task : Task) (skeletons : List Skeleton) (may : MayFallBack head.mode skeletons) (fit : IsFit task)
     (tried : List Instance) (dues : List Due)
-    (s : State) (legal : IsLegal head.version task s.entries) (begins : Begins task head s dues)
+    (s : State) (legal : IsLegal head.version task s.entries) (begins : BeginsFocusedTurn task head s dues)
     (work : All (λ (p : Share). 1 ≤ p.workers) (map share_of head.pools))
     (none : HasNoDreamAfter (limits_of head) task s.entries tried) where
   -- a fallback behind the line of a `none`
@@ -176,7 +176,7 @@ module _ (head : Head) (task : Task) (skeletons : List Skeleton) (may : MayFallB
       front_fallback head task mid mid
       (front_level head task mid (length s.asked) dues
       (turn_marked head task s.entries (length s.asked) dues entry.Nothing refl fit legal begins.turn) mid
-      (asked_marked head task mid entry.Level (instances_of dues) mid work (inl refl)))
+      (asked_marked head task mid entry.Level (due_instances dues) mid work (inl refl)))
 
   -- the line is there, or not yet
   pub dreamless_marked : (es : List Entry) → (es ≡ s.entries) ⊎ (es ≡ s.entries ++ entry.Nothing ∷ [])

@@ -9,8 +9,8 @@ use Rattle.dream_asks.specs.First.{AreFirstAsks, first_instances, is_askable}
 use Rattle.dream_laws.proofs.DreamLemmas.{dream_asks}
 use Rattle.dream_asks.proofs.EntriesLemmas.{dream_distinct}
 use Rattle.focused_run.proofs.FocusingLemmas.{Dreamt, dream_front, dream_turn, joined_all, opens_dream}
-use Rattle.focused_run.specs.Focusing.{HasRoom, RanFocused, carried, idle_of}
-use Rattle.instance_queue.specs.Level.{instances_of}
+use Rattle.focused_run.specs.Focusing.{HasCallLeft, RanFocused, carried, idle_of}
+use Rattle.instance_queue.specs.Level.{due_instances}
 use Rattle.instance_queue.specs.declared.due.Due.{Due}
 use Rattle.io_world.specs.Talks.{Talk}
 use Rattle.lemmas.proofs.Ascending.{contains_cases, contains_here, contains_later, contains_none}
@@ -86,7 +86,7 @@ idle_one tried = cond_le_one (nat_lt 0 (length tried))
 
 -- what is asked first is that after the session's transcript
 pub firsts_after : (task : Task) (s : State) → s.failed ≡ false → IsLearnt s → IsSession task s → (x y : State) (at : Task)
-    (known : Known) (notes : List Note) (real : ℕ) (list entries : List dreams.Entry) (dues slice : List Due)
+    (known : Known) (notes : List Note) (real : ℕ) (list entries : List dreams.SupposedEntry) (dues slice : List Due)
     → known ≡ x.known → x ≡ s → notes ≡ y.notes → y ≡ s → at ≡ task → real ≡ length known.names → list ≡ entries → slice ≡ dues
     → AreFirstAsks at known notes real list dues
     → AreFirstAsks task (known_of task s.entries) (notes_of task s.entries) (length (names_of task s.entries)) entries slice
@@ -104,10 +104,10 @@ firsts_after task s works learnt h x y at known notes real list entries dues sli
     (subst (λ t. AreFirstAsks t known notes real list dues) same asks)))))
 
 module _ (head : Head) (task : Task) (fit : IsFit task) (is : head.mode ≡ Focused) (tried : List Instance) (line : Entry)
-    (entries : List dreams.Entry) (old : State) (legal : IsLegal head.version task old.entries)
+    (entries : List dreams.SupposedEntry) (old : State) (legal : IsLegal head.version task old.entries)
     (d : Dreamt (limits_of head) task old.entries tried line entries) (dues : List Due)
     (asked : AreFirstAsks task (known_of task old.entries) (notes_of task old.entries) (length (names_of task old.entries)) entries dues)
-    (room : HasRoom head old) where
+    (room : HasCallLeft head old) where
   distinct : AreDistinct (dreams.instances_of entries)
   distinct = dream_distinct (limits_of head) task old.entries tried d.uses d.steps entries d.dream
 
@@ -124,7 +124,7 @@ module _ (head : Head) (task : Task) (fit : IsFit task) (is : head.mode ≡ Focu
   same : AddsMark task old.entries marked
   same = mark_adds head.version task old.entries fit.problem.objects.names.distinct legal (entry.Dream d.uses d.steps) refl
 
-  pub are_firsts : sent_instances firsts ≡ instances_of dues
+  pub are_firsts : sent_instances firsts ≡ due_instances dues
   are_firsts =
       first_sent task marked real (asks_of marked + 1) entries distinct
       ∙ (λ i. first_instances task (same.same.known i) (same.same.notes i) real entries) ∙ sym asked.instances
@@ -137,7 +137,7 @@ module _ (head : Head) (task : Task) (fit : IsFit task) (is : head.mode ≡ Focu
     length-map dues (λ (x : Due). x.instance),
   )
 
-  is_due_there : (i : Instance) → Contains (instances_of dues) i → IsDue task (known_of task old.entries) (notes_of task old.entries) i
+  is_due_there : (i : Instance) → Contains (due_instances dues) i → IsDue task (known_of task old.entries) (notes_of task old.entries) i
   is_due_there i m =
       let kept = kept_was (is_askable task (known_of task old.entries) (notes_of task old.entries) real) (dreams.instances_of entries) i
       (subst (λ list. Contains list i) asked.instances m) in
@@ -164,18 +164,18 @@ module _ (head : Head) (task : Task) (fit : IsFit task) (is : head.mode ≡ Focu
   }
 
   -- the first of it are the first of a turn
-  pub dreamt_front : (es : List Entry) → IsFrontBehind head task old.entries line (instances_of dues) es
+  pub dreamt_front : (es : List Entry) → IsFrontBehind head task old.entries line (due_instances dues) es
       → IsFrontOfTurn task head (carried tried) old.entries es
   dreamt_front es f =
-      dream_front head task is tried old.entries d.uses d.steps entries d.dream (instances_of dues) es are_firsts
-      (subst (λ e. IsFrontBehind head task old.entries e (instances_of dues) es) d.is f)
+      dream_front head task is tried old.entries d.uses d.steps entries d.dream (due_instances dues) es are_firsts
+      (subst (λ e. IsFrontBehind head task old.entries e (due_instances dues) es) d.is f)
 
   -- ---- what was asked
 
   module _ (counted : length old.asked ≡ asks_of old.entries) (new : State) (b : Batch)
       (ran : RanBehind task head line dues old new b) where
-    asks : IsAskedBehind head task old.entries (entry.Dream d.uses d.steps) (instances_of dues) ran.now
-    asks = subst (λ e. IsAskedBehind head task old.entries e (instances_of dues) ran.now) d.is ran.asks
+    asks : IsAskedBehind head task old.entries (entry.Dream d.uses d.steps) (due_instances dues) ran.now
+    asks = subst (λ e. IsAskedBehind head task old.entries e (due_instances dues) ran.now) d.is ran.asks
 
     cut : cut_by b ≡ is_cut (limits_of head) marked firsts
     cut =
@@ -187,12 +187,12 @@ module _ (head : Head) (task : Task) (fit : IsFit task) (is : head.mode ≡ Focu
     turn =
         subst (λ c. TurnOf head.mode (limits_of head) task (carried tried) old.entries ran.now
         (carried (tried ++ sent_instances (take (calls_left (limits_of head) marked) firsts))) c) (sym cut)
-        (dream_turn head task is tried old.entries d.uses d.steps entries d.dream (instances_of dues) ran.now are_firsts asks)
+        (dream_turn head task is tried old.entries d.uses d.steps entries d.dream (due_instances dues) ran.now are_firsts asks)
 
     -- where no calls were wanting, all of them join those that were tried
-    all_joined : b ≡ Done → tried ++ sent_instances (take (calls_left (limits_of head) marked) firsts) ≡ tried ++ instances_of dues
+    all_joined : b ≡ Done → tried ++ sent_instances (take (calls_left (limits_of head) marked) firsts) ≡ tried ++ due_instances dues
     all_joined e =
-        joined_all head task is tried old.entries d.uses d.steps entries d.dream (instances_of dues) are_firsts (sym cut ∙ ap cut_by e)
+        joined_all head task is tried old.entries d.uses d.steps entries d.dream (due_instances dues) are_firsts (sym cut ∙ ap cut_by e)
 
     levels : count_by is_level new.entries ≤ length new.asked
     levels = omega (
@@ -201,13 +201,13 @@ module _ (head : Head) (task : Task) (fit : IsFit task) (is : head.mode ≡ Focu
       ran.more,
       ap (count_by is_level) ran.pushed,
       count_joined is_level old.entries ran.now,
-      asked_counts head task old.entries (entry.Dream d.uses d.steps) (instances_of dues) ran.now refl asks,
+      asked_counts head task old.entries (entry.Dream d.uses d.steps) (due_instances dues) ran.now refl asks,
     )
 
-    fits : Fits (λ asked. ⊤) (idle_of (tried ++ instances_of dues)) new
-    fits = record { holds = tt; room = omega (arith, idle_one (tried ++ instances_of dues)); levels = levels }
+    fits : Fits (λ asked. ⊤) (idle_of (tried ++ due_instances dues)) new
+    fits = record { holds = tt; room = omega (arith, idle_one (tried ++ due_instances dues)); levels = levels }
 
-    is_whole : b ≡ Done → RanFocused task head tried (tried ++ instances_of dues) old new turned.Done
+    is_whole : b ≡ Done → RanFocused task head tried (tried ++ due_instances dues) old new turned.Done
     is_whole e = record {
       turned = (
         ran.now,
@@ -221,7 +221,7 @@ module _ (head : Head) (task : Task) (fit : IsFit task) (is : head.mode ≡ Focu
     }
 
     module _ (held : Held) (running : ℕ → Bool) (spoken : ℕ → Option Talk) (rests : Rests task head new held running spoken) where
-      is_cut_off : b ≡ CallsSpent → RanFocused task head tried (tried ++ instances_of dues) old new turned.Spent
+      is_cut_off : b ≡ CallsSpent → RanFocused task head tried (tried ++ due_instances dues) old new turned.Spent
       is_cut_off e = record {
         turned = (
           ran.now,
@@ -237,9 +237,9 @@ module _ (head : Head) (task : Task) (fit : IsFit task) (is : head.mode ≡ Focu
       }
 
       pub ran_dreamt : (t : Turned) → (b ≡ Done → t ≡ turned.Done) → (b ≡ CallsSpent → t ≡ turned.Spent)
-          → RanFocused task head tried (tried ++ instances_of dues) old new t
+          → RanFocused task head tried (tried ++ due_instances dues) old new t
       ran_dreamt t done spent = by b refl
         where
-          by : (c : Batch) → b ≡ c → RanFocused task head tried (tried ++ instances_of dues) old new t
-          by Done = λ e. subst (RanFocused task head tried (tried ++ instances_of dues) old new) (sym (done e)) (is_whole e)
-          by CallsSpent = λ e. subst (RanFocused task head tried (tried ++ instances_of dues) old new) (sym (spent e)) (is_cut_off e)
+          by : (c : Batch) → b ≡ c → RanFocused task head tried (tried ++ due_instances dues) old new t
+          by Done = λ e. subst (RanFocused task head tried (tried ++ due_instances dues) old new) (sym (done e)) (is_whole e)
+          by CallsSpent = λ e. subst (RanFocused task head tried (tried ++ due_instances dues) old new) (sym (spent e)) (is_cut_off e)

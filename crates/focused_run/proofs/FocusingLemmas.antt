@@ -28,13 +28,13 @@ use Rattle.transcript_model.specs.declared.head.Mode.TheVariants.{Incremental, F
 
 -- a dream whose line this is
 pub record Dreamt (limits : Limits) (task : Task) (before : List Entry) (tried : List Instance) (line : Entry)
-    (entries : List dreams.Entry) : Type 0 where
+    (entries : List dreams.SupposedEntry) : Type 0 where
   pub uses : List DreamUse
   pub steps : List Call
   pub is : line ≡ entry.Dream uses steps
   pub dream : IsDreamAfter limits task before tried uses steps entries
 
-pub dreamt : (limits : Limits) (task : Task) (before : List Entry) (tried : List Instance) (line : Entry) (entries : List dreams.Entry)
+pub dreamt : (limits : Limits) (task : Task) (before : List Entry) (tried : List Instance) (line : Entry) (entries : List dreams.SupposedEntry)
     → IsDreamLine limits task before tried line entries → Dreamt limits task before tried line entries
 dreamt limits task before tried entry.Level entries d = absurd d
 dreamt limits task before tried (entry.Ask number turn call) entries d = absurd d
@@ -60,7 +60,7 @@ module _ (head : Head) (task : Task) (is : head.mode ≡ Focused) where
   focused_turn tried next before now cut turn =
       subst (λ (m : Mode). TurnOf m (limits_of head) task (carried tried) before now (carried next) cut) (sym is) (turn, refl)
 
-  module _ (tried : List Instance) (before : List Entry) (uses : List DreamUse) (steps : List Call) (entries : List dreams.Entry)
+  module _ (tried : List Instance) (before : List Entry) (uses : List DreamUse) (steps : List Call) (entries : List dreams.SupposedEntry)
       (dream : IsDreamAfter (limits_of head) task before tried uses steps entries) where
     -- the transcript with the dream, and what is asked behind it
     abbrev pub marked : List Entry

@@ -32,17 +32,17 @@ abbrev pub idle_of : List Instance → ℕ
 idle_of tried = cond (nat_lt 0 (length tried)) 1 0
 
 -- A turn begins: these instances are due, and no more levels stand than requests.
-pub record Begins (task : Task) (head : Head) (s : State) (dues : List Due) : Type 0 where
+pub record BeginsFocusedTurn (task : Task) (head : Head) (s : State) (dues : List Due) : Type 0 where
   pub turn : IsTurn head task s.entries (length s.asked) dues
   pub levels : count_by is_level s.entries ≤ length s.asked
 
 -- A call is left, and no more levels stand than requests.
-pub record HasRoom (head : Head) (s : State) : Type 0 where
+pub record HasCallLeft (head : Head) (s : State) : Type 0 where
   pub left : length s.asked < head.calls
   pub levels : count_by is_level s.entries ≤ length s.asked
 
 -- the entry is the line of a dream, which has these entries
-abbrev pub IsDreamLine : Limits → Task → List Entry → List Instance → Entry → List dreams.Entry
+abbrev pub IsDreamLine : Limits → Task → List Entry → List Instance → Entry → List dreams.SupposedEntry
     → Type 0
 IsDreamLine limits task before tried (entry.Dream uses steps) entries =
     IsDreamAfter limits task before tried uses steps entries

@@ -1,6 +1,6 @@
 //! Turns that begin with a dream.
 ghost use Rattle.std.specs.Prelude.{◌≡◌, ⊤, []};
-ghost use Rattle.focused_run.specs.Focusing.{HasRoom, IsDreamLine, MayFallBack, RanFocused, carried, idle_of};
+ghost use Rattle.focused_run.specs.Focusing.{HasCallLeft, IsDreamLine, MayFallBack, RanFocused, carried, idle_of};
 ghost use Rattle.level_run.specs.Advancing.{IsFrontOfTurn};
 ghost use Rattle.level_run.specs.Reporting.{EndsRun, MayRun};
 ghost use Rattle.round_run.specs.Desk.{OnTurn, RestsAt};
@@ -41,7 +41,7 @@ pub trait DreamBatches {
     ) -> Result<Turned, RunFault>
         requires mode { desk.old.head.mode ≡ mode }
         requires rests { RestsAt desk.old (host_told H.running H.spoken H.log H.faults host.old) }
-        requires room { HasRoom desk.old.head desk.old.state }
+        requires room { HasCallLeft desk.old.head desk.old.state }
         requires dream { IsDreamLine (limits_of desk.old.head) desk.old.task
             desk.old.state.entries tried.old dream.line dream.entries.items }
         ensures goes { OnTurn desk.old desk.new (stretch H.last H.running H.spoken H.log H.faults

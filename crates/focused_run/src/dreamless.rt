@@ -1,6 +1,6 @@
 //! Turns without a dream.
 ghost use Rattle.std.specs.Prelude.{◌≡◌};
-ghost use Rattle.focused_run.specs.Focusing.{Begins, IsFrontOfDreamless, RanDreamless};
+ghost use Rattle.focused_run.specs.Focusing.{BeginsFocusedTurn, IsFrontOfDreamless, RanDreamless};
 ghost use Rattle.level_run.specs.declared.turns.Turned.TheVariants.{Spent, Done as WholeTurn};
 ghost use Rattle.round_run.specs.Desk.{OnTurn, RestsAt};
 ghost use Rattle.round_run.specs.Told.{stretch, host_told};
@@ -41,7 +41,7 @@ pub fn without_dream<H: Host, O: Sink>(
     dues: &[Due],
 ) -> Result<Turned, RunFault>
     requires rests { RestsAt desk.old (host_told H.running H.spoken H.log H.faults host.old) }
-    requires begins { Begins desk.old.task desk.old.head desk.old.state dues.now }
+    requires begins { BeginsFocusedTurn desk.old.task desk.old.head desk.old.state dues.now }
     requires none { HasNoDreamAfter (limits_of desk.old.head) desk.old.task desk.old.state.entries
         tried.old }
     ensures goes { OnTurn desk.old desk.new (stretch H.last H.running H.spoken H.log H.faults

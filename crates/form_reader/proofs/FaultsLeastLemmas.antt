@@ -2,7 +2,7 @@
 use Rattle.std.proofs.Common.{◌≡◌, refl, subst, cond, Bool, true, false, List, [], ◌∷◌, Option, Some, None, arith}
 use Rattle.std.proofs.lemmas.Bool.Decides.{nat_tests}
 use Rattle.form_reader.specs.declared.fault.Fault.{Fault}
-use Rattle.form_reader.specs.Faults.{Answers, IsAmong, here, behind, comes_first, first, least_fault}
+use Rattle.form_reader.specs.Faults.{AnswersLeast, IsAmong, here, behind, comes_first, first, least_fault}
 
 reflexive : (f : Fault) → comes_first f f ≡ true
 reflexive f = grind (arith, nat_tests)
@@ -65,14 +65,14 @@ led f [] = record { among = here; first = only }
         nothing_among r = elim r [ ]
 led f (g ∷ fs) = chosen f g fs (comes_first f g) refl (led f fs) (led g fs)
 
-answered : (f : Fault) (fs : List Fault) (o : Option Fault) → Led f fs o → Answers (f ∷ fs) o
+answered : (f : Fault) (fs : List Fault) (o : Option Fault) → Led f fs o → AnswersLeast (f ∷ fs) o
 answered f fs None l = absurd l
 answered f fs (Some g) l = record { among = l.among; first = l.first }
 
-pub least_answers : (fs : List Fault) → Answers fs (least_fault fs)
+pub least_answers : (fs : List Fault) → AnswersLeast fs (least_fault fs)
 least_answers [] = refl
 least_answers (f ∷ fs) = answered f fs (first (Some f) fs) (led f fs)
 
 -- no fault is answered only where there is none
 pub none_is_none : (fs : List Fault) → least_fault fs ≡ None → fs ≡ []
-none_is_none fs e = subst (Answers fs) e (least_answers fs)
+none_is_none fs e = subst (AnswersLeast fs) e (least_answers fs)

@@ -72,9 +72,9 @@ pub record IsLeast (f : Fault) (fs : List Fault) : Type 0 where
   pub first : (g : Fault) → IsAmong g fs → comes_first f g ≡ true
 
 -- An answer is the least of the faults, and there is none only where there is no fault.
-abbrev pub Answers : List Fault → Option Fault → Type 0
-Answers fs (Some f) = IsLeast f fs
-Answers fs None = fs ≡ []
+abbrev pub AnswersLeast : List Fault → Option Fault → Type 0
+AnswersLeast fs (Some f) = IsLeast f fs
+AnswersLeast fs None = fs ≡ []
 
 abbrev pub LeastIsAnswered : Type 0
-LeastIsAnswered = (fs : List Fault) → Answers fs (least_fault fs)
+LeastIsAnswered = (fs : List Fault) → AnswersLeast fs (least_fault fs)

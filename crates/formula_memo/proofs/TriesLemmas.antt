@@ -26,7 +26,7 @@ use Rattle.task_model.specs.declared.domain.Domain.{Domain}
 use Rattle.task_model.specs.declared.domain.Role.TheVariants as role
 use Rattle.formula_eval.specs.Judged.{some_at, truth_at}
 use Rattle.formula_eval.specs.Readable.{is_readable, is_readable_term}
-use Rattle.formula_memo.specs.Tries.{ComesAt, IsInFacts, IsLead, IsPlaced, IsSameBelow, StandsAmong, is_passed, places_among, places_of}
+use Rattle.formula_memo.specs.Tries.{ComesAt, IsInFacts, IsTryLead, IsPlaced, IsSameBelow, StandsAmong, is_passed, places_among, place_count}
 use Rattle.formula_memo.specs.declared.lead.Among.{Among}
 use Rattle.formula_memo.specs.declared.lead.Among.TheVariants.{State, Facts}
 use Rattle.formula_memo.specs.declared.lead.Lead.{Lead}
@@ -70,8 +70,8 @@ part_true atom objects slots (x ∷ xs) (suc i) c h e t =
 
 -- a lead of a part is one of all
 pub lead_of_part : (domain : Domain) (cs : List Condition) (i : ℕ) (c : Condition) (slot : ℕ) (slots : List ℕ) (lead : Lead)
-    → i < length cs → c ≡ get_or cs i c → IsLead domain c slot slots lead
-    → IsLead domain (every (parts_of cs)) slot slots lead
+    → i < length cs → c ≡ get_or cs i c → IsTryLead domain c slot slots lead
+    → IsTryLead domain (every (parts_of cs)) slot slots lead
 lead_of_part domain cs i c slot slots lead h e is = record {
   placed = is.placed;
   needed = λ known state depth after same t.
@@ -110,9 +110,9 @@ fact_place facts pred at object args known here =
 -- an atom of a fluent is a lead
 pub lead_of_fluent : (domain : Domain) (condition : Condition) (slot : ℕ) (slots : List ℕ) (lead : Lead)
     → condition ≡ Atom lead.pred lead.terms.now → role_of domain lead.pred ≡ role.Fluent
-    → IsPlaced slot lead → lead.among ≡ State → IsLead domain condition slot slots lead
+    → IsPlaced slot lead → lead.among ≡ State → IsTryLead domain condition slot slots lead
 lead_of_fluent domain condition slot slots lead is fluent placed among =
-    subst (λ x. IsLead domain x slot slots lead) (sym is) (record {
+    subst (λ x. IsTryLead domain x slot slots lead) (sym is) (record {
       placed = placed;
       needed = λ known state depth after same t.
           let objects = objects_at after lead.terms.now in
@@ -125,10 +125,10 @@ lead_of_fluent domain condition slot slots lead is fluent placed among =
 module _ (domain : Domain) (condition : Condition) (slot : ℕ) (slots : List ℕ) (before : Lead)
     (is : condition ≡ Atom before.pred before.terms.now) (static : role_of domain before.pred ≡ role.Static)
     (placed : IsPlaced slot before) where
-  lead_of_static : (lead : Lead) → IsInFacts slot slots before lead → IsLead domain condition slot slots lead
+  lead_of_static : (lead : Lead) → IsInFacts slot slots before lead → IsTryLead domain condition slot slots lead
   lead_of_static lead through =
-      subst (λ x. IsLead domain x slot slots lead) (sym is)
-      (subst (IsLead domain (Atom before.pred before.terms.now) slot slots) (sym through.is) (record {
+      subst (λ x. IsTryLead domain x slot slots lead) (sym is)
+      (subst (IsTryLead domain (Atom before.pred before.terms.now) slot slots) (sym through.is) (record {
         placed = record { at = placed.at; readable = placed.readable };
         needed = λ known state depth after same t.
             fact_place known.facts before.pred through.at through.object (objects_at after before.terms.now)
@@ -137,7 +137,7 @@ module _ (domain : Domain) (condition : Condition) (slot : ℕ) (slots : List �
       }))
 
   pub leads_of_static : (lead : Option Lead) → IfSome lead (IsInFacts slot slots before)
-      → IfSome lead (IsLead domain condition slot slots)
+      → IfSome lead (IsTryLead domain condition slot slots)
   leads_of_static None through = through
   leads_of_static (Some lead) through = lead_of_static lead through
 
@@ -157,7 +157,7 @@ slot_object slots (t ∷ ts) (suc place) slot e = slot_object slots ts place slo
 
 -- each object that makes the condition true comes at some place
 module _ (domain : Domain) (known : Known) (state : Atoms) (depth sort slot : ℕ) (rest : List ℕ) (body : Condition) (slots : List ℕ) where
-  pub comes : (lead : Option Lead) → IfSome lead (IsLead domain body slot slots) → slot < length slots
+  pub comes : (lead : Option Lead) → IfSome lead (IsTryLead domain body slot slots) → slot < length slots
       → (o : ℕ) → Contains (objects_of known.facts sort) o
       → some_at domain known state depth (slot + 1) rest body (slice_set slots slot o) ≡ true
       → (n : ℕ) × ComesAt known state sort lead slot slots n o
@@ -186,7 +186,7 @@ stands_within known state pred (Facts place object) objects n at =
     slice_get_within (matches_of known.facts pred place object) n _ at
 
 pub comes_within : (known : Known) (state : Atoms) (sort slot : ℕ) (lead : Option Lead) (slots : List ℕ) (n o : ℕ)
-    → ComesAt known state sort lead slot slots n o → n < places_of known state sort lead
+    → ComesAt known state sort lead slot slots n o → n < place_count known state sort lead
 comes_within known state sort slot None slots n o at = slice_get_within (objects_of known.facts sort) n o at
 comes_within known state sort slot (Some lead) slots n o at =
     stands_within known state lead.pred lead.among (objects_at at.after lead.terms.now) n at.stands
@@ -234,8 +234,8 @@ module _ (domain : Domain) (known : Known) (state : Atoms) (depth sort slot : �
       → some_at domain known state depth (slot + 1) rest body (slice_set slots slot o) ≡ false
 
   -- where all that comes was tried, none passes
-  pub none_passes : (lead : Option Lead) (count : ℕ) → IfSome lead (IsLead domain body slot slots) → slot < length slots
-      → places_of known state sort lead ≤ count → TriedBefore lead count
+  pub none_passes : (lead : Option Lead) (count : ℕ) → IfSome lead (IsTryLead domain body slot slots) → slot < length slots
+      → place_count known state sort lead ≤ count → TriedBefore lead count
       → list_any (λ o. some_at domain known state depth (slot + 1) rest body (slice_set slots slot o)) (objects_of known.facts sort) ≡ false
   none_passes lead count is inside enough tried =
       none_there (λ o. some_at domain known state depth (slot + 1) rest body (slice_set slots slot o)) (objects_of known.facts sort)
@@ -270,7 +270,7 @@ module _ (domain : Domain) (known : Known) (state : Atoms) (depth sort slot : �
       ] refl
 
 pub placed_lead : (domain : Domain) (body : Condition) (slot : ℕ) (slots : List ℕ) (lead : Option Lead)
-    → IfSome lead (IsLead domain body slot slots) → IfSome lead (IsPlaced slot)
+    → IfSome lead (IsTryLead domain body slot slots) → IfSome lead (IsPlaced slot)
 placed_lead domain body slot slots None is = is
 placed_lead domain body slot slots (Some lead) is = is.placed
 

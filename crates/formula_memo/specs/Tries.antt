@@ -48,7 +48,7 @@ pub record IsInFacts (slot : ℕ) (slots : List ℕ) (before lead : Lead) : Type
       → slice_get (objects_at after before.terms.now) at ≡ Some object
 
 -- Where the condition is true and the slots below have these objects, the lead's atom is at some place.
-pub record IsLead (domain : Domain) (condition : Condition) (slot : ℕ) (slots : List ℕ) (lead : Lead) : Type 0 where
+pub record IsTryLead (domain : Domain) (condition : Condition) (slot : ℕ) (slots : List ℕ) (lead : Lead) : Type 0 where
   pub placed : IsPlaced slot lead
   pub needed : (known : Known) (state : Atoms) (depth : ℕ) (after : List ℕ) → IsSameBelow slot slots after
       → truth_at domain known state depth condition after ≡ true
@@ -63,9 +63,9 @@ pub record IsLedTo (known : Known) (state : Atoms) (lead : Lead) (slot : ℕ) (s
   pub stands : StandsAt known state lead after place
 
 -- how many places there are
-abbrev pub places_of : Known → Atoms → ℕ → Option Lead → ℕ
-places_of known state sort None = length (objects_of known.facts sort)
-places_of known state sort (Some lead) = places_among known state lead.pred lead.among
+abbrev pub place_count : Known → Atoms → ℕ → Option Lead → ℕ
+place_count known state sort None = length (objects_of known.facts sort)
+place_count known state sort (Some lead) = places_among known state lead.pred lead.among
 
 -- the object comes at this place
 abbrev pub ComesAt : Known → Atoms → ℕ → Option Lead → ℕ → List ℕ → ℕ → ℕ → Type 0

@@ -4,7 +4,7 @@ ghost use Rattle.std.specs.List.{list_all};
 ghost use Rattle.task_model.specs.Fit.{IsFit};
 ghost use Rattle.task_model.specs.declared.condition.Term.TheVariants.{Slot};
 ghost use Rattle.formula_eval.specs.Readable.{is_readable, is_readable_term};
-ghost use Rattle.formula_memo.specs.Tries.{IsInFacts, IsLead};
+ghost use Rattle.formula_memo.specs.Tries.{IsInFacts, IsTryLead};
 
 use crate::lead::{Among, Lead, filled};
 use crate::scene::Scene;
@@ -62,7 +62,7 @@ fn lead_by<'a, L: Look>(
 ) -> Option<Lead<'a>>
     requires fit { IsFit scene.now.task.now }
     requires readable { is_readable scene.now.task.now.domain condition.now ≡ true }
-    ensures { IfSome result (IsLead scene.now.task.now.domain condition.now slot env.now) }
+    ensures { IfSome result (IsTryLead scene.now.task.now.domain condition.now slot env.now) }
 {
     let FormulaNode::Atom { pred, args } = &condition.node else {
         return None;
@@ -100,7 +100,7 @@ pub(crate) fn lead_for<'a, L: Look>(
 ) -> Option<Lead<'a>>
     requires fit { IsFit scene.now.task.now }
     requires readable { is_readable scene.now.task.now.domain condition.now ≡ true }
-    ensures { IfSome result (IsLead scene.now.task.now.domain condition.now slot env.now) }
+    ensures { IfSome result (IsTryLead scene.now.task.now.domain condition.now slot env.now) }
 {
     let mut fewest = scene.look.count(sort);
     let FormulaNode::All(parts) = &condition.node else {

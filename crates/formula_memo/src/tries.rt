@@ -2,7 +2,7 @@
 ghost use Rattle.std.specs.Prelude.{◌≡◌, ◌<◌, true, ℕ, List, IfSome, Some, Contains, slice_index};
 ghost use Rattle.task_model.specs.Known.{objects_of};
 ghost use Rattle.task_model.specs.Truth.{has_type, objects_at};
-ghost use Rattle.formula_memo.specs.Tries.{ComesAt, IsPlaced, IsSameBelow, places_among, places_of};
+ghost use Rattle.formula_memo.specs.Tries.{ComesAt, IsPlaced, IsSameBelow, places_among, place_count};
 
 use crate::lead::{Among, Lead, agrees};
 use crate::scene::Scene;
@@ -24,7 +24,7 @@ pub(crate) fn places_by<L: Look>(scene: &Scene<'_, L>, lead: &Lead<'_>) -> usize
 /// At how many places an object can come: those of the lead or, where there is none, one for each
 /// object of the type.
 pub(crate) fn places<L: Look>(scene: &Scene<'_, L>, sort: u32, lead: &Option<Lead<'_>>) -> usize
-    ensures { result ≡ places_of (L.known scene.now.look.now) scene.now.state.now sort lead.now }
+    ensures { result ≡ place_count (L.known scene.now.look.now) scene.now.state.now sort lead.now }
 {
     match lead {
         Some(lead) => places_by(scene, lead),
@@ -70,7 +70,7 @@ pub(crate) fn tried_object<L: Look>(
     place: usize,
     env: &Env,
 ) -> Option<Obj>
-    requires place { place < places_of (L.known scene.now.look.now) scene.now.state.now sort
+    requires place { place < place_count (L.known scene.now.look.now) scene.now.state.now sort
         lead.now }
     requires placed { IfSome lead.now (IsPlaced slot) }
     ensures typed { IfSome result

@@ -7,7 +7,7 @@ use Rattle.std.proofs.lemmas.Bool.Decides.{nat_tests}
 use Rattle.gen_lines.specs.declared.answer.Wanted.{Wanted}
 use Rattle.gen_lines.specs.declared.answer.Wanted.TheVariants.{Outputs, Number}
 use Rattle.gen_lines.specs.declared.answer.Why.TheVariants.{Word, Count, Value}
-use Rattle.gen_lines.specs.Reply.{Reply, yields, number, bad, reply_of, reply_of_fields, fields, given_reply, yield_reply, number_reply, end_reply, word_of, parted, has_bars, joined, are_of_width, is_value, IsRight}
+use Rattle.gen_lines.specs.Reply.{Reply, yields, number, bad, reply_of, reply_of_fields, fields, given_reply, yield_reply, number_reply, end_reply, word_of, parted, has_bars, joined_tuples, are_of_width, is_value, IsRight}
 use Rattle.task_model.specs.Numbers.{is_number}
 use Rattle.task_model.proofs.NumbersLemmas.{number_few}
 use Rattle.gen_lines.proofs.ReplyTupleLemmas.{joined_length, parts_of}
@@ -27,9 +27,9 @@ by_words false false x y z r e = is_third e
 
 record Found (width : ℕ) (tuples : List (List (List ℕ))) (n : ℕ) (values : List (List ℕ)) : Type 0 where
   right : are_of_width width tuples ≡ true
-  valid : list_all is_value (joined tuples) ≡ true
+  valid : list_all is_value (joined_tuples tuples) ≡ true
   count : length tuples ≡ n
-  same : joined tuples ≡ values
+  same : joined_tuples tuples ≡ values
 
 by_tests : (a b : Bool) (m n : ℕ) (us vs : List (List ℕ))
     → (if a then (if b then yields m us else bad Value) else bad Count) ≡ yields n vs
@@ -42,7 +42,7 @@ found : (width : ℕ) (tuples : List (List (List ℕ))) (n : ℕ) (values : List
     → yield_reply width tuples ≡ yields n values
     → Found width tuples n values
 found width tuples n values e =
-    let tests = by_tests (are_of_width width tuples) (list_all is_value (joined tuples)) (length tuples) n (joined tuples) values e in
+    let tests = by_tests (are_of_width width tuples) (list_all is_value (joined_tuples tuples)) (length tuples) n (joined_tuples tuples) values e in
     record { right = tests.0; valid = tests.1; count = tests.2; same = tests.3 }
 
 one_tuple : (outputs : ℕ) (several : Bool) (given : List (List ℕ))
@@ -121,7 +121,7 @@ given_small : (wanted : Wanted) (given : List (List ℕ)) (n : ℕ)
     → given_reply wanted given ≡ number n → n ≤ 1000000
 given_small (Outputs width several) given n e =
     let tuples = parted (has_bars width several) given in
-    absurd (yield_is_no_number (are_of_width width tuples) (list_all is_value (joined tuples)) (length tuples) n (joined tuples) e)
+    absurd (yield_is_no_number (are_of_width width tuples) (list_all is_value (joined_tuples tuples)) (length tuples) n (joined_tuples tuples) e)
 given_small Number given n e = number_small given n e
 
 small_fields : (given : List (List ℕ)) (wanted : Wanted) (n : ℕ)

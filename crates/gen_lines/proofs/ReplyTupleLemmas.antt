@@ -4,8 +4,8 @@ use Rattle.std.proofs.Math.Nat.{suc-mul}
 use Rattle.std.specs.List.{list_all, slice_split, onto_first}
 use Rattle.std.proofs.lemmas.Bool.Decides.{nat_tests}
 use Rattle.std.proofs.lemmas.Bool.{and_parts}
-use Rattle.gen_lines.specs.Reply.{parted, parts_here, is_bar, joined, are_of_width}
-use Rattle.gen_lines.specs.Told.{count_of}
+use Rattle.gen_lines.specs.Reply.{parted, parts_here, is_bar, joined_tuples, are_of_width}
+use Rattle.gen_lines.specs.Told.{tuple_count}
 
 -- these tuples, of which there is at least one
 pub record Parts (tuples : List (List (List ℕ))) : Type 0 where
@@ -48,7 +48,7 @@ count_on width tuples begun (tuple ∷ more) =
     then Some (tuples + length more) else None
 
 count_parts : (width : ℕ) (tuples : List (List (List ℕ))) → Parts tuples
-    → count_of width tuples ≡ count_on width 1 0 tuples
+    → tuple_count width tuples ≡ count_on width 1 0 tuples
 count_parts width [] p = absurd (let e = p.same in cc)
 count_parts width (tuple ∷ tuples) p =
     let whole : 0 + length tuple ≡ length tuple = omega arith in
@@ -56,7 +56,7 @@ count_parts width (tuple ∷ tuples) p =
     rw (whole, more) refl
 
 pub count_all : (width : ℕ) (bars : Bool) (given : List (List ℕ))
-    → count_of width (parted bars given) ≡ count_on width 1 0 (parted bars given)
+    → tuple_count width (parted bars given) ≡ count_on width 1 0 (parted bars given)
 count_all width bars given = count_parts width (parted bars given) (parts_of bars given)
 
 none_left : (a b : Bool) (n : ℕ) → a ≡ false → (if a && b then Some n else None) ≡ None
@@ -150,19 +150,19 @@ step_long width tuples begun bars here field next s full =
 
 -- their values
 pub joined_other : (field : List ℕ) (tuples : List (List (List ℕ))) → Parts tuples
-    → joined (onto_first field tuples) ≡ field ∷ joined tuples
+    → joined_tuples (onto_first field tuples) ≡ field ∷ joined_tuples tuples
 joined_other field [] p = absurd (let e = p.same in cc)
 joined_other field (tuple ∷ tuples) p = refl
 
 pub joined_length : (width : ℕ) (tuples : List (List (List ℕ)))
     → list_all (λ t. length t == width) tuples ≡ true
-    → length (joined tuples) ≡ length tuples * width
+    → length (joined_tuples tuples) ≡ length tuples * width
 joined_length width [] e = omega arith
 joined_length width (tuple ∷ tuples) e =
     let both = and_parts (length tuple == width) _ e in
     let first : length tuple ≡ width = grind (arith, nat_tests, both.0) in
     let rest = joined_length width tuples both.1 in
-    omega (arith, length-append tuple (joined tuples), suc-mul (length tuples) width)
+    omega (arith, length-append tuple (joined_tuples tuples), suc-mul (length tuples) width)
 
 counted_by : (b : Bool) (m n : ℕ) → (if b then Some m else None) ≡ Some n → (b ≡ true) × (m ≡ n)
 counted_by true m n e = (refl, cc)
@@ -172,9 +172,9 @@ pub record Counted (width : ℕ) (tuples : List (List (List ℕ))) (n : ℕ) : T
   pub right : are_of_width width tuples ≡ true
   pub count : length tuples ≡ n
   pub few : n ≤ 16
-  pub values : length (joined tuples) ≡ n * width
+  pub values : length (joined_tuples tuples) ≡ n * width
 
-pub counted : (width : ℕ) (tuples : List (List (List ℕ))) (n : ℕ) → count_of width tuples ≡ Some n
+pub counted : (width : ℕ) (tuples : List (List (List ℕ))) (n : ℕ) → tuple_count width tuples ≡ Some n
     → Counted width tuples n
 counted width tuples n e =
     let found = counted_by (are_of_width width tuples) (length tuples) n e in

@@ -4,16 +4,16 @@ use Rattle.std.specs.List.{list_all}
 use Rattle.std.proofs.lemmas.List.{take_more_set, map-append}
 use Rattle.std.proofs.lemmas.List.Elements.{All-append, All-nil, All-cons}
 use Rattle.std.proofs.lemmas.List.Folds.{list_all-append}
-use Rattle.gen_lines.specs.Reply.{is_value, joined, parted}
+use Rattle.gen_lines.specs.Reply.{is_value, joined_tuples, parted}
 use Rattle.gen_lines.specs.Told.{Lies, text_at}
 use Rattle.gen_lines.proofs.ReplyTupleLemmas.{Step, joined_other, parted_other, parts_of}
 
 -- the first places are those of values, and the other values are still to come
 pub record AreFirst (line : List ℕ) (values here : List (List ℕ)) (bars : Bool) (total : ℕ) (places : List (ℕ × ℕ))
     (count : ℕ) : Type 0 where
-  pub room : count + length (joined (parted bars here)) ≡ total
+  pub room : count + length (joined_tuples (parted bars here)) ≡ total
   pub valid : list_all is_value (map (text_at line) (take count places)) ≡ true
-  pub same : values ≡ map (text_at line) (take count places) ++ joined (parted bars here)
+  pub same : values ≡ map (text_at line) (take count places) ++ joined_tuples (parted bars here)
   pub lie : All (Lies line) (take count places)
 
 pub first_more : (line : List ℕ) (values here : List (List ℕ)) (bars : Bool) (total : ℕ) (places : List (ℕ × ℕ))
@@ -23,9 +23,9 @@ pub first_more : (line : List ℕ) (values here : List (List ℕ)) (bars : Bool)
     → Lies line span → total ≤ length places →
     AreFirst line values next bars total (slice_set places count span) (count + 1)
 first_more line values here bars total places count field next span m s valid text lies enough =
-    let others : joined (parted bars here) ≡ field ∷ joined (parted bars next) =
+    let others : joined_tuples (parted bars here) ≡ field ∷ joined_tuples (parted bars next) =
     rw (s.first, parted_other bars field next s.part) (joined_other field (parted bars next) (parts_of bars next)) in
-    let room : count + 1 + length (joined (parted bars next)) ≡ total = omega (arith, m.room, ap length others) in
+    let room : count + 1 + length (joined_tuples (parted bars next)) ≡ total = omega (arith, m.room, ap length others) in
     let grown : take (count + 1) (slice_set places count span) ≡ take count places ++ span ∷ [] =
     take_more_set places count span (omega arith) in
     let shown : map (text_at line) (take (count + 1) (slice_set places count span)) ≡ map (text_at line) (take count places) ++ field ∷ [] =

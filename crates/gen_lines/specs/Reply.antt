@@ -52,9 +52,9 @@ parts_here bars field = bars && is_bar field
 abbrev pub has_bars : ℕ → Bool → Bool
 has_bars width several = several && nat_lt 0 width
 
-abbrev pub joined : List (List (List ℕ)) → List (List ℕ)
-joined [] = []
-joined (tuple ∷ tuples) = tuple ++ joined tuples
+abbrev pub joined_tuples : List (List (List ℕ)) → List (List ℕ)
+joined_tuples [] = []
+joined_tuples (tuple ∷ tuples) = tuple ++ joined_tuples tuples
 
 -- each tuple has this many fields, and there are at most 16
 abbrev pub are_of_width : ℕ → List (List (List ℕ)) → Bool
@@ -83,7 +83,7 @@ number_reply (field ∷ next ∷ given) = bad Count
 abbrev pub yield_reply : ℕ → List (List (List ℕ)) → Reply
 yield_reply width tuples =
     if are_of_width width tuples
-    then (if list_all is_value (joined tuples) then yields (length tuples) (joined tuples) else bad Value)
+    then (if list_all is_value (joined_tuples tuples) then yields (length tuples) (joined_tuples tuples) else bad Value)
     else bad Count
 
 abbrev pub given_reply : Wanted → List (List ℕ) → Reply

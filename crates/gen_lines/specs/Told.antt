@@ -59,8 +59,8 @@ IsNarrow (Outputs width several) = width ≤ 8
 IsNarrow Number = Unit {0}
 
 -- how many tuples there are, if each has this many fields
-abbrev pub count_of : ℕ → List (List (List ℕ)) → Option ℕ
-count_of width tuples = if are_of_width width tuples then Some (length tuples) else None
+abbrev pub tuple_count : ℕ → List (List (List ℕ)) → Option ℕ
+tuple_count width tuples = if are_of_width width tuples then Some (length tuples) else None
 
 -- the values stand where the spans say
 pub record AreMarked (line : List ℕ) (values : List (List ℕ)) (count width : ℕ) (spans : Spans) : Type 0 where

@@ -1,7 +1,7 @@
 //! Where the values of a yield stand.
 ghost use Rattle.std.specs.Prelude.{◌≡◌, ◌*◌, ◌≤◌, length, drop};
-ghost use Rattle.gen_lines.specs.Reply.{fields, joined, parted, parts_here};
-ghost use Rattle.gen_lines.specs.Told.{Marks, count_of};
+ghost use Rattle.gen_lines.specs.Reply.{fields, joined_tuples, parted, parts_here};
+ghost use Rattle.gen_lines.specs.Told.{Marks, tuple_count};
 
 use crate::fields::field_from;
 use crate::values::{is_bar, is_value};
@@ -47,7 +47,7 @@ const TUPLES: u8 = 16;
 /// too many.
 pub(crate) fn count_tuples(line: &[u8], from: usize, width: usize, bars: bool) -> Option<u8>
     requires { from ≤ length line.now }
-    ensures { result ≡ count_of width (parted bars (fields (drop from line.now))) }
+    ensures { result ≡ tuple_count width (parted bars (fields (drop from line.now))) }
 {
     let mut at = from;
     let mut tuples = 1;
@@ -81,8 +81,8 @@ pub(crate) fn mark_values(
     requires from { from ≤ length line.now }
     requires line { length line.now ≤ 1024 }
     requires few { tuples * width ≤ 128 }
-    requires count { length (joined (parted bars (fields (drop from line.now)))) ≡ tuples * width }
-    ensures { Marks line.now (joined (parted bars (fields (drop from line.now)))) tuples width
+    requires count { length (joined_tuples (parted bars (fields (drop from line.now)))) ≡ tuples * width }
+    ensures { Marks line.now (joined_tuples (parted bars (fields (drop from line.now)))) tuples width
         result }
 {
     let mut places = [(0, 0); 128];

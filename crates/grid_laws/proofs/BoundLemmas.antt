@@ -8,10 +8,10 @@ use Rattle.std.specs.List.{All, list_all}
 use Rattle.std.specs.Str.{bytes_eq}
 use Rattle.std.specs.Str.Parse.{digits_value}
 use Rattle.gen_lines.specs.Reply.{fields, is_filled}
-use Rattle.grid_text.specs.Entries.{Entry, Item, block_entry, entry_of, entry_sort, four_of, grid_item, has_numbers, most_extent, obstacle_of, rect_of, region_entry, size_of}
+use Rattle.grid_text.specs.Entries.{GridEntry, Item, block_entry, entry_of, entry_sort, four_of, grid_item, has_numbers, most_extent, obstacle_of, rect_of, region_entry, size_entry}
 use Rattle.grid_text.specs.Files.{IsGridOf, line_fault_at}
-use Rattle.grid_text.specs.Grids.{GridFile, NamedRect, area, entry_fault, fault_in, found_fault, grid_of, is_full, is_inside, is_name_taken, is_sort_due, item_in, last_or, nothing_read, region_of, region_told, size_told, told, told_in}
-use Rattle.grid_text.specs.Lines.{is_passed, lines_in, may_stand_in_line}
+use Rattle.grid_text.specs.Grids.{GridFile, NamedRect, area, entry_fault, fault_in, found_fault, grid_of, is_full, is_inside, is_name_taken, is_sort_due, item_in, last_or, nothing_read, region_of, region_told, size_told, told_item, told_in}
+use Rattle.grid_text.specs.Lines.{is_passed_over, lines_in, may_stand_in_line}
 use Rattle.grid_text.specs.Numbers.{is_decimal, is_extent, is_short_number}
 use Rattle.grid_text.specs.declared.fault.GridKind.TheVariants.{Form, Number, Outside, Duplicate, TooMany}
 use Rattle.grid_text.specs.declared.rect.Rect.{Rect}
@@ -43,7 +43,7 @@ extent_small most field e =
     let p = and_parts _ (nat_le (digits_value 10 field) most) e in
     short_small field (and_parts (is_short_number field) (nat_le 1 (digits_value 10 field)) p.0).0
 
-entry_small : (entry : Entry) → has_numbers entry ≡ true → IsSmall (rect_of entry)
+entry_small : (entry : GridEntry) → has_numbers entry ≡ true → IsSmall (rect_of entry)
 unfolding has_numbers
 entry_small entry e =
     let most = most_extent entry.sort in
@@ -66,7 +66,7 @@ numbered_by false numbers inside taken full e = absurd (cc)
 numbered_by true false inside taken full e = absurd (cc)
 numbered_by true true inside taken full e = refl
 
-numbered : (grid : GridFile) (entry : Entry) → entry_fault grid entry ≡ None → IsSmall (rect_of entry)
+numbered : (grid : GridFile) (entry : GridEntry) → entry_fault grid entry ≡ None → IsSmall (rect_of entry)
 unfolding entry_fault
 numbered grid entry e =
     entry_small entry
@@ -76,7 +76,7 @@ numbered grid entry e =
 -- ---- what an entry tells
 
 -- The size and the region that the entry tells, if it does, are small where its numbers are.
-record TellsSmall (entry : Entry) : Type 0 where
+record TellsSmall (entry : GridEntry) : Type 0 where
   size : (size : Rect) → size_told entry.sort entry.name (rect_of entry) ≡ Some size → IsSmall (rect_of entry) → IsSmall size
   region : (region : NamedRect) → region_told entry.sort entry.name (rect_of entry) ≡ Some region → IsSmall (rect_of entry)
       → IsSmall region.rect
@@ -92,7 +92,7 @@ same_region name rect region e small =
     let same : region_of name rect ≡ region = cc in
     subst (λ (r : NamedRect). IsSmall r.rect) same small
 
-sizes_tell : (given : List (List ℕ)) → IfSome (size_of given) TellsSmall
+sizes_tell : (given : List (List ℕ)) → IfSome (size_entry given) TellsSmall
 sizes_tell [] = tt
 sizes_tell (w ∷ []) = tt
 sizes_tell (w ∷ h ∷ []) = record { size = λ size e small. same_size _ size e small; region = λ region e small. absurd (cc) }
@@ -147,10 +147,10 @@ entry_tells (word ∷ given) = word_tells word given
 
 -- The size and the region that a line tells, if it does, are small.
 record LineSmall (o : Option Item) : Type 0 where
-  size : (size : Rect) → told size_told o ≡ Some size → IsSmall size
-  region : (region : NamedRect) → told region_told o ≡ Some region → IsSmall region.rect
+  size : (size : Rect) → told_item size_told o ≡ Some size → IsSmall size
+  region : (region : NamedRect) → told_item region_told o ≡ Some region → IsSmall region.rect
 
-line_by : (grid : GridFile) (stands passed : Bool) (entry : Option Entry) → IfSome entry TellsSmall
+line_by : (grid : GridFile) (stands passed : Bool) (entry : Option GridEntry) → IfSome entry TellsSmall
     → (if not stands then Some Form else if passed then None else found_fault grid entry) ≡ None
     → LineSmall (if passed then None else option_map grid_item entry)
 line_by grid false passed entry tells f = absurd (cc)
@@ -162,7 +162,7 @@ line_by grid true false (Some entry) tells f =
 
 line_small : (grid : GridFile) (line : List ℕ) → fault_in grid line ≡ None → LineSmall (item_in line)
 line_small grid line f =
-    line_by grid (may_stand_in_line line) (is_passed line) (entry_of (fields line)) (entry_tells (fields line)) f
+    line_by grid (may_stand_in_line line) (is_passed_over line) (entry_of (fields line)) (entry_tells (fields line)) f
 
 -- ---- all lines
 
@@ -186,13 +186,13 @@ later_small line lines all k within = all (suc k) (omega arith)
 sizes_small : (lines : List (List ℕ)) → AreSmall lines → All IsSmall (told_in size_told lines)
 sizes_small [] small = λ k d within. absurd (omega arith)
 sizes_small (line ∷ lines) small =
-    all_by IsSmall (told size_told (item_in line)) (λ l. told size_told (item_in l)) line lines refl
+    all_by IsSmall (told_item size_told (item_in line)) (λ l. told_item size_told (item_in l)) line lines refl
     (first_small line lines small).size (sizes_small lines (later_small line lines small))
 
 regions_small : (lines : List (List ℕ)) → AreSmall lines → All (λ (r : NamedRect). IsSmall r.rect) (told_in region_told lines)
 regions_small [] small = λ k d within. absurd (omega arith)
 regions_small (line ∷ lines) small =
-    all_by (λ (r : NamedRect). IsSmall r.rect) (told region_told (item_in line)) (λ l. told region_told (item_in l)) line lines refl
+    all_by (λ (r : NamedRect). IsSmall r.rect) (told_item region_told (item_in line)) (λ l. told_item region_told (item_in l)) line lines refl
     (first_small line lines small).region (regions_small lines (later_small line lines small))
 
 last_all : {A : Type 0} (P : A → Type 0) (none : A) (xs : List A) → P none → All P xs → P (last_or none xs)

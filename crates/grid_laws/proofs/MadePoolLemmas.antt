@@ -12,8 +12,8 @@ use Rattle.pddlstream_app.specs.Works.{made_files, made_words}
 use Rattle.pools.specs.Pools.{Workers, workers_of}
 use Rattle.round_run.specs.Dialogue.{workers_in}
 use Rattle.stream_map.specs.Accepted.{Accepted}
-use Rattle.stream_map.specs.Children.{PlainPool, grid_file, numbered, plain, with_second, with_text}
-use Rattle.stream_map.specs.Faults.{places_of}
+use Rattle.stream_map.specs.Children.{PlainPool, grid_file, numbered_pools, plain, with_second, with_text}
+use Rattle.stream_map.specs.Faults.{stream_places}
 use Rattle.stream_map.specs.Form.{all_stream_names, words_form}
 use Rattle.stream_map.specs.Spelled.{Spelled, begins_grid, is_grid_word}
 use Rattle.task_model.specs.declared.task.Task.{Task}
@@ -50,17 +50,17 @@ abbrev made_pool : Task → Spelled
 made_pool task = record { run = made_words.program; workers = made_words.workers; streams = all_stream_names task }
 
 abbrev pub made_workers : Task → Workers
-made_workers task = record { first = 16; workers = 1; streams = places_of (all_stream_names task) (made_pool task) }
+made_workers task = record { first = 16; workers = 1; streams = stream_places (all_stream_names task) (made_pool task) }
 
 one_form : (names : List (List ℕ)) (b : Bool) (s : Spelled) (spelled : List Spelled) → begins_grid s.run ≡ true → b ≡ false
     → cond b (Some []) (Some (s ∷ [])) ≡ Some spelled
-    → map kept (numbered names 0 spelled) ≡ (record { first = 16; workers = s.workers; streams = places_of names s }) ∷ []
+    → map kept (numbered_pools names 0 spelled) ≡ (record { first = 16; workers = s.workers; streams = stream_places names s }) ∷ []
 one_form names true s spelled grid some e = absurd (cc)
 one_form names false s spelled grid some e =
     let same : spelled ≡ s ∷ [] = cc in
     let first : cond (begins_grid s.run) 16 0 ≡ 16 = rw grid refl in
-    ap (λ ss. map kept (numbered names 0 ss)) same
-    ∙ ap (λ n. (record { first = n; workers = s.workers; streams = places_of names s }) ∷ []) first
+    ap (λ ss. map kept (numbered_pools names 0 ss)) same
+    ∙ ap (λ n. (record { first = n; workers = s.workers; streams = stream_places names s }) ∷ []) first
 
 made_form : (task : Task) (pools : List Pool) → 0 < length task.streams
     → Accepted task (words_form task made_words.program made_words.workers) pools → map kept (map plain pools) ≡ made_workers task ∷ []

@@ -14,8 +14,8 @@ use Rattle.grid_text.specs.declared.grid.Block.{Block}
 use Rattle.grid_text.specs.declared.rect.Rect.{Rect}
 use Rattle.grid_world.specs.Words.{rect_at}
 use Rattle.grid_world.specs.declared.words.Corner.{Corner}
-use Rattle.grid_play.specs.Clashes.{IsFirstClash, LeastBefore, Places, StandsBefore, is_before, is_clash, places_cmp}
-use Rattle.grid_play.specs.Faults.{Overlap, block_name, cells_at, cells_of, meet_in, name_cmp, pair_cmp, share}
+use Rattle.grid_play.specs.Clashes.{IsFirstClash, LeastBefore, Places, StandsBeforePlaces, is_before, is_clash, places_cmp}
+use Rattle.grid_play.specs.Faults.{Overlap, block_name, cells_at, cells_of, meet_in, name_cmp, name_pair_cmp, share}
 use Rattle.grid_play.specs.Worlds.{World}
 
 -- ---- blocks that share a cell
@@ -134,8 +134,8 @@ module _ (grid : GridFile) (world : World) where
   abbrev AtPlaces : ℕ → ℕ → Places → Type 0
   AtPlaces one other pair = (pair.0 ≡ one) × (pair.1 ≡ other)
 
-  next_cases : (one other : ℕ) (pair : Places) → StandsBefore one (other + 1) pair
-      → StandsBefore one other pair ⊎ AtPlaces one other pair
+  next_cases : (one other : ℕ) (pair : Places) → StandsBeforePlaces one (other + 1) pair
+      → StandsBeforePlaces one other pair ⊎ AtPlaces one other pair
   next_cases one other pair (inl less) = inl (inl less)
   next_cases one other pair (inr same) =
       elim (or_here pair.1 other same.1) [ inl below ↦ inl (inr (same.0, below)) | inr here ↦ inr (same.0, here) ]
@@ -165,7 +165,7 @@ module _ (grid : GridFile) (world : World) where
   }
     where
       later : (best : Option Places) → LeastBefore grid world one other best → is_before grid (one, other) best ≡ true
-          → (pair : Places) → StandsBefore one other pair → is_clash grid world pair.0 pair.1 ≡ true
+          → (pair : Places) → StandsBeforePlaces one other pair → is_clash grid world pair.0 pair.1 ≡ true
           → places_cmp grid pair (one, other) ≡ Less → ⊥
       later None before first pair earlier clashes less = before pair earlier clashes
       later (Some b) before first pair earlier clashes less =
@@ -196,12 +196,12 @@ module _ (grid : GridFile) (world : World) where
     ];
   }
 
-  row_done : (one other : ℕ) (pair : Places) → length grid.blocks ≤ other → StandsBefore (one + 1) 0 pair
-      → is_clash grid world pair.0 pair.1 ≡ true → StandsBefore one other pair
+  row_done : (one other : ℕ) (pair : Places) → length grid.blocks ≤ other → StandsBeforePlaces (one + 1) 0 pair
+      → is_clash grid world pair.0 pair.1 ≡ true → StandsBeforePlaces one other pair
   row_done one other pair past (inr same) clashes = absurd (omega (arith, same.1))
   row_done one other pair past (inl less) clashes =
       let within = clash_within pair.0 pair.1 clashes in
-      elim (pair.0 == one) as (λ b. (pair.0 == one) ≡ b → StandsBefore one other pair) [
+      elim (pair.0 == one) as (λ b. (pair.0 == one) ≡ b → StandsBeforePlaces one other pair) [
         | true ↦ λ e. inr (eqb-true pair.0 one e, beyond pair.1 within.1)
         | false ↦ λ e. inl (below pair.0 less (λ same. let both : true ≡ false = sym (eq-eqb pair.0 one same) ∙ e in absurd (cc)))
       ] refl
@@ -225,7 +225,7 @@ module _ (grid : GridFile) (world : World) where
   pub least_none : LeastBefore grid world 0 0 None
   least_none = λ pair stands clashes. none pair stands
     where
-      none : (pair : Places) → StandsBefore 0 0 pair → ⊥
+      none : (pair : Places) → StandsBeforePlaces 0 0 pair → ⊥
       none pair (inl less) = absurd (omega (arith, less))
       none pair (inr same) = absurd (omega (arith, same.1))
 
@@ -241,8 +241,8 @@ module _ (grid : GridFile) (world : World) where
     least = λ a b is less.
         let clash = clash_of a b is in
         let within = clash_within is.one is.other clash in
-        let same : pair_cmp a b (block_name grid best.0) (block_name grid best.1) ≡ places_cmp grid (is.one, is.other) best =
-        ap (λ n. pair_cmp n b (block_name grid best.0) (block_name grid best.1)) is.first_is
-        ∙ ap (λ n. pair_cmp (block_name grid is.one) n (block_name grid best.0) (block_name grid best.1)) is.second_is in
+        let same : name_pair_cmp a b (block_name grid best.0) (block_name grid best.1) ≡ places_cmp grid (is.one, is.other) best =
+        ap (λ n. name_pair_cmp n b (block_name grid best.0) (block_name grid best.1)) is.first_is
+        ∙ ap (λ n. name_pair_cmp (block_name grid is.one) n (block_name grid best.0) (block_name grid best.1)) is.second_is in
         before.least (is.one, is.other) (inl (omega (arith, past, within.0))) clash (sym same ∙ less);
   }

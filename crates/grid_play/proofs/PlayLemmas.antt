@@ -3,7 +3,7 @@ use Rattle.std.proofs.Common.{◌≡◌, ◌≢◌, ℕ, suc, ◌+◌, ◌-◌, 
 use Rattle.std.proofs.lemmas.Option.{slice_get_within}
 use Rattle.lemmas.proofs.Members.{next_taken}
 use Rattle.grid_text.specs.Grids.{GridFile}
-use Rattle.grid_play.specs.Faults.{FirstOverlap, HasFault, IsFirstFault, IsPlayVerdict, IsTaken, LaysDown, fault_rank, fault_step, mark_in, marked, marks_from}
+use Rattle.grid_play.specs.Faults.{FirstOverlap, HasPlayFault, IsFirstPlayFault, IsPlayVerdict, IsStepInWorld, LaysDown, fault_rank, fault_step, mark_in, marked, marks_from}
 use Rattle.grid_play.specs.Steps.{IsClashVerdict, IsStepVerdict, StepFault, marks_for}
 use Rattle.grid_play.specs.Worlds.{World, home_world, move_of, step_world, world_after}
 use Rattle.grid_play.specs.declared.play.Mark.{Mark}
@@ -58,11 +58,11 @@ marks_next grid steps k call at =
 module _ (grid : GridFile) (steps : List Call) where
   -- no step up to this number has a fault
   abbrev pub NoneUpTo : ℕ → Type 0
-  NoneUpTo k = (v : PlayVerdict) → HasFault grid steps v → fault_step v < k + 1 → ⊥
+  NoneUpTo k = (v : PlayVerdict) → HasPlayFault grid steps v → fault_step v < k + 1 → ⊥
 
   module _ (k : ℕ) (call : Call) (world : World) (at : slice_get steps k ≡ Some call)
       (before : world_after grid (home_world grid) (take k steps) ≡ Some world) where
-    here : (i : ℕ) (c : Call) (w : World) → IsTaken grid steps i c w → i ≡ k + 1 → (c ≡ call) × (w ≡ world)
+    here : (i : ℕ) (c : Call) (w : World) → IsStepInWorld grid steps i c w → i ≡ k + 1 → (c ≡ call) × (w ≡ world)
     here i c w taken e =
         let places : taken.place ≡ k = same taken.place i k taken.number e in
         let calls : Some c ≡ Some call = sym taken.is ∙ ap (slice_get steps) places ∙ at in
@@ -74,7 +74,7 @@ module _ (grid : GridFile) (steps : List Call) where
         same p i k a b = omega (arith, a, b)
 
     -- a fault of the step, by the world in which it is taken
-    pub to_step : (v : PlayVerdict) → HasFault grid steps v → fault_step v ≡ k + 1
+    pub to_step : (v : PlayVerdict) → HasPlayFault grid steps v → fault_step v ≡ k + 1
         → StepFault grid world (k + 1) call v
     to_step Safe has e = has
     to_step (Strange i) has e =
@@ -92,11 +92,11 @@ module _ (grid : GridFile) (steps : List Call) where
         ∙ ap (λ n. world_after grid (home_world grid) (take n steps)) (sym e) ∙ has.2 in
         (e, has.0, after, has.3)
 
-    taken : (i : ℕ) → i ≡ k + 1 → IsTaken grid steps i call world
+    taken : (i : ℕ) → i ≡ k + 1 → IsStepInWorld grid steps i call world
     taken i e = record { place = k; number = e; is = at; before = before }
 
     pub from_step : (v : PlayVerdict) → StepFault grid world (k + 1) call v
-        → HasFault grid steps v × (fault_step v ≡ k + 1)
+        → HasPlayFault grid steps v × (fault_step v ≡ k + 1)
     from_step Safe fault = absurd fault
     from_step (Strange i) fault = ((call, world, taken i fault.0, fault.1), fault.0)
     from_step (Outside i name) fault =
@@ -126,7 +126,7 @@ module _ (grid : GridFile) (steps : List Call) where
 
     first_here : NoneUpTo k → (v : PlayVerdict)
         → ((other : PlayVerdict) → StepFault grid world (k + 1) call other → ¬ (fault_rank other < fault_rank v))
-        → StepFault grid world (k + 1) call v → IsFirstFault grid steps v
+        → StepFault grid world (k + 1) call v → IsFirstPlayFault grid steps v
     first_here none v first fault =
         let has = from_step v fault in
         record {
@@ -165,7 +165,7 @@ module _ (grid : GridFile) (steps : List Call) where
 
   -- ---- at first
 
-  none_first : (v : PlayVerdict) → HasFault grid steps v → fault_step v < 0 + 1
+  none_first : (v : PlayVerdict) → HasPlayFault grid steps v → fault_step v < 0 + 1
       → (first second : List ℕ) × (v ≡ Clash 0 first second) × FirstOverlap grid (home_world grid) first second
   none_first Safe has less = absurd has
   none_first (Strange i) has less = absurd (omega (arith, less, has.2.number))
@@ -214,7 +214,7 @@ module _ (grid : GridFile) (steps : List Call) where
 
   -- ---- at the end
 
-  step_within : (v : PlayVerdict) → HasFault grid steps v → fault_step v < length steps + 1
+  step_within : (v : PlayVerdict) → HasPlayFault grid steps v → fault_step v < length steps + 1
   step_within Safe has = absurd has
   step_within (Strange i) has =
       let within = slice_get_within steps has.2.place has.0 has.2.is in omega (arith, within, has.2.number)

@@ -57,8 +57,8 @@ abbrev pub name_cmp : List ℕ → List ℕ → Ordering
 name_cmp = slice_cmp nat_cmp
 
 -- pairs are compared by their first names, and then by their second
-abbrev pub pair_cmp : List ℕ → List ℕ → List ℕ → List ℕ → Ordering
-pair_cmp a b c d = ordering_then (name_cmp a c) (name_cmp b d)
+abbrev pub name_pair_cmp : List ℕ → List ℕ → List ℕ → List ℕ → Ordering
+name_pair_cmp a b c d = ordering_then (name_cmp a c) (name_cmp b d)
 
 -- Two blocks of these names aren't held and share a cell, the lesser name first.
 pub record Overlap (grid : GridFile) (world : World) (first second : List ℕ) : Type 0 where
@@ -73,12 +73,12 @@ pub record Overlap (grid : GridFile) (world : World) (first second : List ℕ) :
 -- They do, and of all such pairs they are the least.
 pub record FirstOverlap (grid : GridFile) (world : World) (first second : List ℕ) : Type 0 where
   pub overlap : Overlap grid world first second
-  pub least : (a b : List ℕ) → Overlap grid world a b → pair_cmp a b first second ≢ Less
+  pub least : (a b : List ℕ) → Overlap grid world a b → name_pair_cmp a b first second ≢ Less
 
 -- ---- faults
 
 -- The step of this number, from 1, is taken in this world.
-pub record IsTaken (grid : GridFile) (steps : List Call) (i : ℕ) (call : Call) (world : World) : Type 0 where
+pub record IsStepInWorld (grid : GridFile) (steps : List Call) (i : ℕ) (call : Call) (world : World) : Type 0 where
   pub place : ℕ
   pub number : i ≡ place + 1
   pub is : slice_get steps place ≡ Some call
@@ -99,17 +99,17 @@ pub record LaysDown (grid : GridFile) (world : World) (call : Call) (name : List
 -- The plan has this fault: a step that is no move or may not be made; a step that leaves its block with a cell outside
 -- of the grid, or on a cell of an obstacle; or after a step, at first where it is 0, two blocks share a cell. Behind a
 -- strange step there is no world, so nothing more is wrong.
-abbrev pub HasFault : GridFile → List Call → PlayVerdict → Type 0
-HasFault grid steps Safe = ⊥
-HasFault grid steps (Strange i) =
-    (call : Call) × (world : World) × IsTaken grid steps i call world × (step_world grid world call ≡ None)
-HasFault grid steps (Outside i name) =
-    (call : Call) × (world : World) × (cells : Rect) × IsTaken grid steps i call world
+abbrev pub HasPlayFault : GridFile → List Call → PlayVerdict → Type 0
+HasPlayFault grid steps Safe = ⊥
+HasPlayFault grid steps (Strange i) =
+    (call : Call) × (world : World) × IsStepInWorld grid steps i call world × (step_world grid world call ≡ None)
+HasPlayFault grid steps (Outside i name) =
+    (call : Call) × (world : World) × (cells : Rect) × IsStepInWorld grid steps i call world
     × LaysDown grid world call name cells × (is_within cells (area grid) ≡ false)
-HasFault grid steps (Obstacle i name) =
-    (call : Call) × (world : World) × (cells : Rect) × IsTaken grid steps i call world
+HasPlayFault grid steps (Obstacle i name) =
+    (call : Call) × (world : World) × (cells : Rect) × IsStepInWorld grid steps i call world
     × LaysDown grid world call name cells × (is_blocked grid cells ≡ true)
-HasFault grid steps (Clash i first second) =
+HasPlayFault grid steps (Clash i first second) =
     (world : World) × (i < length steps + 1) × (world_after grid (home_world grid) (take i steps) ≡ Some world)
     × FirstOverlap grid world first second
 
@@ -128,22 +128,22 @@ fault_rank (Obstacle i name) = 3
 fault_rank (Clash i first second) = 4
 
 -- it is of an earlier step, or of the same step and of an earlier kind
-abbrev pub Precedes : PlayVerdict → PlayVerdict → Type 0
-Precedes a b =
+abbrev pub PrecedesFault : PlayVerdict → PlayVerdict → Type 0
+PrecedesFault a b =
     (fault_step a < fault_step b) ⊎ ((fault_step a ≡ fault_step b) × (fault_rank a < fault_rank b))
 
 -- The plan has this fault, and none that precedes it.
-pub record IsFirstFault (grid : GridFile) (steps : List Call) (verdict : PlayVerdict) : Type 0 where
-  pub has : HasFault grid steps verdict
-  pub first : (other : PlayVerdict) → HasFault grid steps other → ¬ (Precedes other verdict)
+pub record IsFirstPlayFault (grid : GridFile) (steps : List Call) (verdict : PlayVerdict) : Type 0 where
+  pub has : HasPlayFault grid steps verdict
+  pub first : (other : PlayVerdict) → HasPlayFault grid steps other → ¬ (PrecedesFault other verdict)
 
 -- It is safe where the plan has no fault, and else the first fault.
 abbrev pub IsPlayVerdict : GridFile → List Call → PlayVerdict → Type 0
-IsPlayVerdict grid steps Safe = (other : PlayVerdict) → ¬ (HasFault grid steps other)
-IsPlayVerdict grid steps (Strange i) = IsFirstFault grid steps (Strange i)
-IsPlayVerdict grid steps (Outside i name) = IsFirstFault grid steps (Outside i name)
-IsPlayVerdict grid steps (Obstacle i name) = IsFirstFault grid steps (Obstacle i name)
-IsPlayVerdict grid steps (Clash i first second) = IsFirstFault grid steps (Clash i first second)
+IsPlayVerdict grid steps Safe = (other : PlayVerdict) → ¬ (HasPlayFault grid steps other)
+IsPlayVerdict grid steps (Strange i) = IsFirstPlayFault grid steps (Strange i)
+IsPlayVerdict grid steps (Outside i name) = IsFirstPlayFault grid steps (Outside i name)
+IsPlayVerdict grid steps (Obstacle i name) = IsFirstPlayFault grid steps (Obstacle i name)
+IsPlayVerdict grid steps (Clash i first second) = IsFirstPlayFault grid steps (Clash i first second)
 
 -- ---- marks
 
@@ -166,6 +166,6 @@ marked steps (Obstacle i name) = i
 marked steps (Clash i first second) = i
 
 -- The verdict is the plan's, and the marks are those of the steps up to the fault.
-pub record IsPlayed (grid : GridFile) (steps : List Call) (play : Play) : Type 0 where
+pub record IsActedOut (grid : GridFile) (steps : List Call) (play : Play) : Type 0 where
   pub verdict : IsPlayVerdict grid steps play.verdict
   pub marks : play.marks ≡ marks_from grid 1 (take (marked steps play.verdict) steps)

@@ -1,6 +1,6 @@
 //! A plan acted out.
 ghost use Rattle.std.specs.Prelude.{◌≡◌, ◌^◌, ◌<◌, length, IfOk};
-ghost use Rattle.grid_play.specs.Faults.{IsPlayed};
+ghost use Rattle.grid_play.specs.Faults.{IsActedOut};
 
 use crate::scene::{Scene, play_out};
 use grid_text::Grid;
@@ -82,7 +82,7 @@ pub struct Play {
 /// `Safe` exactly where no step has a fault. Fails only where memory is wanting.
 pub fn act(alloc: Global, grid: &Grid, steps: &[Call]) -> Result<Play, AllocError>
     requires { length steps.now < 2 ^ 32 }
-    ensures { IfOk result (IsPlayed grid.now steps.now) }
+    ensures { IfOk result (IsActedOut grid.now steps.now) }
 {
     let mut scene = Scene::new(alloc, grid)?;
     match play_out(alloc, grid, steps, &mut scene) {

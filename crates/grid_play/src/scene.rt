@@ -146,7 +146,7 @@ pub(crate) fn play_out(
     requires few { length steps.now < 2 ^ 32 }
     requires world { scene.old.world.items ≡ home_world grid.now }
     requires marks { scene.old.marks.items ≡ [] }
-    ensures { IfOk result (λ verdict. specs.IsPlayed grid.now steps.now
+    ensures { IfOk result (λ verdict. specs.IsActedOut grid.now steps.now
         (record { marks = scene.new.marks.items; verdict = verdict })) }
 {
     match clash_after(alloc, grid, scene.world.as_slice(), 0)? {

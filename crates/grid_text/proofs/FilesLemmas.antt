@@ -14,7 +14,7 @@ use Rattle.gen_lines.proofs.CuttingLemmas.{parts_left}
 use Rattle.gen_lines.specs.Lines.{ended, is_feed, open_part}
 use Rattle.grid_text.specs.Entries.{Item}
 use Rattle.grid_text.specs.Files.{IsGridOf, line_fault_at}
-use Rattle.grid_text.specs.Grids.{GridFile, NamedRect, block_of, block_told, fault_in, grid_of, item_in, obstacle_told, region_of, region_told, told, told_in}
+use Rattle.grid_text.specs.Grids.{GridFile, NamedRect, block_of, block_told, fault_in, grid_of, item_in, obstacle_told, region_of, region_told, told_item, told_in}
 use Rattle.grid_text.specs.Laws.{AllHaveCells, ReadHasCells, ReadIsAscii, home_rect}
 use Rattle.grid_text.specs.Lines.{lines_in, may_stand, may_stand_in_line}
 use Rattle.grid_text.specs.Rects.{HasCells}
@@ -116,13 +116,13 @@ all_by P None f line lines e here rest = rw e rest
 all_by P (Some x) f line lines e here rest = rw e (All-cons P x (filter_map f lines) (here x refl) rest)
 
 all_told : {A : Type 0} (of : EntrySort → List ℕ → Rect → Option A) (P : A → Type 0)
-    → ((item : Option Item) (x : A) → ((i : Item) → item ≡ Some i → HasCells i.rect) → told of item ≡ Some x → P x)
+    → ((item : Option Item) (x : A) → ((i : Item) → item ≡ Some i → HasCells i.rect) → told_item of item ≡ Some x → P x)
     → (lines : List (List ℕ))
     → ((k : ℕ) (item : Item) → k < length lines → item_in (get_or lines k []) ≡ Some item → HasCells item.rect)
     → All P (told_in of lines)
 all_told of P each [] right k d h = absurd (omega arith)
 all_told of P each (line ∷ lines) right k d h =
-    all_by P (told of (item_in line)) (λ l. told of (item_in l)) line lines refl
+    all_by P (told_item of (item_in line)) (λ l. told_item of (item_in l)) line lines refl
     (λ x e. each (item_in line) x (λ i. right 0 i (omega arith)) e)
     (all_told of P each lines (λ j item g. right (suc j) item (omega arith))) k d h
 
@@ -155,7 +155,7 @@ obstacle_cells sort.Obstacle name rect x h e =
 
 told_cells : {A : Type 0} (of : EntrySort → List ℕ → Rect → Option A) (P : A → Type 0)
     → ((s : EntrySort) (name : List ℕ) (rect : Rect) (x : A) → HasCells rect → of s name rect ≡ Some x → P x)
-    → (item : Option Item) (x : A) → ((i : Item) → item ≡ Some i → HasCells i.rect) → told of item ≡ Some x → P x
+    → (item : Option Item) (x : A) → ((i : Item) → item ≡ Some i → HasCells i.rect) → told_item of item ≡ Some x → P x
 told_cells of P each None x right e = absurd (cc)
 told_cells of P each (Some item) x right e =
     each item.sort item.name item.rect x (right item refl) e

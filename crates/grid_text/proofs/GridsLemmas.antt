@@ -4,7 +4,7 @@ use Rattle.std.proofs.lemmas.List.{take_all}
 use Rattle.std.proofs.lemmas.List.Elements.{filter_map-append}
 use Rattle.grid_text.specs.Entries.{Item}
 use Rattle.grid_text.specs.Files.{BlamesGridText, IsGridOf, line_fault_at}
-use Rattle.grid_text.specs.Grids.{GridFile, NamedRect, area, nothing_read, size_told, block_told, region_told, obstacle_told, told, told_in, item_in, last_or, grid_of, grown, with_grid_item, with_line, fault_in, LineBlames}
+use Rattle.grid_text.specs.Grids.{GridFile, NamedRect, area, nothing_read, size_told, block_told, region_told, obstacle_told, told_item, told_in, item_in, last_or, grid_of, grown, with_grid_item, with_line, fault_in, LineBlames}
 use Rattle.grid_text.specs.declared.entry.EntrySort.{EntrySort}
 use Rattle.grid_text.specs.declared.entry.EntrySort.TheVariants as sort
 use Rattle.grid_text.specs.Lines.{lines_in, is_bare}
@@ -28,10 +28,10 @@ told_one None f line e = rw e refl
 told_one (Some x) f line e = rw e refl
 
 told_more : {A : Type 0} (of : EntrySort → List ℕ → Rect → Option A) (before : List (List ℕ)) (line : List ℕ)
-    → told_in of (before ++ line ∷ []) ≡ told_in of before ++ one (told of (item_in line))
+    → told_in of (before ++ line ∷ []) ≡ told_in of before ++ one (told_item of (item_in line))
 told_more of before line =
-    filter_map-append (λ l. told of (item_in l)) before (line ∷ [])
-    ∙ ap (λ xs. told_in of before ++ xs) (told_one (told of (item_in line)) (λ l. told of (item_in l)) line refl)
+    filter_map-append (λ l. told_item of (item_in l)) before (line ∷ [])
+    ∙ ap (λ xs. told_in of before ++ xs) (told_one (told_item of (item_in line)) (λ l. told_item of (item_in l)) line refl)
 
 -- what is told, with one item more
 abbrev grid_from : List Rect → List Block → List NamedRect → List Rect → GridFile
@@ -59,8 +59,8 @@ grows_by sizes blocks regions obstacles sort.Obstacle name rect =
     rw (append-nil sizes, append-nil blocks, append-nil regions) refl
 
 grows_with : (sizes : List Rect) (blocks : List Block) (regions : List NamedRect) (obstacles : List Rect) (item : Option Item) →
-    grid_from (sizes ++ one (told size_told item)) (blocks ++ one (told block_told item))
-    (regions ++ one (told region_told item)) (obstacles ++ one (told obstacle_told item))
+    grid_from (sizes ++ one (told_item size_told item)) (blocks ++ one (told_item block_told item))
+    (regions ++ one (told_item region_told item)) (obstacles ++ one (told_item obstacle_told item))
     ≡ with_grid_item (grid_from sizes blocks regions obstacles) item
 grows_with sizes blocks regions obstacles None =
     rw (append-nil sizes, append-nil blocks, append-nil regions, append-nil obstacles) refl

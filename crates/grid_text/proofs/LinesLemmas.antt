@@ -7,7 +7,7 @@ use Rattle.std.proofs.lemmas.List.Splits.{slice_split_first, length-slice_split}
 use Rattle.gen_lines.specs.Lines.{is_feed, open_part, unfinished}
 use Rattle.gen_lines.proofs.LinesLemmas.{lines_none, lines_some}
 use Rattle.lemmas.proofs.Positions.{found_at, not_found, split_whole}
-use Rattle.grid_text.specs.Lines.{lines_in, is_bare, is_passed}
+use Rattle.grid_text.specs.Lines.{lines_in, is_bare, is_passed_over}
 use Rattle.grid_text.proofs.LinesFieldLemmas.{behind}
 use Rattle.gen_lines.proofs.CuttingLemmas.{open_cons}
 
@@ -35,24 +35,24 @@ line_none bytes e =
 
 -- all lines are passed over where the first is and the others are
 pub bare_more : (bytes line rest : List ℕ) → lines_in bytes ≡ line ∷ lines_in rest
-    → is_passed line ≡ true → is_bare bytes ≡ is_bare rest
+    → is_passed_over line ≡ true → is_bare bytes ≡ is_bare rest
 unfolding is_bare
 bare_more bytes line rest e p = rw (e, p) refl
 
-pub bare_last : (bytes line : List ℕ) → lines_in bytes ≡ line ∷ [] → is_passed line ≡ true
+pub bare_last : (bytes line : List ℕ) → lines_in bytes ≡ line ∷ [] → is_passed_over line ≡ true
     → is_bare bytes ≡ true
 unfolding is_bare
 bare_last bytes line e p = rw (e, p) refl
 
 bare_no : (bytes line : List ℕ) (more : List (List ℕ)) → lines_in bytes ≡ line ∷ more
-    → is_passed line ≡ false → is_bare bytes ≡ false
+    → is_passed_over line ≡ false → is_bare bytes ≡ false
 unfolding is_bare
 bare_no bytes line more e p = rw (e, p) refl
 
 -- a first line that isn't passed over, whatever comes behind it
 pub bare_some : {B : Type 0} (o : Option B) (now : B → List ℕ) (bytes line : List ℕ)
     → MatchOption o (lines_in bytes ≡ line ∷ []) (λ r. lines_in bytes ≡ line ∷ lines_in (now r))
-    → is_passed line ≡ false → is_bare bytes ≡ false
+    → is_passed_over line ≡ false → is_bare bytes ≡ false
 bare_some None now bytes line e p = bare_no bytes line [] e p
 bare_some (Some r) now bytes line e p = bare_no bytes line (lines_in (now r)) e p
 

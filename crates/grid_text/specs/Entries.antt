@@ -9,7 +9,7 @@ use Rattle.grid_text.specs.declared.entry.EntrySort.TheVariants.{Size, Block, Re
 use Rattle.grid_text.specs.declared.rect.Rect.{Rect}
 
 -- The words of a line by what they mean. A line `grid W H` is about the rectangle of the whole grid, at 0, 0.
-pub record Entry : Type 0 where
+pub record GridEntry : Type 0 where
   pub sort : EntrySort
   pub name : List ℕ
   pub x : List ℕ
@@ -35,15 +35,15 @@ four_of (a ∷ b ∷ c ∷ d ∷ []) = Some (a, b, c, d)
 four_of (a ∷ b ∷ c ∷ d ∷ e ∷ more) = None
 
 -- `W H`
-abbrev pub size_of : List (List ℕ) → Option Entry
-size_of [] = None
-size_of (w ∷ []) = None
-size_of (w ∷ h ∷ []) =
+abbrev pub size_entry : List (List ℕ) → Option GridEntry
+size_entry [] = None
+size_entry (w ∷ []) = None
+size_entry (w ∷ h ∷ []) =
     Some (record { sort = Size; name = []; x = codes "0"; y = codes "0"; w = w; h = h })
-size_of (w ∷ h ∷ next ∷ more) = None
+size_entry (w ∷ h ∷ next ∷ more) = None
 
 -- `NAME w h x y`
-abbrev pub block_entry : List (List ℕ) → Option Entry
+abbrev pub block_entry : List (List ℕ) → Option GridEntry
 block_entry [] = None
 block_entry (name ∷ given) =
     if is_name name
@@ -51,7 +51,7 @@ block_entry (name ∷ given) =
     else None
 
 -- `NAME x y w h`
-abbrev pub region_entry : List (List ℕ) → Option Entry
+abbrev pub region_entry : List (List ℕ) → Option GridEntry
 region_entry [] = None
 region_entry (name ∷ given) =
     if is_name name
@@ -59,19 +59,19 @@ region_entry (name ∷ given) =
     else None
 
 -- `x y w h`
-abbrev pub obstacle_of : List (List ℕ) → Option Entry
+abbrev pub obstacle_of : List (List ℕ) → Option GridEntry
 obstacle_of given =
     option_map (λ f. record { sort = Obstacle; name = []; x = f.0; y = f.1; w = f.2; h = f.3 }) (four_of given)
 
-abbrev pub given_of : Option EntrySort → List (List ℕ) → Option Entry
+abbrev pub given_of : Option EntrySort → List (List ℕ) → Option GridEntry
 given_of None given = None
-given_of (Some Size) given = size_of given
+given_of (Some Size) given = size_entry given
 given_of (Some Block) given = block_entry given
 given_of (Some Region) given = region_entry given
 given_of (Some Obstacle) given = obstacle_of given
 
 -- what the fields of a line say, if its words, its name and their number are right
-abbrev pub entry_of : List (List ℕ) → Option Entry
+abbrev pub entry_of : List (List ℕ) → Option GridEntry
 entry_of [] = None
 entry_of (word ∷ given) = given_of (entry_sort word) given
 
@@ -84,13 +84,13 @@ most_extent Block = 9999
 most_extent Region = 9999
 most_extent Obstacle = 9999
 
-unfoldable pub has_numbers : Entry → Bool
+unfoldable pub has_numbers : GridEntry → Bool
 has_numbers entry =
     is_short_number entry.x && is_short_number entry.y
     && is_extent (most_extent entry.sort) entry.w && is_extent (most_extent entry.sort) entry.h
 
 -- the rectangle that the numbers write
-abbrev pub rect_of : Entry → Rect
+abbrev pub rect_of : GridEntry → Rect
 rect_of entry = record {
   x = digits_value 10 entry.x;
   y = digits_value 10 entry.y;
@@ -104,5 +104,5 @@ pub record Item : Type 0 where
   pub name : List ℕ
   pub rect : Rect
 
-abbrev pub grid_item : Entry → Item
+abbrev pub grid_item : GridEntry → Item
 grid_item entry = record { sort = entry.sort; name = entry.name; rect = rect_of entry }

@@ -3,8 +3,8 @@ use Rattle.std.specs.Prelude.{◌≡◌, ℕ, Bool, true, false, not, ◌==◌, 
 use Rattle.std.specs.List.{list_any}
 use Rattle.std.specs.Str.{bytes_eq}
 use Rattle.gen_lines.specs.Reply.{fields}
-use Rattle.grid_text.specs.Entries.{Entry, Item, entry_of, has_numbers, grid_item, rect_of}
-use Rattle.grid_text.specs.Lines.{is_passed, may_stand_in_line}
+use Rattle.grid_text.specs.Entries.{GridEntry, Item, entry_of, has_numbers, grid_item, rect_of}
+use Rattle.grid_text.specs.Lines.{is_passed_over, may_stand_in_line}
 use Rattle.grid_text.specs.Rects.{is_within}
 use Rattle.grid_text.specs.declared.entry.EntrySort.{EntrySort}
 use Rattle.grid_text.specs.declared.entry.EntrySort.TheVariants as sort
@@ -45,7 +45,7 @@ region_of name rect = record { name = name; rect = rect }
 
 -- what a line says, which is nothing where it is passed over
 abbrev pub item_in : List ℕ → Option Item
-item_in line = if is_passed line then None else option_map grid_item (entry_of (fields line))
+item_in line = if is_passed_over line then None else option_map grid_item (entry_of (fields line))
 
 -- the size, the block, the region or the obstacle that a line tells, if it is of that sort
 abbrev pub size_told : EntrySort → List ℕ → Rect → Option Rect
@@ -73,12 +73,12 @@ obstacle_told sort.Region name rect = None
 obstacle_told sort.Obstacle name rect = Some rect
 
 -- what a line tells of a sort
-abbrev pub told : {A : Type 0} → (EntrySort → List ℕ → Rect → Option A) → Option Item → Option A
-told of None = None
-told of (Some item) = of item.sort item.name item.rect
+abbrev pub told_item : {A : Type 0} → (EntrySort → List ℕ → Rect → Option A) → Option Item → Option A
+told_item of None = None
+told_item of (Some item) = of item.sort item.name item.rect
 
 abbrev pub told_in : {A : Type 0} → (EntrySort → List ℕ → Rect → Option A) → List (List ℕ) → List A
-told_in of lines = filter_map (λ line. told of (item_in line)) lines
+told_in of lines = filter_map (λ line. told_item of (item_in line)) lines
 
 -- the last member, or this where there is none
 abbrev pub last_or : {A : Type 0} → A → List A → A
@@ -141,7 +141,7 @@ is_full grid sort.Region = nat_le 100 (length grid.regions)
 is_full grid sort.Obstacle = nat_le 1000 (length grid.obstacles)
 
 -- the first fault of a line whose words are right
-unfoldable pub entry_fault : GridFile → Entry → Option GridKind
+unfoldable pub entry_fault : GridFile → GridEntry → Option GridKind
 entry_fault grid entry =
     if not (is_sort_due grid entry.sort) then Some Form else
     if not (has_numbers entry) then Some Number else
@@ -149,7 +149,7 @@ entry_fault grid entry =
     if is_name_taken grid entry.sort entry.name then Some Duplicate else
     if is_full grid entry.sort then Some TooMany else None
 
-abbrev pub found_fault : GridFile → Option Entry → Option GridKind
+abbrev pub found_fault : GridFile → Option GridEntry → Option GridKind
 found_fault grid None = Some Form
 found_fault grid (Some entry) = entry_fault grid entry
 
@@ -157,7 +157,7 @@ found_fault grid (Some entry) = entry_fault grid entry
 abbrev pub fault_in : GridFile → List ℕ → Option GridKind
 fault_in grid line =
     if not (may_stand_in_line line) then Some Form else
-    if is_passed line then None else found_fault grid (entry_of (fields line))
+    if is_passed_over line then None else found_fault grid (entry_of (fields line))
 
 -- the fault has the line's number and its first kind
 abbrev pub LineBlames : GridFile → List ℕ → ℕ → GridFault → Type 0

@@ -16,10 +16,10 @@ abbrev pub may_stand_in_line : List ℕ → Bool
 may_stand_in_line line = list_all may_stand line
 
 -- empty, or beginning with ;
-abbrev pub is_passed : List ℕ → Bool
-is_passed [] = true
-is_passed (b ∷ bs) = b == 59
+abbrev pub is_passed_over : List ℕ → Bool
+is_passed_over [] = true
+is_passed_over (b ∷ bs) = b == 59
 
 -- all lines are passed over
 unfoldable pub is_bare : List ℕ → Bool
-is_bare bytes = list_all is_passed (lines_in bytes)
+is_bare bytes = list_all is_passed_over (lines_in bytes)

@@ -35,9 +35,9 @@ pub(crate) struct Entry<'a> {
 }
 
 impl<'a> Model for Entry<'a> {
-    ghost use Rattle.grid_text.specs.Entries.{Entry};
+    ghost use Rattle.grid_text.specs.Entries.{GridEntry};
 
-    ghost Value = { Entry };
+    ghost Value = { GridEntry };
 
     ghost view = { λ e. record {
       sort = e.sort;
@@ -92,7 +92,7 @@ fn sort_of(word: &[u8]) -> Option<EntrySort>
 
 /// `W H`
 fn size_of(given: &[u8]) -> Option<Entry<'_>>
-    ensures { result ≡ specs.size_of (fields given.now) }
+    ensures { result ≡ specs.size_entry (fields given.now) }
 {
     let (w, rest) = first_field(given)?;
     let (h, rest) = first_field(rest)?;

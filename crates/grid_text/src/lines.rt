@@ -2,7 +2,7 @@
 ghost use Rattle.std.specs.Prelude.{◌≡◌, ◌<◌, [], ◌∷◌, IfSome, MatchOption, length, position};
 ghost use Rattle.std.specs.Io.BufRead.{strip_last};
 ghost use Rattle.gen_lines.specs.Lines.{is_feed};
-ghost use Rattle.grid_text.specs.Lines.{lines_in, is_bare, is_passed, may_stand, may_stand_in_line};
+ghost use Rattle.grid_text.specs.Lines.{lines_in, is_bare, is_passed_over, may_stand, may_stand_in_line};
 
 /// The first line of these bytes, and what stands behind its line feed if it has one.
 pub(crate) fn first_line(bytes: &[u8]) -> (&[u8], Option<&[u8]>)
@@ -36,7 +36,7 @@ pub fn without_return(bytes: &[u8]) -> &[u8]
 
 /// Whether the line is passed over: it is empty, or it begins with `;`.
 pub(crate) fn is_passed(line: &[u8]) -> bool
-    ensures { result ≡ is_passed line.now }
+    ensures { result ≡ is_passed_over line.now }
 {
     match line {
         [] => true,

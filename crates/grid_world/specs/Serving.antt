@@ -2,7 +2,7 @@
 use Rattle.std.specs.Prelude.{◌≡◌, ℕ, ◌<◌, ◌≤◌, ◌⊎◌, List, [], ◌∷◌, ◌++◌, All, length, take, Result, Ok, Err, Option, Some, IfSome}
 use Rattle.std.specs.Io.KnownBytes.{Appends, Consumes, IsAtEnd}
 use Rattle.io_world.specs.Faults.{last_count, Extends, Rose}
-use Rattle.io_world.specs.FileMap.{Asked, FileMap, HasMore}
+use Rattle.io_world.specs.FileMap.{AskedPath, FileMap, HasMore}
 use Rattle.io_world.specs.declared.files.FileFault.{FileFault}
 use Rattle.io_world.specs.declared.files.FileFault.TheVariants as fault
 use Rattle.gen_lines.specs.Lines.{lines_of, unfinished}
@@ -69,8 +69,8 @@ pub record HasFaults (source_old source_new sink_old sink_new : ℕ) (status : G
 -- and the sink, the bytes that the source had left, and those that the sink took.
 pub record ServedOutside : Type 0 where
   pub told : Option FileMap
-  pub asked_old : Option (List Asked)
-  pub asked_new : Option (List Asked)
+  pub asked_old : Option (List AskedPath)
+  pub asked_new : Option (List AskedPath)
   pub files_old : ℕ
   pub files_new : ℕ
   pub source_old : ℕ

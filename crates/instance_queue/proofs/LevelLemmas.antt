@@ -13,12 +13,12 @@ use Rattle.task_model.specs.declared.stream.Stream.{Stream}
 use Rattle.task_model.specs.declared.task.Task.{Task}
 use Rattle.instance_queue.specs.Asks.{dues_of_instances, due_of}
 use Rattle.instance_queue.specs.Faults.{fault_of}
-use Rattle.instance_queue.specs.Level.{instances_of, AreDueInTurn, ComesOf}
+use Rattle.instance_queue.specs.Level.{due_instances, AreDueInTurn, HasLevelCause}
 use Rattle.instance_queue.specs.declared.due.Due.{Due}
 use Rattle.instance_search.proofs.InstanceOrderLemmas.{reachable_in}
 use Rattle.instance_search.specs.Found.{IsFound, AreFound}
 
-asked : (notes : List Note) (xs : List Instance) → instances_of (dues_of_instances notes xs) ≡ xs
+asked : (notes : List Note) (xs : List Instance) → due_instances (dues_of_instances notes xs) ≡ xs
 asked notes [] = refl
 asked notes (x ∷ xs) = ap (λ ys. x ∷ ys) (asked notes xs)
 
@@ -58,7 +58,7 @@ module _ (task : Task) (known : Known) (notes : List Note) where
   pub level_is : (xs : List Instance) (ys : List Due) → AreFound task known seeks xs
       → length xs ≤ 1000000 → ys ≡ dues_of_instances notes xs → AreDueInTurn task known notes ys
   level_is xs ys f few is =
-      let same : instances_of ys ≡ xs = ap instances_of is ∙ asked notes xs in
+      let same : due_instances ys ≡ xs = ap due_instances is ∙ asked notes xs in
       let long : length ys ≡ length xs = ap length is ∙ length-map xs (due_of notes) in
       record {
         due = subst (AreDue task known notes) (sym same) (found_due xs f);
@@ -67,7 +67,7 @@ module _ (task : Task) (known : Known) (notes : List Note) where
       }
 
   pub level_fault : (f : JoinFault) → Lacks 1000000 (IsFound task known seeks) [] f
-      → ComesOf task known notes (fault_of f)
+      → HasLevelCause task known notes (fault_of f)
   level_fault join.TooMany (more, distinct, each, many) =
       (more, omega (arith, many), distinct, λ i m. found_is_due i (each i m))
   level_fault join.Memory h = tt

@@ -12,7 +12,7 @@ use Rattle.instance_search.proofs.InstanceOrderLemmas.{instance_decided}
 use Rattle.task_model.proofs.StreamsLemmas.{instances_same, instance_itself}
 use Rattle.task_model.specs.Streams.{Note, Yielded, Ended, same_instance, is_yield_of, is_end_of, yields_of}
 use Rattle.task_model.specs.declared.stream.Instance.{Instance}
-use Rattle.instance_queue.specs.Notes.{tally_of, tally_in, note_of, notes_in, AreTallied}
+use Rattle.instance_queue.specs.Notes.{tally_of, tally_in, note_held, notes_in, AreTallied}
 use Rattle.instance_queue.specs.declared.queue.Noted.{Noted}
 use Rattle.instance_queue.specs.declared.queue.Tally.{Tally}
 
@@ -128,21 +128,21 @@ yielded_some notes i = some_counted (is_yield_of i) notes
 
 -- ---- the notes that are kept
 
-pub about_noted : (noted : Noted) → about (note_of noted) ≡ noted.instance
-about_noted noted = elim noted.ended as (λ b. about (note_of (record { instance = noted.instance; ended = b })) ≡ noted.instance) [
+pub about_noted : (noted : Noted) → about (note_held noted) ≡ noted.instance
+about_noted noted = elim noted.ended as (λ b. about (note_held (record { instance = noted.instance; ended = b })) ≡ noted.instance) [
   | true ↦ refl
   | false ↦ refl
 ]
 
 pub noted_more : {S : Type 0} (old new : IndexMap Instance Tally S) (were are : List Noted) (noted : Noted) (key : Instance) (tally : Tally)
     (notes : List Note)
-    → AreTallied old (notes_in were) → notes_in were ≡ notes → tally ≡ tally_of (notes ++ note_of noted ∷ []) noted.instance
+    → AreTallied old (notes_in were) → notes_in were ≡ notes → tally ≡ tally_of (notes ++ note_held noted ∷ []) noted.instance
     → are ≡ were ++ noted ∷ [] → key ≡ noted.instance
     → ((q : Instance) → get same_instance new q ≡ cond (same_instance key q) (Some tally) (get same_instance old q))
     → AreTallied new (notes_in are)
 noted_more old new were are noted key tally notes was view now more is found =
-    let same : key ≡ about (note_of noted) = is ∙ sym (about_noted noted) in
-    subst (AreTallied new) (sym (ap notes_in more ∙ map_push note_of were noted))
-    (tallied_more old new (notes_in were) (note_of noted) tally was
-    (now ∙ (λ k. tally_of (sym view k ++ note_of noted ∷ []) (sym (about_noted noted) k)))
+    let same : key ≡ about (note_held noted) = is ∙ sym (about_noted noted) in
+    subst (AreTallied new) (sym (ap notes_in more ∙ map_push note_held were noted))
+    (tallied_more old new (notes_in were) (note_held noted) tally was
+    (now ∙ (λ k. tally_of (sym view k ++ note_held noted ∷ []) (sym (about_noted noted) k)))
     (λ q. found q ∙ ap (λ k. cond (same_instance k q) (Some tally) (get same_instance old q)) same))

@@ -9,16 +9,16 @@ use Rattle.instance_queue.specs.declared.due.Due.{Due}
 use Rattle.instance_queue.specs.declared.due.QueueFault.{QueueFault}
 use Rattle.instance_queue.specs.declared.due.QueueFault.TheVariants.{TooManyInstances, Memory}
 
-abbrev pub instances_of : List Due → List Instance
-instances_of = map (λ (d : Due). d.instance)
+abbrev pub due_instances : List Due → List Instance
+due_instances = map (λ (d : Due). d.instance)
 
 -- All asks that are due, in their order, each with the number of tuples that its instance has given.
 pub record AreDueInTurn (task : Task) (known : Known) (notes : List Note) (dues : List Due) : Type 0 where
-  pub due : AreDue task known notes (instances_of dues)
+  pub due : AreDue task known notes (due_instances dues)
   pub turns : All (λ (d : Due). d.turn ≡ yields_of notes d.instance) dues
   pub few : length dues ≤ MOST_DUE
 
 -- what is true where there is no list
-abbrev pub ComesOf : Task → Known → List Note → QueueFault → Type 0
-ComesOf task known notes TooManyInstances = MoreAreDue MOST_DUE task known notes
-ComesOf task known notes Memory = Unit {0}
+abbrev pub HasLevelCause : Task → Known → List Note → QueueFault → Type 0
+HasLevelCause task known notes TooManyInstances = MoreAreDue MOST_DUE task known notes
+HasLevelCause task known notes Memory = Unit {0}

@@ -7,15 +7,15 @@ use Rattle.task_model.specs.declared.stream.Instance.{Instance}
 use Rattle.instance_queue.specs.declared.queue.Noted.{Noted}
 use Rattle.instance_queue.specs.declared.queue.Tally.{Tally}
 
-abbrev pub note_of : Noted → Note
-note_of noted = of noted.ended
+abbrev pub note_held : Noted → Note
+note_held noted = of noted.ended
   where
     of : Bool → Note
     of true = Ended noted.instance
     of false = Yielded noted.instance
 
 abbrev pub notes_in : List Noted → List Note
-notes_in = map note_of
+notes_in = map note_held
 
 -- how many tuples the instance gave, and whether it ended
 abbrev pub tally_of : List Note → Instance → Tally

@@ -2,7 +2,7 @@
 ghost use Rattle.std.specs.Prelude.{◌≡◌, IfOk, IfErr};
 ghost use Rattle.task_model.specs.Fit.{IsFit};
 ghost use Rattle.instance_queue.specs.Asks as asks;
-ghost use Rattle.instance_queue.specs.Level.{AreDueInTurn, ComesOf};
+ghost use Rattle.instance_queue.specs.Level.{AreDueInTurn, HasLevelCause};
 
 use crate::due::{Due, QueueFault};
 use crate::queue::Queue;
@@ -47,7 +47,7 @@ pub(crate) fn level(
 ) -> Result<Vec<Due>, QueueFault>
     requires { IsFit task.now }
     ensures due { IfOk result (λ dues. AreDueInTurn task.now facts.now.known queue.now dues.items) }
-    ensures fault { IfErr result (ComesOf task.now facts.now.known queue.now) }
+    ensures fault { IfErr result (HasLevelCause task.now facts.now.known queue.now) }
 {
     let names = Names::new(facts.names(), &[]);
     let instances = found_instances(alloc, task, facts, &names, queue, MOST_DUE)?;

@@ -61,8 +61,8 @@ impl Queue {
     ghost use Rattle.std.specs.Prelude.{◌<◌, ◌++◌, ◌∷◌, [], IfOk, IfErr, OnOk, OnErr, false};
     ghost use Rattle.task_model.specs.Fit.{IsFit};
     ghost use Rattle.task_model.specs.Streams.{Note, Yielded, Ended, yields_of, is_finished, at_stream, is_due as due, is_reachable as reaches};
-    ghost use Rattle.instance_queue.specs.Notes.{tally_of, note_of};
-    ghost use Rattle.instance_queue.specs.Level.{AreDueInTurn, ComesOf};
+    ghost use Rattle.instance_queue.specs.Notes.{tally_of, note_held};
+    ghost use Rattle.instance_queue.specs.Level.{AreDueInTurn, HasLevelCause};
 
     /// The queue in which nothing is noted, with room for an instance of each stream. Fails only
     /// where memory is wanting.
@@ -92,8 +92,8 @@ impl Queue {
 
     /// Puts a note behind the others, after which the instance has this tally.
     fn note(&mut self, noted: Noted, tally: Tally) -> Result<(), AllocError>
-        requires { tally ≡ tally_of (self.old ++ note_of noted ∷ []) noted.instance }
-        ensures ok { OnOk result (self.new ≡ self.old ++ note_of noted ∷ []) }
+        requires { tally ≡ tally_of (self.old ++ note_held noted ∷ []) noted.instance }
+        ensures ok { OnOk result (self.new ≡ self.old ++ note_held noted ∷ []) }
         ensures err { OnErr result (self.new ≡ self.old) }
     {
         let key = noted.instance.copy()?;
@@ -208,7 +208,7 @@ impl Queue {
         requires { IsFit task.now }
         ensures due { IfOk result (λ dues. AreDueInTurn task.now facts.now.known self.now
             dues.items) }
-        ensures fault { IfErr result (ComesOf task.now facts.now.known self.now) }
+        ensures fault { IfErr result (HasLevelCause task.now facts.now.known self.now) }
     {
         level(self.alloc, self, task, facts)
     }

@@ -15,12 +15,12 @@ use Rattle.task_model.specs.declared.domain.Pattern.{Pattern}
 use Rattle.task_model.specs.declared.stream.Stream.{Stream}
 use Rattle.task_model.specs.declared.task.Task.{Task}
 use Rattle.fact_join.specs.Answers.{is_pattern_of}
-use Rattle.instance_search.specs.Readable.{is_readable_pattern, IsReadableStream}
+use Rattle.instance_search.specs.Readable.{is_bounded_pattern, IsReadableStream}
 use borrow.Author.Tests.{leb-true}
 
 readable_patterns : (domain : Domain) → IsFitDomain domain → (objects n : ℕ) → n ≤ 16
     → (ps : List Pattern)
-    → list_all (is_fit_pattern domain objects (numbers_from 0 n)) ps ≡ true → list_all is_readable_pattern ps ≡ true
+    → list_all (is_fit_pattern domain objects (numbers_from 0 n)) ps ≡ true → list_all is_bounded_pattern ps ≡ true
 readable_patterns domain fit objects n few [] all = refl
 readable_patterns domain fit objects n few (p ∷ ps) all =
     let one = first_so (is_fit_pattern domain objects (numbers_from 0 n) p) (list_all (is_fit_pattern domain objects (numbers_from 0 n)) ps)
@@ -89,7 +89,7 @@ module _ (domain : Domain) (s : Stream) (fit : is_fit_stream domain s ≡ true) 
       let e = is_short s.domain && list_all is_fit_atom s.domain in
       second_so (is_short s.domain) (list_all is_fit_atom s.domain) (second_so d e up_to_domain)
 
-  pub readable_domain : IsFitDomain domain → list_all is_readable_pattern s.domain ≡ true
+  pub readable_domain : IsFitDomain domain → list_all is_bounded_pattern s.domain ≡ true
   readable_domain fit_domain =
       let few : length s.inputs ≤ 16 = omega (arith, narrow_inputs) in
       readable_patterns domain fit_domain (length domain.constants) (length s.inputs) few s.domain fit_atoms

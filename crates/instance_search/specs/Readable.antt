@@ -7,10 +7,10 @@ use Rattle.task_model.specs.declared.domain.Pattern.{Pattern}
 use Rattle.task_model.specs.declared.stream.Stream.{Stream}
 
 -- at most eight terms, whose slots are below sixteen
-abbrev pub is_readable_pattern : Pattern → Bool
-is_readable_pattern p = nat_le (length p.args) 8 && list_all is_readable_term p.args
+abbrev pub is_bounded_pattern : Pattern → Bool
+is_bounded_pattern p = nat_le (length p.args) 8 && list_all is_readable_term p.args
 
 pub record IsReadableStream (stream : Stream) : Type 0 where
   pub narrow : length stream.inputs ≤ 8
-  pub patterns : list_all is_readable_pattern stream.domain ≡ true
+  pub patterns : list_all is_bounded_pattern stream.domain ≡ true
   pub slots : list_all (is_pattern_of (length stream.inputs)) stream.domain ≡ true

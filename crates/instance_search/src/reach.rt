@@ -3,7 +3,7 @@ ghost use Rattle.std.specs.Prelude.{◌≡◌, true, option_copied, slice_get};
 ghost use Rattle.std.specs.List.{list_all};
 ghost use Rattle.task_model.specs.Known.{is_fact};
 ghost use Rattle.task_model.specs.Streams.{fact_of as fact_at, is_reachable as reaches};
-ghost use Rattle.instance_search.specs.Readable.{is_readable_pattern, IsReadableStream};
+ghost use Rattle.instance_search.specs.Readable.{is_bounded_pattern, IsReadableStream};
 
 use formula_eval::{Env, have_types, objects_at};
 use std::alloc::Global;
@@ -18,7 +18,7 @@ pub fn stream_of(task: &Task, place: u32) -> Option<&Stream>
 
 /// The pattern's atom, as a fact, where the slots have these objects.
 fn fact_of(alloc: Global, pattern: &Pattern, env: &Env) -> Fact
-    requires { is_readable_pattern pattern.now ≡ true }
+    requires { is_bounded_pattern pattern.now ≡ true }
     ensures { result ≡ fact_at env.now pattern.now }
 {
     Fact {
@@ -30,7 +30,7 @@ fn fact_of(alloc: Global, pattern: &Pattern, env: &Env) -> Fact
 
 /// Whether all of these atoms are known, where the slots have these objects.
 fn are_known<L: Look>(alloc: Global, look: &L, patterns: &[Pattern], env: &Env) -> bool
-    requires { list_all is_readable_pattern patterns.now ≡ true }
+    requires { list_all is_bounded_pattern patterns.now ≡ true }
     ensures { result ≡ list_all (λ p. is_fact (L.known look.now).facts (fact_at env.now p))
         patterns.now }
 {

@@ -9,7 +9,7 @@ abbrev pub FileMap : Type 0
 FileMap = List ℕ → Option (List ℕ)
 
 -- the path of a call, with Ok or its fault
-pub record Asked : Type 0 where
+pub record AskedPath : Type 0 where
   pub path : List ℕ
   pub answer : Result (Unit {0}) FileFault
 
@@ -18,7 +18,7 @@ abbrev pub outcome_of : {T E : Type 0} → Result T E → Result (Unit {0}) E
 outcome_of (Ok x) = Ok tt
 outcome_of (Err e) = Err e
 
-abbrev pub answered : {T : Type 0} → List ℕ → Result T FileFault → Asked
+abbrev pub answered : {T : Type 0} → List ℕ → Result T FileFault → AskedPath
 answered path result = record { path = path; answer = outcome_of result }
 
 -- there are more than so many bytes

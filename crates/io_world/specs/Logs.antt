@@ -1,6 +1,6 @@
 -- A log of calls that may have lost some.
 use Rattle.std.specs.Prelude.{◌≡◌, ℕ, Bool, true, false, refl, List, [], ◌∷◌, ◌++◌, Option, Some, None, if◌then◌else◌}
-use Rattle.io_world.specs.Talks.{Event, Talk, said_after, spelled, silence, Spells}
+use Rattle.io_world.specs.Talks.{Event, Talk, said_after, spelled, silence, SpellsTalk}
 
 -- the calls that were done, whether they are all calls, and for how many stops room is kept
 pub record Calls : Type 0 where
@@ -31,7 +31,7 @@ abbrev pub Loses : Calls → Calls → Type 0
 Loses old new = new ≡ record old { whole = false }
 
 -- all calls that were kept spell what was said
-pub calls_spell : (calls : Calls) (child : ℕ) → Spells (told_of calls) child (said_of calls child)
+pub calls_spell : (calls : Calls) (child : ℕ) → SpellsTalk (told_of calls) child (said_of calls child)
 calls_spell calls child =
-    elim (calls.whole) as (λ whole. Spells (if whole then Some calls.events else None) child (said_of calls child))
+    elim (calls.whole) as (λ whole. SpellsTalk (if whole then Some calls.events else None) child (said_of calls child))
     [ true ↦ refl | false ↦ tt ]

@@ -1,7 +1,7 @@
 -- What files in memory are seen as.
 use Rattle.std.specs.Prelude.{◌≡◌, ◌≤◌, ℕ, Bool, true, false, List, length, Option, Some, Result, MatchResult, Vec, ⊤}
 use Rattle.std.specs.declared.alloc.Global.{Global}
-use Rattle.io_world.specs.FileMap.{StoredFile, Asked, HasMore}
+use Rattle.io_world.specs.FileMap.{StoredFile, AskedPath, HasMore}
 use Rattle.io_world.specs.Plans.{Plan}
 use Rattle.io_world.specs.declared.files.FileFault.{FileFault}
 use Rattle.io_world.specs.declared.files.FileFault.TheVariants.{Failed, TooLong, Memory}
@@ -10,7 +10,7 @@ pub record MemFilesState : Type 0 where
   pub files : List StoredFile
   pub plan : Plan
   pub faults : ℕ
-  pub asked : Option (List Asked)
+  pub asked : Option (List AskedPath)
 
 -- when each fault comes, want of memory apart
 abbrev pub BlamesRead : Bool → Option (List ℕ) → ℕ → FileFault → Type 0

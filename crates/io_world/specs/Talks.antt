@@ -49,17 +49,17 @@ spelled child talk [] = talk
 spelled child talk (event ∷ events) = spelled child (said_after child talk event) events
 
 -- a log that is told tells what was said
-abbrev pub Spells : Option (List Event) → ℕ → Option Talk → Type 0
-Spells None child talk = ⊤
-Spells (Some events) child talk = talk ≡ Some (spelled child silence events)
+abbrev pub SpellsTalk : Option (List Event) → ℕ → Option Talk → Type 0
+SpellsTalk None child talk = ⊤
+SpellsTalk (Some events) child talk = talk ≡ Some (spelled child silence events)
 
 -- a log that is told after was told before, and has these events more
-abbrev pub Grows : Option (List Event) → Option (List Event) → List Event → Type 0
-Grows = Extends
+abbrev pub LogGrows : Option (List Event) → Option (List Event) → List Event → Type 0
+LogGrows = Extends
 
 -- the same with one event
 abbrev pub Logs : Option (List Event) → Option (List Event) → Event → Type 0
-Logs old new event = Grows old new (event ∷ [])
+Logs old new event = LogGrows old new (event ∷ [])
 
 -- the same at each child
 abbrev pub Same : {A : Type 0} → (ℕ → A) → (ℕ → A) → Type 0
@@ -106,14 +106,14 @@ pub record Takes (child : ℕ) (bytes : List ℕ) (events : List Event) : Type 0
 -- the log grew by writes to a child that took these bytes
 abbrev pub LogsTaken : ℕ → List ℕ → Option (List Event) → Option (List Event) → Type 0
 LogsTaken child bytes old new =
-    (events : List Event) × Takes child bytes events × Grows old new events
+    (events : List Event) × Takes child bytes events × LogGrows old new events
 
 -- the log grew by writes to a child that took the first of these bytes, and by one that answered this fault
 abbrev pub LogsTakenPart : ℕ → List ℕ → HostFault → Option (List Event) → Option (List Event)
     → Type 0
 LogsTakenPart child bytes fault old new =
     (events : List Event) × (n : ℕ) × Takes child (take n bytes) events
-    × Grows old new (events ++ wrote child (drop n bytes) (Err fault) ∷ [])
+    × LogGrows old new (events ++ wrote child (drop n bytes) (Err fault) ∷ [])
 
 -- reads of a child that gave these bytes in all, each at a moment at which no line feed was held yet
 pub record Gives (child : ℕ) (held bytes : List ℕ) (events : List Event) : Type 0 where
@@ -125,14 +125,14 @@ pub record Gives (child : ℕ) (held bytes : List ℕ) (events : List Event) : T
 -- the log grew by reads of a child that gave these bytes
 abbrev pub LogsGiven : ℕ → List ℕ → List ℕ → Option (List Event) → Option (List Event) → Type 0
 LogsGiven child held bytes old new =
-    (events : List Event) × Gives child held bytes events × Grows old new events
+    (events : List Event) × Gives child held bytes events × LogGrows old new events
 
 -- the log grew by reads of a child, none of which gave a line feed, and by one that answered this fault
 abbrev pub LogsGivenPart : ℕ → List ℕ → HostFault → Option (List Event) → Option (List Event)
     → Type 0
 LogsGivenPart child held fault old new =
     (events : List Event) × (bytes : List ℕ) × (room : ℕ) × Gives child held bytes events × IsLine (held ++ bytes)
-    × Grows old new (events ++ heard child room (Err fault) ∷ [])
+    × LogGrows old new (events ++ heard child room (Err fault) ∷ [])
 
 -- Hearing keeps the bytes of a room that were held before, and answers how many are held then: with a line feed among
 -- them, or all that there is room for.

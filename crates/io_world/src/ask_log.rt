@@ -1,6 +1,6 @@
 // The calls on files, with their answers.
 ghost use Rattle.std.specs.Prelude.{◌≡◌, ◌++◌, ◌∷◌, [], List, Option, Some, None, string_bytes, option_map, if◌then◌else◌, OnOk, OnErr};
-ghost use Rattle.io_world.specs.FileMap.{Asked};
+ghost use Rattle.io_world.specs.FileMap.{AskedPath};
 
 use crate::files::FileFault;
 use std::alloc::{AllocError, Global};
@@ -14,7 +14,7 @@ struct Ask {
 }
 
 impl Model for Ask {
-    ghost Value = { Asked };
+    ghost Value = { AskedPath };
 
     ghost view = { λ s. record { path = string_bytes s.path; answer = s.answer } };
 }
@@ -27,7 +27,7 @@ pub struct AskLog {
 }
 
 impl Model for AskLog {
-    ghost Value = { Option (List Asked) };
+    ghost Value = { Option (List AskedPath) };
 
     ghost view = { λ s. (if s.whole then Some s.asks.items else None) };
 }

@@ -1,7 +1,7 @@
 // Files by path.
 ghost use Rattle.std.specs.Prelude.{◌≡◌, ◌<◌, ◌≤◌, [], ◌∷◌, ℕ, List, Option, length, IfOk};
 ghost use Rattle.io_world.specs.Faults.{last_count, HasCause, Extends};
-ghost use Rattle.io_world.specs.FileMap.{FileMap, Asked, answered, ReadsFile};
+ghost use Rattle.io_world.specs.FileMap.{FileMap, AskedPath, answered, ReadsFile};
 ghost use Rattle.io_world.specs.declared.files.FileFault.TheVariants.{Failed};
 
 /// Why a file was not read.
@@ -27,7 +27,7 @@ pub trait Files {
     ghost told: { Self → Option FileMap };
 
     /// The paths of all calls so far with their answers, where they are told.
-    ghost asked: { Self → Option (List Asked) };
+    ghost asked: { Self → Option (List AskedPath) };
 
     /// All bytes of the file at this path, if they are at most `most`. Where the files are told, Ok
     /// gives the told bytes.

@@ -2,7 +2,7 @@
 ghost use Rattle.std.specs.Prelude.{◌≡◌, ◌<◌, ◌≤◌, ℕ, Bool, true, false, List, Option, length, take, map, string_bytes, IfOk, MatchResult};
 ghost use Rattle.io_world.specs.Faults.{last_count, HasCause};
 ghost use Rattle.io_world.specs.Leads.{wants_memory};
-ghost use Rattle.io_world.specs.Talks.{Talk, Event, started, wrote, heard, stopped, given, Logs, Spells, Same, Becomes, Empties, Writes, Hears};
+ghost use Rattle.io_world.specs.Talks.{Talk, Event, started, wrote, heard, stopped, given, Logs, SpellsTalk, Same, Becomes, Empties, Writes, Hears};
 ghost use Rattle.io_world.specs.declared.host.HostFault.TheVariants.{Failed};
 
 /// How many children a host has: their numbers are those below it.
@@ -124,7 +124,7 @@ pub trait Host {
 
     /// A log that is told says what was said with each child that runs.
     ghost spells: { (host : Self) (child : ℕ) → running host child ≡ true
-        → Spells (log host) child (spoken host child) };
+        → SpellsTalk (log host) child (spoken host child) };
 
     /// A count stands at its last value only after very many faults.
     ghost high: { last_count ≤ last };

@@ -14,7 +14,7 @@ use Rattle.legal_report.proofs.OneFaultLemmas.{fault_once}
 use Rattle.legal_report.specs.Laws.{LegalReportsAreNotRefused, ReportsAreRefusedOnce, TextsHaveOneTranscript}
 use Rattle.legal_report.specs.Lines.{line_of}
 use Rattle.legal_report.specs.Reports.{HasTranscript, IsFlawedAt, IsOfReport, RefusesReport, SpellsTranscript}
-use Rattle.legal_report.specs.Transcripts.{IsSound, IsWrong, IsWrongAsk, StopsAt}
+use Rattle.legal_report.specs.Transcripts.{IsSoundTranscript, IsWrongEntry, IsWrongAsk, FailsAtEntry}
 use Rattle.legal_report.specs.declared.flaw.ReportFlaw.{ReportFlaw}
 use Rattle.legal_report.specs.declared.flaw.ReportFlaw.TheVariants.{Text, Ask, Answer}
 
@@ -22,8 +22,8 @@ use Rattle.legal_report.specs.declared.flaw.ReportFlaw.TheVariants.{Text, Ask, A
 
 module _ (version : ℕ) (task : Task) (entries : List Entry) where
   -- an entry of a legal front isn't wrong
-  front_right : (place k : ℕ) → place < k → IsSound version task (take k entries) → (e : Entry)
-      → slice_get entries place ≡ Some e → (flaw : ReportFlaw) → IsWrong version task (take place entries) e flaw → ⊥
+  front_right : (place k : ℕ) → place < k → IsSoundTranscript version task (take k entries) → (e : Entry)
+      → slice_get entries place ≡ Some e → (flaw : ReportFlaw) → IsWrongEntry version task (take place entries) e flaw → ⊥
   front_right place k lt sound e at flaw wrong = by flaw wrong
     where
       may : MayFollow version task (take place entries) e
@@ -47,16 +47,16 @@ module _ (version : ℕ) (task : Task) (entries : List Entry) where
       by_ask (entry.Pick number) there right bad = bad
       by_ask (entry.Retire number) there right bad = bad
 
-      by : (why : ReportFlaw) → IsWrong version task (take place entries) e why → ⊥
+      by : (why : ReportFlaw) → IsWrongEntry version task (take place entries) e why → ⊥
       by Ask bad = by_ask e at may bad
       by Answer bad = bad.1 may
       by Text bad = bad
 
   -- a legal transcript stops nowhere
-  sound_stops : IsSound version task entries → (place : ℕ) (flaw : ReportFlaw) → StopsAt version task entries place flaw → ⊥
+  sound_stops : IsSoundTranscript version task entries → (place : ℕ) (flaw : ReportFlaw) → FailsAtEntry version task entries place flaw → ⊥
   sound_stops sound place flaw stops =
       front_right place (length entries) (slice_get_within entries place stops.e stops.there)
-      (subst (IsSound version task) (sym (take_all (length entries) entries (omega arith))) sound) stops.e stops.there flaw stops.wrong
+      (subst (IsSoundTranscript version task) (sym (take_all (length entries) entries (omega arith))) sound) stops.e stops.there flaw stops.wrong
 
   -- a request isn't an answer
   apart : (before : List Entry) (d : Entry) → IsWrongAsk task before d → is_answer d ≡ true → ⊥
@@ -71,8 +71,8 @@ module _ (version : ℕ) (task : Task) (entries : List Entry) where
   apart before (entry.Pick number) bad is = bad
   apart before (entry.Retire number) bad is = bad
 
-  flaws_same : (before : List Entry) (e : Entry) (flaw than : ReportFlaw) → IsWrong version task before e flaw
-      → IsWrong version task before e than → flaw ≡ than
+  flaws_same : (before : List Entry) (e : Entry) (flaw than : ReportFlaw) → IsWrongEntry version task before e flaw
+      → IsWrongEntry version task before e than → flaw ≡ than
   flaws_same before e Ask Ask first second = refl
   flaws_same before e Answer Answer first second = refl
   flaws_same before e Ask Answer first second = absurd (apart before e first second.0)
@@ -81,8 +81,8 @@ module _ (version : ℕ) (task : Task) (entries : List Entry) where
   flaws_same before e Ask Text first second = absurd second
   flaws_same before e Answer Text first second = absurd second
 
-  stops_once : (place other : ℕ) (flaw than : ReportFlaw) → StopsAt version task entries place flaw
-      → StopsAt version task entries other than → (place ≡ other) × (flaw ≡ than)
+  stops_once : (place other : ℕ) (flaw than : ReportFlaw) → FailsAtEntry version task entries place flaw
+      → FailsAtEntry version task entries other than → (place ≡ other) × (flaw ≡ than)
   stops_once place other flaw than first second = by (cases_lt place other) (cases_lt other place)
     where
       here : place ≡ other → (place ≡ other) × (flaw ≡ than)
@@ -90,9 +90,9 @@ module _ (version : ℕ) (task : Task) (entries : List Entry) where
           let e_same : first.e ≡ second.e =
           same_Some first.e second.e (sym first.there ∙ ap (slice_get entries) same ∙ second.there) in
           let before : take place entries ≡ take other entries = ap (λ k. take k entries) same in
-          let wrong : IsWrong version task (take other entries) second.e flaw =
-          subst (λ es. IsWrong version task es second.e flaw) before
-          (subst (λ d. IsWrong version task (take place entries) d flaw) e_same first.wrong) in
+          let wrong : IsWrongEntry version task (take other entries) second.e flaw =
+          subst (λ es. IsWrongEntry version task es second.e flaw) before
+          (subst (λ d. IsWrongEntry version task (take place entries) d flaw) e_same first.wrong) in
           (same, flaws_same (take other entries) second.e flaw than wrong second.wrong)
 
       by : (place < other) ⊎ (other ≤ place) → (other < place) ⊎ (place ≤ other) → (place ≡ other) × (flaw ≡ than)
@@ -116,7 +116,7 @@ one_transcript task bytes first second a b =
 legal_unflawed : (task : Task) (entries : List Entry) (line : ℕ) (flaw : ReportFlaw) (r : Report) → HasTranscript task entries r
     → IsFlawedAt task line flaw r → ⊥
 legal_unflawed task entries line flaw r has bad =
-    sound_stops r.version task r.entries (subst (IsSound r.version task) (sym has.0) has.1) bad.place flaw bad.stops
+    sound_stops r.version task r.entries (subst (IsSoundTranscript r.version task) (sym has.0) has.1) bad.place flaw bad.stops
 
 pub not_refused : LegalReportsAreNotRefused
 not_refused task bytes entries line Text spelled fault = fault.none (spelled.report, spelled.formed, spelled.spelled)

@@ -8,8 +8,8 @@ use Rattle.task_model.specs.declared.task.Task.{Task}
 use Rattle.transcript_model.specs.declared.report.Report.{Report}
 use Rattle.legal_report.specs.Lines.{line_of}
 use Rattle.legal_report.specs.Reports.{IsCertified, IsCertifiedReport, IsFlawedAt}
-use Rattle.legal_report.specs.Transcripts.{StopsAt}
-use Rattle.legal_report.specs.Walks.{StandsAt}
+use Rattle.legal_report.specs.Transcripts.{FailsAtEntry}
+use Rattle.legal_report.specs.Walks.{StandsAtEntry}
 use Rattle.legal_report.specs.declared.flaw.ReportFlaw.{ReportFlaw}
 use Rattle.legal_report.specs.declared.flaw.ReportFlaw.TheVariants as flaw
 use Rattle.legal_report.specs.declared.report.Certified.{Certified}
@@ -18,7 +18,7 @@ use Rattle.legal_report.specs.declared.walk.Walk.{Walk}
 
 module _ (w : Walk) (r : Report) (version : w.version ≡ r.version) (entries : w.entries.now ≡ r.entries) where
   -- all entries were taken
-  pub walk_ends : (l : Ledger) → StandsAt w (length w.entries.now) l → IsCertifiedReport w.task.now r (Legal l)
+  pub walk_ends : (l : Ledger) → StandsAtEntry w (length w.entries.now) l → IsCertifiedReport w.task.now r (Legal l)
   walk_ends l stands =
       let whole = subst (λ es. IsLedger w.version w.task.now es l)
       (take_all (length w.entries.now) w.entries.now (omega arith)) stands.ledger in
@@ -28,12 +28,12 @@ module _ (w : Walk) (r : Report) (version : w.version ≡ r.version) (entries : 
       (record { legal = there.legal; few = omega (arith, counted, stands.few) }, there.known)
 
   -- the walk stopped at this place
-  pub walk_stops : (place : ℕ) (why : ReportFlaw) → StopsAt w.version w.task.now w.entries.now place why → (line : ℕ)
+  pub walk_stops : (place : ℕ) (why : ReportFlaw) → FailsAtEntry w.version w.task.now w.entries.now place why → (line : ℕ)
       → line ≡ line_of r place → IsCertifiedReport w.task.now r (Flawed line why)
   walk_stops place why stops line is = record {
     place = place;
-    stops = subst (λ v. StopsAt v w.task.now r.entries place why) version
-        (subst (λ es. StopsAt w.version w.task.now es place why) entries stops);
+    stops = subst (λ v. FailsAtEntry v w.task.now r.entries place why) version
+        (subst (λ es. FailsAtEntry w.version w.task.now es place why) entries stops);
     is = is;
   }
 

@@ -19,8 +19,8 @@ use Rattle.transcript_model.specs.declared.entry.Entry.{Entry}
 use Rattle.transcript_model.specs.declared.entry.Entry.TheVariants as entry
 use Rattle.transcript_model.specs.declared.limits.TheConstants.{MOST_CALLS}
 use Rattle.legal_report.specs.Talks.{IsAskedBy}
-use Rattle.legal_report.specs.Transcripts.{IsSound, IsWrong, StopsAt}
-use Rattle.legal_report.specs.Walks.{IsReadable, StandsAt}
+use Rattle.legal_report.specs.Transcripts.{IsSoundTranscript, IsWrongEntry, FailsAtEntry}
+use Rattle.legal_report.specs.Walks.{IsReadable, StandsAtEntry}
 use Rattle.legal_report.specs.declared.flaw.ReportFlaw.{ReportFlaw}
 use Rattle.legal_report.specs.declared.flaw.ReportFlaw.TheVariants as flaw
 use Rattle.legal_report.specs.declared.walk.Walk.{Walk}
@@ -103,9 +103,9 @@ module _ (w : Walk) where
   entry_formed readable place e there =
       All-contains (IsFormedEntry w.version) w.entries.now e readable.formed (member_at w.entries.now place e there)
 
-  module _ (place : ℕ) (l : Ledger) (stands : StandsAt w place l) (e : Entry) (there : slice_get w.entries.now place ≡ Some e) where
-    stops : (why : ReportFlaw) → IsWrong w.version w.task.now (take place w.entries.now) e why
-        → StopsAt w.version w.task.now w.entries.now place why
+  module _ (place : ℕ) (l : Ledger) (stands : StandsAtEntry w place l) (e : Entry) (there : slice_get w.entries.now place ≡ Some e) where
+    stops : (why : ReportFlaw) → IsWrongEntry w.version w.task.now (take place w.entries.now) e why
+        → FailsAtEntry w.version w.task.now w.entries.now place why
     stops why wrong =
         let counted = stands.ledger.counted in
         record {
@@ -118,7 +118,7 @@ module _ (w : Walk) where
     -- the ledger behind the entry, with as many requests as before
     behind : (new : Ledger) → IsLedger w.version w.task.now (take place w.entries.now ++ e ∷ []) new
         → asks_of (take place w.entries.now ++ e ∷ []) ≤ MOST_CALLS
-        → StandsAt w (place + 1) new
+        → StandsAtEntry w (place + 1) new
     behind new ledger few =
         let counted = ledger.counted in
         record {
@@ -132,25 +132,25 @@ module _ (w : Walk) where
         let same = asks_marked (take place w.entries.now) e other in
         omega (arith, counted, same, stands.few)
 
-    pub mark_taken : is_mark e ≡ true → StandsAt w (place + 1) l
+    pub mark_taken : is_mark e ≡ true → StandsAtEntry w (place + 1) l
     mark_taken mark =
         behind l (mark_ledger w.version w.task.now (take place w.entries.now) l e stands.ledger mark) (few_before (mark_no_ask e mark))
 
     pub answer_taken : (n : ℕ) → answered_number e ≡ Some n → (new : Ledger)
-        → IsLedger w.version w.task.now (take (place + 1) w.entries.now) new → StandsAt w (place + 1) new
+        → IsLedger w.version w.task.now (take (place + 1) w.entries.now) new → StandsAtEntry w (place + 1) new
     answer_taken n is new ledger =
         behind new (subst (λ es. IsLedger w.version w.task.now es new) (next_taken w.entries.now place e there) ledger)
         (few_before (answer_is e n is).1)
 
     pub answer_refused : (n : ℕ) → answered_number e ≡ Some n
         → ¬ (MayFollow w.version w.task.now (take place w.entries.now) e)
-        → StopsAt w.version w.task.now w.entries.now place flaw.Answer
+        → FailsAtEntry w.version w.task.now w.entries.now place flaw.Answer
     answer_refused n is bad = stops flaw.Answer ((answer_is e n is).0, bad)
 
-  module _ (place : ℕ) (l : Ledger) (stands : StandsAt w place l) (number turn : ℕ) (call : Call)
+  module _ (place : ℕ) (l : Ledger) (stands : StandsAtEntry w place l) (number turn : ℕ) (call : Call)
       (there : slice_get w.entries.now place ≡ Some (entry.Ask number turn call)) where
     pub ask_refused : IsAskedBy MOST_CALLS w.task.now (take place w.entries.now) number turn call None
-        → StopsAt w.version w.task.now w.entries.now place flaw.Ask
+        → FailsAtEntry w.version w.task.now w.entries.now place flaw.Ask
     ask_refused said = stops place l stands (entry.Ask number turn call) there flaw.Ask said
 
     module _ (i : Instance) (said : IsAskedBy MOST_CALLS w.task.now (take place w.entries.now) number turn call (Some i)) where
@@ -162,7 +162,7 @@ module _ (w : Walk) where
 
       pub ask_taken : (new : Ledger)
           → IsLedger w.version w.task.now (take place w.entries.now ++ entry.Ask number turn call ∷ []) new
-          → StandsAt w (place + 1) new
+          → StandsAtEntry w (place + 1) new
       ask_taken new ledger =
           let joined = asks_more (take place w.entries.now) (entry.Ask number turn call ∷ []) in
           let one : asks_of (entry.Ask number turn call ∷ []) ≡ 1 = refl in

@@ -8,7 +8,7 @@ use Rattle.transcript_model.specs.Transcript.{known_of}
 use Rattle.transcript_model.specs.declared.entry.Entry.{Entry}
 use Rattle.transcript_model.specs.declared.report.Report.{Report}
 use Rattle.legal_report.specs.Lines.{line_of}
-use Rattle.legal_report.specs.Transcripts.{IsSound, StopsAt}
+use Rattle.legal_report.specs.Transcripts.{IsSoundTranscript, FailsAtEntry}
 use Rattle.legal_report.specs.declared.report.Certified.{Certified}
 use Rattle.legal_report.specs.declared.report.Certified.TheVariants.{Legal, Flawed}
 use Rattle.legal_report.specs.declared.flaw.ReportFlaw.{ReportFlaw}
@@ -23,7 +23,7 @@ pub record IsOfReport (bytes : List ℕ) (IsSo : Report → Type 0) : Type 0 whe
 
 -- the report has these entries, which are a legal transcript
 abbrev pub HasTranscript : Task → List Entry → Report → Type 0
-HasTranscript task entries r = (r.entries ≡ entries) × IsSound r.version task entries
+HasTranscript task entries r = (r.entries ≡ entries) × IsSoundTranscript r.version task entries
 
 -- the bytes are a report with this transcript, which is legal
 abbrev pub SpellsTranscript : Task → List ℕ → List Entry → Type 0
@@ -32,7 +32,7 @@ SpellsTranscript task bytes entries = IsOfReport bytes (HasTranscript task entri
 -- The first entry of the report that is wrong has its first line here, from 1.
 pub record IsFlawedAt (task : Task) (line : ℕ) (flaw : ReportFlaw) (r : Report) : Type 0 where
   pub place : ℕ
-  pub stops : StopsAt r.version task r.entries place flaw
+  pub stops : FailsAtEntry r.version task r.entries place flaw
   pub is : line ≡ line_of r place
 
 -- The bytes certify nothing, for this flaw in this line: up to it no report begins so; or they are a report, and its
@@ -44,7 +44,7 @@ RefusesReport task bytes line flaw = IsOfReport bytes (IsFlawedAt task line flaw
 -- what the report's transcript certifies is known; or it certifies nothing, for a flaw in a line
 abbrev pub IsCertifiedReport : Task → Report → Certified → Type 0
 IsCertifiedReport task r (Legal ledger) =
-    IsSound r.version task r.entries × (ledger.facts.known ≡ known_of task r.entries)
+    IsSoundTranscript r.version task r.entries × (ledger.facts.known ≡ known_of task r.entries)
 IsCertifiedReport task r (Flawed line flaw) = IsFlawedAt task line flaw r
 
 -- the same of a text

@@ -9,7 +9,7 @@ use Rattle.legal_report.specs.declared.flaw.ReportFlaw.{ReportFlaw}
 use Rattle.legal_report.specs.declared.flaw.ReportFlaw.TheVariants.{Text, Ask, Answer}
 
 -- The entries are a legal transcript with at most as many requests as any run may make.
-pub record IsSound (version : ℕ) (task : Task) (entries : List Entry) : Type 0 where
+pub record IsSoundTranscript (version : ℕ) (task : Task) (entries : List Entry) : Type 0 where
   pub legal : IsLegal version task entries
   pub few : asks_of entries ≤ MOST_CALLS
 
@@ -20,14 +20,14 @@ IsWrongAsk task before (entry.Ask number turn call) =
 IsWrongAsk task before e = ⊥
 
 -- behind these entries the entry is wrong, for this flaw
-abbrev pub IsWrong : ℕ → Task → List Entry → Entry → ReportFlaw → Type 0
-IsWrong version task before e Ask = IsWrongAsk task before e
-IsWrong version task before e Answer = (is_answer e ≡ true) × ¬ (MayFollow version task before e)
-IsWrong version task before e Text = ⊥
+abbrev pub IsWrongEntry : ℕ → Task → List Entry → Entry → ReportFlaw → Type 0
+IsWrongEntry version task before e Ask = IsWrongAsk task before e
+IsWrongEntry version task before e Answer = (is_answer e ≡ true) × ¬ (MayFollow version task before e)
+IsWrongEntry version task before e Text = ⊥
 
 -- The entry at this place, from 0, is the first that is wrong.
-pub record StopsAt (version : ℕ) (task : Task) (entries : List Entry) (place : ℕ) (flaw : ReportFlaw) : Type 0 where
-  pub before : IsSound version task (take place entries)
+pub record FailsAtEntry (version : ℕ) (task : Task) (entries : List Entry) (place : ℕ) (flaw : ReportFlaw) : Type 0 where
+  pub before : IsSoundTranscript version task (take place entries)
   pub e : Entry
   pub there : slice_get entries place ≡ Some e
-  pub wrong : IsWrong version task (take place entries) e flaw
+  pub wrong : IsWrongEntry version task (take place entries) e flaw

@@ -5,7 +5,7 @@ use Rattle.learning.specs.declared.ledger.Ledger.{Ledger}
 use Rattle.report_text.specs.Forms.{IsFormedEntry}
 use Rattle.task_model.specs.Fit.{IsFit}
 use Rattle.transcript_model.specs.declared.limits.TheConstants.{MOST_CALLS}
-use Rattle.legal_report.specs.Transcripts.{StopsAt}
+use Rattle.legal_report.specs.Transcripts.{FailsAtEntry}
 use Rattle.legal_report.specs.declared.flaw.ReportFlaw.{ReportFlaw}
 use Rattle.legal_report.specs.declared.walk.Walk.{Walk}
 use Rattle.legal_report.specs.declared.walk.Walked.{Walked}
@@ -17,16 +17,16 @@ pub record IsReadable (w : Walk) : Type 0 where
   pub formed : All (IsFormedEntry w.version) w.entries.now
 
 -- The ledger is that of the entries before this place.
-pub record StandsAt (w : Walk) (place : ℕ) (l : Ledger) : Type 0 where
+pub record StandsAtEntry (w : Walk) (place : ℕ) (l : Ledger) : Type 0 where
   pub ledger : IsLedger w.version w.task.now (take place w.entries.now) l
   pub few : length l.asked.items ≤ MOST_CALLS
 
 -- the entry at this place is taken, or is the first that is wrong
-abbrev pub IsTaken : Walk → ℕ → Ledger → Option ReportFlaw → Type 0
-IsTaken w place after None = StandsAt w (place + 1) after
-IsTaken w place after (Some flaw) = StopsAt w.version w.task.now w.entries.now place flaw
+abbrev pub IsEntryWalked : Walk → ℕ → Ledger → Option ReportFlaw → Type 0
+IsEntryWalked w place after None = StandsAtEntry w (place + 1) after
+IsEntryWalked w place after (Some flaw) = FailsAtEntry w.version w.task.now w.entries.now place flaw
 
 -- all entries are taken, or one is the first that is wrong
-abbrev pub IsWalked : Walk → Walked → Type 0
-IsWalked w (Ends ledger) = StandsAt w (length w.entries.now) ledger
-IsWalked w (Stops place flaw) = StopsAt w.version w.task.now w.entries.now place flaw
+abbrev pub IsWalkDone : Walk → Walked → Type 0
+IsWalkDone w (Ends ledger) = StandsAtEntry w (length w.entries.now) ledger
+IsWalkDone w (Stops place flaw) = FailsAtEntry w.version w.task.now w.entries.now place flaw

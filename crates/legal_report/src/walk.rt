@@ -1,6 +1,6 @@
 //! The entries of a report, one after another.
 ghost use Rattle.std.specs.Prelude.{◌≡◌, ◌<◌, IfOk, IfSome, Some, length, slice_get};
-ghost use Rattle.legal_report.specs.Walks.{IsReadable, IsTaken, IsWalked, StandsAt};
+ghost use Rattle.legal_report.specs.Walks.{IsReadable, IsEntryWalked, IsWalkDone, StandsAtEntry};
 ghost use Rattle.transcript_model.specs.Legal.{answered_number as number_in};
 ghost use Rattle.transcript_model.specs.declared.entry.Entry.TheVariants as entry;
 
@@ -42,10 +42,10 @@ impl Walk<'_> {
         call: &Call,
     ) -> Result<Option<ReportFlaw>, AllocError>
         requires readable { IsReadable self.now }
-        requires stands { StandsAt self.now place ledger.old }
+        requires stands { StandsAtEntry self.now place ledger.old }
         requires here { slice_get self.now.entries.now place
             ≡ Some (entry.Ask number turn call.now) }
-        ensures { IfOk result (IsTaken self.now place ledger.new) }
+        ensures { IfOk result (IsEntryWalked self.now place ledger.new) }
     {
         let calls = MOST_CALLS;
         match asked_by(self.alloc, self.task, ledger, calls, number, turn, call)? {
@@ -66,11 +66,11 @@ impl Walk<'_> {
         number: u32,
     ) -> Result<Option<ReportFlaw>, AllocError>
         requires readable { IsReadable self.now }
-        requires stands { StandsAt self.now place ledger.old }
+        requires stands { StandsAtEntry self.now place ledger.old }
         requires within { place < length self.now.entries.now }
         requires here { IfSome (slice_get self.now.entries.now place)
             (λ e. number_in e ≡ Some number) }
-        ensures { IfOk result (IsTaken self.now place ledger.new) }
+        ensures { IfOk result (IsEntryWalked self.now place ledger.new) }
     {
         if !may_answer(self.task, ledger, number, &self.entries[place]) {
             return Ok(Some(ReportFlaw::Answer));
@@ -89,9 +89,9 @@ impl Walk<'_> {
     /// Takes the entry at this place, and answers what is wrong with it.
     fn take(&self, ledger: &mut Ledger, place: usize) -> Result<Option<ReportFlaw>, AllocError>
         requires readable { IsReadable self.now }
-        requires stands { StandsAt self.now place ledger.old }
+        requires stands { StandsAtEntry self.now place ledger.old }
         requires within { place < length self.now.entries.now }
-        ensures { IfOk result (IsTaken self.now place ledger.new) }
+        ensures { IfOk result (IsEntryWalked self.now place ledger.new) }
     {
         let entry = &self.entries[place];
         if let Some(number) = answered(entry) {
@@ -108,7 +108,7 @@ impl Walk<'_> {
     /// Takes all entries, up to the first that is wrong.
     pub(crate) fn walk(&self) -> Result<Walked, AllocError>
         requires { IsReadable self.now }
-        ensures { IfOk result (IsWalked self.now) }
+        ensures { IfOk result (IsWalkDone self.now) }
     {
         let mut ledger = Ledger::new(self.alloc, self.task)?;
         for place in 0..self.entries.len() {

@@ -1,6 +1,6 @@
 -- What a level has still to do.
 use Rattle.std.specs.Prelude.{◌≡◌, ℕ, ◌+◌, ◌-◌, ◌<◌, ◌≤◌, List, [], ◌++◌, length, take, drop, Bool, true, false}
-use Rattle.instance_queue.specs.Level.{instances_of}
+use Rattle.instance_queue.specs.Level.{due_instances}
 use Rattle.pools.specs.Pools.{HaveWorkers}
 use Rattle.task_model.specs.declared.stream.Instance.{Instance}
 use Rattle.task_model.specs.declared.task.Task.{Task}
@@ -55,13 +55,13 @@ place_in task entries a = record {
 
 -- ---- the code's fields
 
-abbrev pub shown : Inside → Agenda
-shown c =
+abbrev pub shown_agenda : Inside → Agenda
+shown_agenda c =
     record {
-      to_ask = instances_of (drop c.asked (take c.round c.dues.items));
+      to_ask = due_instances (drop c.asked (take c.round c.dues.items));
       next = c.before + c.answered + 1;
       answers = c.round - c.answered;
-      later = instances_of (drop c.round c.dues.items);
+      later = due_instances (drop c.round c.dues.items);
       is_cut = c.is_cut;
     }
 

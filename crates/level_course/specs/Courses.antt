@@ -19,8 +19,8 @@ pub record Course : Type 0 where
   pub is_cut : Bool
 
 -- before the first level
-abbrev pub at_first : Course
-at_first = record { asks = []; next = 1; answers = 0; later = []; is_cut = false }
+abbrev pub course_at_first : Course
+course_at_first = record { asks = []; next = 1; answers = 0; later = []; is_cut = false }
 
 -- behind the requests up to these, of the same round
 abbrev pub with_asks : Course → List Entry → Course

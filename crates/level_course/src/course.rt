@@ -24,16 +24,16 @@ impl Model for Course {
 
     ghost Value = { Agenda };
 
-    ghost use Rattle.level_course.specs.Agendas.{IsSoundAgenda, shown};
+    ghost use Rattle.level_course.specs.Agendas.{IsSoundAgenda, shown_agenda};
 
-    ghost view = { shown };
+    ghost view = { shown_agenda };
 
     ghost invariant = { IsSoundAgenda };
 }
 
 impl Course {
     ghost use Rattle.std.specs.Prelude.{◌≡◌, ◌+◌, ◌-◌, ◌<◌, ◌≤◌, ◌==◌, ◌&&◌, not, [], length, take, nat_lt, slice_get, option_copied, IfSome, IfNone};
-    ghost use Rattle.instance_queue.specs.Level.{instances_of};
+    ghost use Rattle.instance_queue.specs.Level.{due_instances};
     ghost use Rattle.level_course.specs.Agendas.{Starts, nothing_to_do, with_answer, with_asked};
     ghost use Rattle.pools.specs.Pools.{shares_of};
 
@@ -87,7 +87,7 @@ impl Course {
     pub fn begin(&mut self, pools: &[Workers], mut dues: Vec<Due>, before: u32, calls: u32)
         requires left { before ≤ calls }
         requires few { calls ≤ MOST_CALLS }
-        ensures { Starts (shares_of pools.now) (take (calls - before) (instances_of dues.items))
+        ensures { Starts (shares_of pools.now) (take (calls - before) (due_instances dues.items))
             (before + 1) (nat_lt (calls - before) (length dues.items)) self.new }
     {
         let left = (calls - before) as usize;

@@ -1,7 +1,7 @@
 -- Fronts of levels, of what follows a `none`, of turns and of runs: what was written could have gone on.
 use Rattle.std.proofs.Common.{◌≡◌, ℕ, Bool, true, false, List, [], ◌∷◌, ◌++◌, length, refl, sym, subst, ◌∙◌, append_assoc, ◌⊎◌, inl, inr, arith}
 use Rattle.std.proofs.lemmas.Bool.{lt-ltb}
-use Rattle.instance_queue.specs.Level.{instances_of}
+use Rattle.instance_queue.specs.Level.{due_instances}
 use Rattle.instance_queue.specs.declared.due.Due.{Due}
 use Rattle.task_model.specs.declared.task.Task.{Task}
 use Rattle.transcript_model.specs.Legal.{IsLegal}
@@ -26,16 +26,16 @@ use Rattle.mode_turns.specs.Modes.{nothing_kept}
 
 -- the line of a level and a front of its batch are a front of the level
 pub front_level : (head : Head) (task : Task) (before : List Entry) (asks : ℕ) (dues : List Due) → IsTurn head task before asks dues
-    → (es : List Entry) → IsFrontBehind head task before entry.Level (instances_of dues) es
+    → (es : List Entry) → IsFrontBehind head task before entry.Level (due_instances dues) es
     → IsFrontPart before (IsSomeLevel head task before) es
 front_level head task before asks dues turn es f = record {
   part = f.part;
   rest = f.rest;
   is = f.is;
   whole = (
-    is_cut (limits_of head) before (instances_of dues),
+    is_cut (limits_of head) before (due_instances dues),
     record {
-      list = instances_of dues;
+      list = due_instances dues;
       due = turn.due.due;
       rest = f.whole.rest;
       is = f.whole.is;

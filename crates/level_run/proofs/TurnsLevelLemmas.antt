@@ -2,7 +2,7 @@
 use Rattle.std.proofs.Common.{◌≡◌, ℕ, ◌-◌, ◌<◌, ◌≤◌, arith, true, inl, inr, List, [], ◌∷◌, ◌++◌, length, sym, subst, All}
 use Rattle.std.proofs.lemmas.Bool.{lt-ltb, le-ltb}
 use Rattle.std.proofs.lemmas.List.{length-map}
-use Rattle.instance_queue.specs.Level.{instances_of}
+use Rattle.instance_queue.specs.Level.{due_instances}
 use Rattle.instance_queue.specs.declared.due.Due.{Due}
 use Rattle.session_core.specs.Ready.{AreReady}
 use Rattle.task_model.specs.Fit.{IsFit}
@@ -63,7 +63,7 @@ pub may_begin : (head : Head) (task : Task) (before : List Entry) (asks : ℕ) (
     → asks ≡ asks_of before
     → IsTurn head task before asks dues → MayBegin (limits_of head) task before
 may_begin head task before asks dues counted turn = record {
-  list = instances_of dues;
+  list = due_instances dues;
   due = turn.due.due;
   some = omega (arith, turn.some, length-map dues (λ (d : Due). d.instance));
   few = omega (arith, turn.due.few, length-map dues (λ (d : Due). d.instance));
@@ -83,15 +83,15 @@ batch_cut head task before after asks later many list CallsSpent counted within 
 
 -- a batch behind the line of a level is a level
 pub level_of : (head : Head) (task : Task) (before now after : List Entry) (asks later : ℕ) (dues : List Due) (b : Batch)
-    → asks ≡ asks_of before → IsTurn head task before asks dues → IsAskedBehind head task before entry.Level (instances_of dues) now
+    → asks ≡ asks_of before → IsTurn head task before asks dues → IsAskedBehind head task before entry.Level (due_instances dues) now
     → EndsBatch task after asks later head.calls (length dues) b → IsLevel (limits_of head) task before now (cut_by b)
 level_of head task before now after asks later dues b counted turn asked ends = record {
-  list = instances_of dues;
+  list = due_instances dues;
   due = turn.due.due;
   rest = asked.rest;
   is = asked.is;
   batch = asked.batch;
-  cut_is = batch_cut head task before after asks later (length dues) (instances_of dues) b counted (omega (arith, turn.left))
+  cut_is = batch_cut head task before after asks later (length dues) (due_instances dues) b counted (omega (arith, turn.left))
       (length-map dues (λ (d : Due). d.instance)) ends;
 }
 

@@ -5,7 +5,7 @@ use Rattle.std.proofs.lemmas.List.{length-map}
 use Rattle.best_first.specs.Answer.{HasPlan, IsFoundPlan, IsLimit}
 use Rattle.best_first.specs.declared.found.Found.{Found}
 use Rattle.best_first.specs.declared.found.Found.TheVariants as found
-use Rattle.instance_queue.specs.Level.{AreDueInTurn, instances_of}
+use Rattle.instance_queue.specs.Level.{AreDueInTurn, due_instances}
 use Rattle.instance_queue.specs.declared.due.Due.{Due}
 use Rattle.session_core.specs.Session.{IsLearnt, IsOf, IsSession}
 use Rattle.session_core.specs.State.{State}
@@ -158,7 +158,7 @@ module _ (task : Task) (s : State) (works : s.failed ≡ false) (learnt : IsLear
     calls_settled needed spent dues due i is_due = record {
       sure = calls_sure spent i is_due;
       end = λ e. needed;
-      few = λ e at. (instances_of dues, due.due, omega (arith, due.few, length-map dues (λ (d : Due). d.instance)));
+      few = λ e at. (due_instances dues, due.due, omega (arith, due.few, length-map dues (λ (d : Due). d.instance)));
     }
 
     pub no_plan_settled : ¬ (IsSolvable task (known_of task s.entries))
@@ -186,7 +186,7 @@ pub none_due : (task : Task) (known : Known) (notes : List Note) (dues : List Du
     → AreDueInTurn task known notes dues → dues ≡ []
     → NothingIsDue task known notes
 none_due task known notes dues turn empty =
-    nothing_due task known notes (instances_of dues) turn.due (ap instances_of empty)
+    nothing_due task known notes (due_instances dues) turn.due (ap due_instances empty)
 
 -- ---- what a search has found
 

@@ -63,7 +63,7 @@ IsFrontOfTurn task head kept before es =
 -- ---- all turns
 
 -- before the first turn a mode carries nothing, and none may ask nothing
-pub record IsFresh (kept : Kept) (idle : ℕ) (Holds : ℕ → Type 0) : Type 0 where
+pub record IsFreshMode (kept : Kept) (idle : ℕ) (Holds : ℕ → Type 0) : Type 0 where
   pub nothing : kept ≡ nothing_kept
   pub still : idle ≡ 0
   pub holds : Holds 0

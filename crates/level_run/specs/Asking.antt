@@ -1,6 +1,6 @@
 -- Requests behind a line that may have some behind it.
 use Rattle.std.specs.Prelude.{◌≡◌, ◌<◌, List, [], ◌∷◌, ◌++◌, length, true}
-use Rattle.instance_queue.specs.Level.{instances_of}
+use Rattle.instance_queue.specs.Level.{due_instances}
 use Rattle.instance_queue.specs.declared.due.Due.{Due}
 use Rattle.round_run.specs.TurnLines.{opens_requests}
 use Rattle.round_run.specs.Batches.{EndsBatch}
@@ -40,6 +40,6 @@ pub record RanBehind (task : Task) (head : Head) (entry : Entry) (dues : List Du
     (b : Batch) : Type 0 where
   pub now : List Entry
   pub pushed : new.entries ≡ old.entries ++ now
-  pub asks : IsAskedBehind head task old.entries entry (instances_of dues) now
+  pub asks : IsAskedBehind head task old.entries entry (due_instances dues) now
   pub more : length old.asked < length new.asked
   pub ends : EndsBatch task new.entries (length old.asked) (length new.asked) head.calls (length dues) b

@@ -7,7 +7,7 @@ use Rattle.level_run.specs.Reports.{IsBroken, IsReported}
 use Rattle.round_run.specs.Told.{Stretch, HostTold}
 use Rattle.level_run.specs.declared.mode_run.Ran.{Ran}
 use Rattle.round_run.specs.Held.{is_child_running}
-use Rattle.round_run.specs.Resting.{AreCaused, IsStill}
+use Rattle.round_run.specs.Resting.{AreCaused, IsAtRest}
 use Rattle.round_run.specs.Batches.{IsRunnable}
 use Rattle.round_run.specs.declared.fault.RunFault.{RunFault}
 use Rattle.round_run.specs.declared.fault.RunFault.TheVariants.{Generator, Write}
@@ -21,7 +21,7 @@ use Rattle.transcript_model.specs.declared.head.Mode.{Mode}
 pub record IsStillAt (desk : AtDesk) (host : HostTold) : Type 0 where
   pub new : IsNew desk.task desk.state
   pub of : IsOf desk.head desk.state
-  pub still : IsStill desk.held host.running
+  pub still : IsAtRest desk.held host.running
 
 -- A whole report was written, or a part of one. Where nothing was asked no call was made on a child.
 pub record EndsReport (old new : AtDesk) (c : Stretch) (result : Result Ran RunFault) : Type 0 where

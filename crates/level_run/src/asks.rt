@@ -1,5 +1,5 @@
 //! Requests behind a line that may have some behind it.
-ghost use Rattle.instance_queue.specs.Level.{instances_of};
+ghost use Rattle.instance_queue.specs.Level.{due_instances};
 ghost use Rattle.level_run.specs.Asking.{IsFrontBehind, MayAskBehind, RanBehind};
 ghost use Rattle.round_run.specs.Desk.{OnTurn, RestsAt};
 ghost use Rattle.round_run.specs.Told.{stretch, host_told};
@@ -29,7 +29,7 @@ pub fn ask_behind<H: Host, O: Sink>(
         O.taken O.faults host.old host.new out.old out.new)
         (RanBehind desk.old.task desk.old.head entry dues.now desk.old.state desk.new.state)
         (IsFrontBehind desk.old.head desk.old.task desk.old.state.entries entry
-        (instances_of dues.now)) result }
+        (due_instances dues.now)) result }
 {
     desk.mark(out, entry)?;
     desk.batch(host, out, dues)

@@ -1,6 +1,6 @@
 //! A run in any mode.
 ghost use Rattle.std.specs.Prelude.{◌≡◌, ◌≤◌, cond, count_by};
-ghost use Rattle.level_run.specs.Advancing.{IsFresh};
+ghost use Rattle.level_run.specs.Advancing.{IsFreshMode};
 ghost use Rattle.level_run.specs.Reporting.{EndsReport, EndsRun, IsStillAt, MayRun};
 ghost use Rattle.round_run.specs.Told.{stretch, host_told};
 ghost use Rattle.task_model.specs.Fit.{IsFit};
@@ -58,7 +58,7 @@ fn report<M: Turns, H: Host, O: Sink>(
 ) -> Result<Ran, RunFault>
     requires fit { IsFit desk.old.task }
     requires mode { desk.old.head.mode ≡ M.mode }
-    requires fresh { IsFresh (M.kept mode.old) (M.idle mode.old) (M.holds mode.old) }
+    requires fresh { IsFreshMode (M.kept mode.old) (M.idle mode.old) (M.holds mode.old) }
     requires still { IsStillAt desk.old (host_told H.running H.spoken H.log H.faults host.old) }
     ensures ends { EndsReport desk.old desk.new (stretch H.last H.running H.spoken H.log H.faults
         O.taken O.faults host.old host.new out.old out.new) result }
@@ -91,7 +91,7 @@ pub fn run_mode<M: Turns, H: Host, O: Sink>(
     out: &mut O,
 ) -> Result<Ran, RunFault>
     requires may { MayRun M.mode task.now head.now (H.running host.old) }
-    requires fresh { IsFresh (M.kept mode.old) (M.idle mode.old) (M.holds mode.old) }
+    requires fresh { IsFreshMode (M.kept mode.old) (M.idle mode.old) (M.holds mode.old) }
     ensures ran { EndsRun task.now head.now (stretch H.last H.running H.spoken H.log H.faults
         O.taken O.faults host.old host.new out.old out.new) result }
 {

@@ -1,6 +1,6 @@
 //! Turns of a mode, one after another.
 ghost use Rattle.std.specs.Prelude.{◌≡◌, ℕ, false, length, OnOk};
-ghost use Rattle.level_run.specs.Advancing.{IsFresh, RanTurns};
+ghost use Rattle.level_run.specs.Advancing.{IsFreshMode, RanTurns};
 ghost use Rattle.round_run.specs.Desk.{OnTurn, RestsAt};
 ghost use Rattle.round_run.specs.Told.{stretch, host_told};
 ghost use Rattle.level_run.specs.Turns.{IsFrontOfRun};
@@ -20,7 +20,7 @@ pub(crate) fn run_turns<M: Turns, H: Host, O: Sink>(
     out: &mut O,
 ) -> Result<Outcome, RunFault>
     requires mode { desk.old.head.mode ≡ M.mode }
-    requires fresh { IsFresh (M.kept mode.old) (M.idle mode.old) (M.holds mode.old) }
+    requires fresh { IsFreshMode (M.kept mode.old) (M.idle mode.old) (M.holds mode.old) }
     requires first { IsNew desk.old.task desk.old.state }
     requires rests { RestsAt desk.old (host_told H.running H.spoken H.log H.faults host.old) }
     ensures goes { OnTurn desk.old desk.new (stretch H.last H.running H.spoken H.log H.faults

@@ -3,8 +3,8 @@ use Rattle.std.specs.Prelude.{ℕ, List, ◌++◌, codes}
 
 -- The domain: a block is picked at its pose, from a side and a cell that reach it, and put at a pose where no other
 -- block is in the way. It is placed in a region where its pose is one in that region.
-abbrev pub grid_domain : List ℕ
-grid_domain =
+abbrev pub grid_domain_text : List ℕ
+grid_domain_text =
     codes "(define (domain grid)\n"
     ++ codes "  (:requirements :strips :typing :negative-preconditions :derived-predicates)\n"
     ++ codes "  (:types block region pose side cell)\n"
@@ -29,8 +29,8 @@ grid_domain =
 
 -- the streams: the poses of a block in a region, its sides, the cells from which it is reached, and the test whether
 -- two blocks at their poses keep clear of each other
-abbrev pub grid_streams : List ℕ
-grid_streams =
+abbrev pub grid_streams_text : List ℕ
+grid_streams_text =
     codes "(define (stream grid)\n"
     ++ codes "  (:stream place :inputs (?b - block ?r - region) :domain (fits ?b ?r)\n"
     ++ codes "    :outputs (?p - pose) :certified (and (pose ?b ?p) (in ?b ?p ?r)))\n"

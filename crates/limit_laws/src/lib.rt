@@ -9,7 +9,7 @@ ghost use Rattle.gen_lines.specs.declared.values.TheConstants.{VALUE_BYTES};
 ghost use Rattle.grid_text.specs.Tasks.{grid_task};
 ghost use Rattle.grid_world.specs.declared.service.TheConstants.{MOST_LINES};
 ghost use Rattle.io_world.specs.declared.host.TheConstants.{CHILDREN};
-ghost use Rattle.limit_laws.specs.GridTexts.{grid_domain, grid_streams};
+ghost use Rattle.limit_laws.specs.GridTexts.{grid_domain_text, grid_streams_text};
 ghost use Rattle.report_reader.specs.declared.reader.TheConstants.{REPORT_BYTES};
 ghost use Rattle.std.specs.Prelude.{ℕ, ◌≡◌, ◌*◌, ◌^◌};
 ghost use Rattle.task_model.specs.declared.limits.TheConstants.{LARGEST_COUNT, LARGEST_NUMBER, MOST_DUE, MOST_STATES, MOST_SUPPOSED, SLOTS};
@@ -61,6 +61,6 @@ pub fn lengths_have_their_values()
 
 /// The task of the grid of each number has this domain and these streams.
 pub fn grid_tasks_have_these_texts()
-    ensures domain { (number : ℕ) → (grid_task number).domain ≡ grid_domain }
-    ensures streams { (number : ℕ) → (grid_task number).streams ≡ grid_streams }
+    ensures domain { (number : ℕ) → (grid_task number).domain ≡ grid_domain_text }
+    ensures streams { (number : ℕ) → (grid_task number).streams ≡ grid_streams_text }
 {}

@@ -5,7 +5,7 @@ use Rattle.level_course.proofs.CoursesTurnLemmas.{IsTidy, Walks, done, opened_ru
 use Rattle.level_course.specs.Courses.{Course, IsBehind, Leads, Opens}
 use Rattle.mode_course.proofs.OpensLemmas.{AreRun, opened_cut}
 use Rattle.mode_course.proofs.StepsLemmas.{batch_open, pick_answered, unsettled}
-use Rattle.mode_course.specs.Places.{IsBatchStep, IsStaying, LeadsOn, Place, Settles, begins_level, falls_back, goes_on, moves, picks, resets, retires, stays, tells_dream, tells_none, with_batch}
+use Rattle.mode_course.specs.Places.{IsBatchStep, IsStaying, LeadsOn, ModePlace, Settles, begins_level, falls_back, goes_on, moves, picks, resets, retires, stays, tells_dream, tells_none, with_batch}
 use Rattle.task_model.specs.declared.stream.Instance.{Instance}
 use Rattle.task_model.specs.declared.task.Task.{Task}
 use Rattle.transcript_model.specs.Legal.{asks_of}
@@ -69,7 +69,7 @@ module _ (limits : Limits) (task : Task) where
   })
 
   -- where the batch has stood still, the place is settled
-  settled_same : (p : Place) (before : List Entry) (d : Course) (after : Place) → IsStaying p → p.batch ≡ d
+  settled_same : (p : ModePlace) (before : List Entry) (d : Course) (after : ModePlace) → IsStaying p → p.batch ≡ d
       → Settles limits task before (with_batch p d) after → p ≡ after
   settled_same p before d after settled same (stays s after_is) = (λ i. with_batch p (same i)) ∙ sym after_is
   settled_same p before d after settled same (moves real entries sent a r) =
@@ -87,7 +87,7 @@ module _ (limits : Limits) (task : Task) where
   more_open c before x es d (n, inr step, more) = batch_open (only_batches limits) task before c x n step
 
   -- the entries of the batch lead on in the turn, to where the place settles behind them
-  pub batch_leads : (p : Place) (before es : List Entry) (d : Course) (after : Place) → IsStaying p
+  pub batch_leads : (p : ModePlace) (before es : List Entry) (d : Course) (after : ModePlace) → IsStaying p
       → Leads (only_batches limits) task p.batch before es d → Settles limits task (before ++ es) (with_batch p d) after
       → LeadsOn limits task p before es after
   batch_leads p before [] d after settled leads settles =
@@ -118,15 +118,15 @@ module _ (limits : Limits) (task : Task) where
 
   -- ---- up to where nothing of the batch is open, or to where the entries stop in it
 
-  pub data Parts (p : Place) (before es : List Entry) (q : Place) : Type 0 where
-    over : (now rest : List Entry) (m : Course) (after : Place) → es ≡ now ++ rest
+  pub data Parts (p : ModePlace) (before es : List Entry) (q : ModePlace) : Type 0 where
+    over : (now rest : List Entry) (m : Course) (after : ModePlace) → es ≡ now ++ rest
         → Leads (only_batches limits) task p.batch before now m → m.answers ≡ 0
         → Settles limits task (before ++ now) (with_batch p m) after → LeadsOn limits task after (before ++ now) rest q
         → Parts p before es q
     still : Leads (only_batches limits) task p.batch before es q.batch → 0 < q.batch.answers → Parts p before es q
 
   -- one entry more in front
-  longer : (p q : Place) (before es : List Entry) (e : Entry) (c : Course) → IsBatchStep limits task before p.batch e c
+  longer : (p q : ModePlace) (before es : List Entry) (e : Entry) (c : Course) → IsBatchStep limits task before p.batch e c
       → Parts (with_batch p c) (before ++ e ∷ []) es q → Parts p before (e ∷ es) q
   longer p q before es e c step (over now rest m after is leads none settles later) =
       over (e ∷ now) rest m after (ap (λ xs. e ∷ xs) is) (c, inr (step_only before p.batch e c step), leads) none
@@ -136,19 +136,19 @@ module _ (limits : Limits) (task : Task) where
       still (c, inr (step_only before p.batch e c step), leads) some
 
   -- where the batch is over with its first entry
-  over_first : (p q m : Place) (before es : List Entry) (e : Entry) (c : Course) → IsBatchStep limits task before p.batch e c
+  over_first : (p q m : ModePlace) (before es : List Entry) (e : Entry) (c : Course) → IsBatchStep limits task before p.batch e c
       → c.answers ≡ 0 → Settles limits task (before ++ e ∷ []) (with_batch p c) m
       → LeadsOn limits task m (before ++ e ∷ []) es q → Parts p before (e ∷ es) q
   over_first p q m before es e c step none settles more =
       over (e ∷ []) es c m refl (c, inr (step_only before p.batch e c step), refl) none settles more
 
   -- while something of the batch is open the place stays
-  open_stays : (p m : Place) (before : List Entry) (n : ℕ) → p.batch.answers ≡ suc n → Settles limits task before p m → m ≡ p
+  open_stays : (p m : ModePlace) (before : List Entry) (n : ℕ) → p.batch.answers ≡ suc n → Settles limits task before p m → m ≡ p
   open_stays p m before n count (stays s is) = is
   open_stays p m before n count (moves real entries sent a r) = let none = a.answered in absurd (omega (arith, none, count))
 
   -- behind the first entry of a batch
-  parts_on : (p : Place) (before es : List Entry) (q : Place) (e : Entry) (m : Place) (c : Course) (k : ℕ)
+  parts_on : (p : ModePlace) (before es : List Entry) (q : ModePlace) (e : Entry) (m : ModePlace) (c : Course) (k : ℕ)
       → IsBatchStep limits task before p.batch e c → c.answers ≡ k
       → Settles limits task (before ++ e ∷ []) (with_batch p c) m → LeadsOn limits task m (before ++ e ∷ []) es q
       → (0 < c.answers → LeadsOn limits task (with_batch p c) (before ++ e ∷ []) es q
@@ -158,16 +158,16 @@ module _ (limits : Limits) (task : Task) where
   parts_on p before es q e m c (suc k) step count settles more onward =
       let same : m ≡ with_batch p c = open_stays (with_batch p c) m (before ++ e ∷ []) k count settles in
       longer p q before es e c step
-      (onward (omega (arith, count)) (subst (λ (x : Place). LeadsOn limits task x (before ++ e ∷ []) es q) same more))
+      (onward (omega (arith, count)) (subst (λ (x : ModePlace). LeadsOn limits task x (before ++ e ∷ []) es q) same more))
 
-  pub parts : (p : Place) (before es : List Entry) (q : Place) (n : ℕ) → IsStaying p → p.batch.answers ≡ n
+  pub parts : (p : ModePlace) (before es : List Entry) (q : ModePlace) (n : ℕ) → IsStaying p → p.batch.answers ≡ n
       → LeadsOn limits task p before es q → Parts p before es q
   parts p before es q zero settled none leads =
       over [] es p.batch p refl refl none (stays settled refl)
       (subst (λ xs. LeadsOn limits task p xs es q) (sym (append-nil before)) leads)
   parts p before [] q (suc n) settled count leads =
-      let same : p.batch ≡ q.batch = ap (λ (x : Place). x.batch) leads in
-      let answers = ap (λ (x : Place). x.batch.answers) leads in
+      let same : p.batch ≡ q.batch = ap (λ (x : ModePlace). x.batch) leads in
+      let answers = ap (λ (x : ModePlace). x.batch.answers) leads in
       still same (omega (arith, count, answers))
   parts p before (e ∷ es) q (suc n) settled count (m, goes_on c step settles, more) =
       parts_on p before es q e m c c.answers step refl settles more

@@ -8,7 +8,7 @@ use Rattle.mode_course.proofs.OpensLemmas.{AreRun}
 use Rattle.mode_course.proofs.PartTurnedLemmas.{Shorter, Turned, as_it_is, batch_turned, run_turned}
 use Rattle.mode_course.proofs.PickTurnedLemmas.{AreGivenUp, pick_stops, picks_turned}
 use Rattle.mode_course.proofs.StepsLemmas.{awaits_two, pick_unasked, rest_dreamt, still_open, undreamt_dreamt}
-use Rattle.mode_course.specs.Places.{Awaits, IsBehindDream, IsDreamStep, LeadsOn, Place, RunsNext, RunsOnce, asked_first, begins_level, dreamt, falls_back, goes_on, joining, keeping, picks, resets, resting, retires, sent_first, tells_dream, tells_none, undreamt}
+use Rattle.mode_course.specs.Places.{AwaitsPhase, IsBehindDream, IsDreamStep, LeadsOn, ModePlace, RunsNext, RunsOnce, asked_first, begins_level, dreamt, falls_back, goes_on, joining, keeping, picks, resets, resting, retires, sent_first, tells_dream, tells_none, undreamt}
 use Rattle.mode_turns.specs.Modes.{TurnOf}
 use Rattle.task_model.specs.declared.stream.Instance.{Instance}
 use Rattle.task_model.specs.declared.task.Task.{Task}
@@ -26,7 +26,7 @@ use Rattle.transcript_model.specs.declared.head.Mode.TheVariants.{Adaptive, Bind
 module _ (limits : Limits) (task : Task) (workers : All (λ (s : Share). 1 ≤ s.workers) limits.pools) (n : ℕ)
     (shorter : Shorter limits task n) where
   -- the dream has one batch
-  once_turned : (before es : List Entry) (e : Entry) (p m q : Place) → limits.mode ≡ Focused → length es ≤ n
+  once_turned : (before es : List Entry) (e : Entry) (p m q : ModePlace) → limits.mode ≡ Focused → length es ≤ n
       → (s : IsDreamStep limits task before p e m)
       → RunsOnce limits task (length (names_of task before)) (before ++ entry.Dream s.uses s.steps ∷ []) s.entries p.kept m
       → LeadsOn limits task m (before ++ e ∷ []) es q → Turned limits task p.kept before (e ∷ es) q
@@ -67,7 +67,7 @@ module _ (limits : Limits) (task : Task) (workers : All (λ (s : Share). 1 ≤ s
       r.opens turn es q few)
 
   -- the dream has several batches
-  again_turned : (before es : List Entry) (e : Entry) (p m q : Place) → limits.mode ≡ Binding → length es ≤ n
+  again_turned : (before es : List Entry) (e : Entry) (p m q : ModePlace) → limits.mode ≡ Binding → length es ≤ n
       → (s : IsDreamStep limits task before p e m)
       → RunsNext limits task resting (length (names_of task before)) (before ++ entry.Dream s.uses s.steps ∷ []) s.entries [] p.kept m
       → LeadsOn limits task m (before ++ e ∷ []) es q → Turned limits task p.kept before (e ∷ es) q
@@ -102,7 +102,7 @@ module _ (limits : Limits) (task : Task) (workers : All (λ (s : Share). 1 ≤ s
 
   -- ---- a dream that is kept
 
-  module _ (before : List Entry) (e : Entry) (p m : Place) (mode : limits.mode ≡ Adaptive)
+  module _ (before : List Entry) (e : Entry) (p m : ModePlace) (mode : limits.mode ≡ Adaptive)
       (s : IsDreamStep limits task before p e m) where
     abbrev line : Entry
     line = entry.Dream s.uses s.steps
@@ -111,10 +111,10 @@ module _ (limits : Limits) (task : Task) (workers : All (λ (s : Share). 1 ≤ s
     marked = before ++ line ∷ []
 
     -- behind the line
-    abbrev behind : Place
+    abbrev behind : ModePlace
     behind = record { batch = p.batch; phase = dreamt; kept = keeping p.kept s.entries (length (names_of task before)) }
 
-    waits : Awaits behind dreamt
+    waits : AwaitsPhase behind dreamt
     waits = record { phase_is = refl; answered = s.may.awaits.answered; uncut = s.may.awaits.uncut }
 
     -- the last skeleton isn't given up
@@ -147,7 +147,7 @@ module _ (limits : Limits) (task : Task) (workers : All (λ (s : Share). 1 ≤ s
     left : asks_of marked < limits.calls
     left = let less = s.may.may.left in omega (arith, less, asks_marked before line refl)
 
-    dreamt_then : (es : List Entry) (q : Place) → length es ≤ n → LeadsOn limits task behind marked es q
+    dreamt_then : (es : List Entry) (q : ModePlace) → length es ≤ n → LeadsOn limits task behind marked es q
         → Turned limits task p.kept before (line ∷ es) q
     dreamt_then [] q few leads =
         pick_stops limits task workers n shorter p.kept before (line ∷ []) s.may.may behind new_turn q (inl waits) one_kept leads
@@ -164,7 +164,7 @@ module _ (limits : Limits) (task : Task) (workers : All (λ (s : Share). 1 ≤ s
 
   -- ---- any dream
 
-  pub dream_turned : (before es : List Entry) (e : Entry) (p m q : Place) → length es ≤ n
+  pub dream_turned : (before es : List Entry) (e : Entry) (p m q : ModePlace) → length es ≤ n
       → IsDreamStep limits task before p e m → LeadsOn limits task m (before ++ e ∷ []) es q
       → Turned limits task p.kept before (e ∷ es) q
   dream_turned before es e p m q few s leads = by limits.mode refl s.behind

@@ -10,7 +10,7 @@ use Rattle.level_course.specs.Courses.{Course, IsBehind, Opens}
 use Rattle.mode_course.proofs.OpensLemmas.{asks_asked}
 use Rattle.mode_course.proofs.StepsLemmas.{batch_open, pick_answered}
 use Rattle.mode_course.specs.Agendas.{ModeAgenda, is_dreamt, is_undreamt, mode_place_in}
-use Rattle.mode_course.specs.Places.{AwaitsPick, IsBatchStep, IsBehindDream, IsPickStep, IsStep, LeadsOn, Phase, Place, RunsNext, Settles, asked_next, at_start, begins_level, falls_back, goes_on, moves, phase_behind, picks, resets, resting, retires, sent_first, stays, tells_dream, tells_none, unasked, with_batch}
+use Rattle.mode_course.specs.Places.{AwaitsPick, IsBatchStep, IsBehindDream, IsPickStep, IsModeStep, LeadsOn, Phase, ModePlace, RunsNext, Settles, asked_next, at_start, begins_level, falls_back, goes_on, moves, phase_behind, picks, resets, resting, retires, sent_first, stays, tells_dream, tells_none, unasked, with_batch}
 use Rattle.task_model.specs.Dreams as dreams
 use Rattle.task_model.specs.declared.stream.Instance.{Instance}
 use Rattle.task_model.specs.declared.task.Task.{Task}
@@ -51,7 +51,7 @@ abbrev pickable : Phase → Bool
 pickable phase = is_dreamt phase || is_undreamt phase
 
 -- no skeleton comes to be picked behind a dream's batch
-behind_pickable : (over : Phase) (cut : Bool) (real : ℕ) (entries : List dreams.Entry) (sent next : List Sent)
+behind_pickable : (over : Phase) (cut : Bool) (real : ℕ) (entries : List dreams.SupposedEntry) (sent next : List Sent)
     → pickable over ≡ false → pickable (phase_behind over cut real entries sent next) ≡ false
 behind_pickable over cut real entries sent [] other = other
 behind_pickable over true real entries sent (s ∷ next) other = refl
@@ -77,7 +77,7 @@ module _ (limits : Limits) (task : Task) where
     pub none : c.answers ≡ 0 → length c.later ≡ 0
 
   -- Where one comes to be picked nothing is open and a call is left; and none was picked more often than something was asked.
-  record Stands (before : List Entry) (p : Place) : Type 0 where
+  record Stands (before : List Entry) (p : ModePlace) : Type 0 where
     pub sound : IsSound p.batch
     pub left : pickable p.phase ≡ true → (p.batch.answers ≡ 0) × (asks_of before < limits.calls)
     pub few : All (IsFew (to_make before p.batch)) p.kept.skeletons
@@ -154,7 +154,7 @@ module _ (limits : Limits) (task : Task) where
 
   -- ---- behind a batch that begins
 
-  run_stands : (over : Phase) (real : ℕ) (before : List Entry) (entries : List dreams.Entry) (sent : List Sent) (kept : Kept) (q : Place)
+  run_stands : (over : Phase) (real : ℕ) (before : List Entry) (entries : List dreams.SupposedEntry) (sent : List Sent) (kept : Kept) (q : ModePlace)
       → pickable over ≡ false
       → ((n : ℕ) → n ≡ asks_of before + length (asked_next limits task real before entries sent) → All (IsFew n) kept.skeletons)
       → RunsNext limits task over real before entries sent kept q → Stands before q
@@ -167,7 +167,7 @@ module _ (limits : Limits) (task : Task) where
         few = few (to_make before r.batch) begun.1;
       })
 
-  module _ (before : List Entry) (p : Place) (e : Entry) (q : Place) (st : Stands before p) where
+  module _ (before : List Entry) (p : ModePlace) (e : Entry) (q : ModePlace) (st : Stands before p) where
     abbrev after : List Entry
     after = before ++ e ∷ []
 
@@ -225,7 +225,7 @@ module _ (limits : Limits) (task : Task) where
         run_stands resting real after entries sent p.kept q refl
         (λ n is. still_few n (omega (arith, same, none, is))) r
 
-    dreamed_stands : (m : Mode) (real : ℕ) (entries : List dreams.Entry) → is_ask e ≡ false → p.batch.answers ≡ 0
+    dreamed_stands : (m : Mode) (real : ℕ) (entries : List dreams.SupposedEntry) → is_ask e ≡ false → p.batch.answers ≡ 0
         → asks_of after < limits.calls → IsBehindDream m limits task real after entries p q → Stands after q
     dreamed_stands Incremental real entries mark none left behind = absurd behind
     dreamed_stands Focused real entries mark none left behind =
@@ -276,7 +276,7 @@ module _ (limits : Limits) (task : Task) where
         (λ other. let some = asked other in omega (arith, own, was, counted, is, some))
         (still_few n (omega (arith, was, counted, is)))) t.runs)
 
-  step_stands : (before : List Entry) (p : Place) (e : Entry) (q : Place) → Stands before p → IsStep limits task before p e q
+  step_stands : (before : List Entry) (p : ModePlace) (e : Entry) (q : ModePlace) → Stands before p → IsModeStep limits task before p e q
       → Stands (before ++ e ∷ []) q
   step_stands before p e q st (goes_on c step settles) = settled_stands before p e q st c step settles
   step_stands before p e q st (begins_level t) =
@@ -306,7 +306,7 @@ module _ (limits : Limits) (task : Task) where
   step_stands before p e q st (retires t) =
       mark_stands before p e q st resting p.kept (ap is_ask t.is) refl (λ comes. absurd (cc)) t.after_is
 
-  leads_stand : (p : Place) (before es : List Entry) (q : Place) → Stands before p → LeadsOn limits task p before es q
+  leads_stand : (p : ModePlace) (before es : List Entry) (q : ModePlace) → Stands before p → LeadsOn limits task p before es q
       → Stands (before ++ es) q
   leads_stand p before [] q st same =
       subst (λ xs. Stands xs q) (sym (append-nil before)) (subst (Stands before) same st)
@@ -321,7 +321,7 @@ module _ (limits : Limits) (task : Task) where
     few = All-nil (IsFew 0);
   }
 
-  module _ (entries : List Entry) (p : Place) (leads : LeadsOn limits task at_start [] entries p) where
+  module _ (entries : List Entry) (p : ModePlace) (leads : LeadsOn limits task at_start [] entries p) where
     stands : Stands entries p
     stands = leads_stand at_start [] entries p first_stands leads
 

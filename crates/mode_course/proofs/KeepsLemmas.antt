@@ -27,7 +27,7 @@ use Rattle.transcript_model.specs.Turns.{Skeleton}
 use Rattle.transcript_model.specs.declared.entry.Entry.{Entry}
 
 -- a further batch may come only where this one has some and isn't cut
-phase_repeats : (over : Phase) (cut : Bool) (real : ℕ) (entries : List dreams.Entry) (sent next : List Sent)
+phase_repeats : (over : Phase) (cut : Bool) (real : ℕ) (entries : List dreams.SupposedEntry) (sent next : List Sent)
     → is_repeated over ≡ false → is_repeated (phase_behind over cut real entries sent next) ≡ true
     → (cut ≡ false) × (phase_behind over cut real entries sent next ≡ repeated real entries (sent ++ next))
 phase_repeats over cut real entries sent [] not_over is = absurd (true≢false (sym is ∙ not_over))
@@ -160,7 +160,7 @@ module _ (pools : List Share) (workers : HaveWorkers pools) (calls : ℕ) (entri
             (omega (arith, made, ap length none.0, ap length none.1)) r.left moves.begins
 
     module _ (closed : HasNoneOpen entries) (left : asks_of entries ≤ calls) where
-      begins_here : (over : Phase) (a new : ModeAgenda) (needs : List dreams.Entry) (real : ℕ) → is_repeated over ≡ false
+      begins_here : (over : Phase) (a new : ModeAgenda) (needs : List dreams.SupposedEntry) (real : ℕ) → is_repeated over ≡ false
           → MovesOn task known notes [] pools over calls (with_run a needs real (length entries) (asks_of entries)) new
           → KeepsRun calls entries new
       begins_here over a new needs real not_over m =
@@ -169,7 +169,7 @@ module _ (pools : List Share) (workers : HaveWorkers pools) (calls : ℕ) (entri
           (subst HasNoneOpen (sym whole) closed) (ap asks_of (sym whole)) (omega arith) (omega (arith, left)) m.begins
 
       -- the batches of a dream begin, whose line is the last entry
-      pub run_followed : (a new : ModeAgenda) (needs : List dreams.Entry) (real : ℕ)
+      pub run_followed : (a new : ModeAgenda) (needs : List dreams.SupposedEntry) (real : ℕ)
           → MovesOn task known notes [] pools resting calls (with_run a needs real (length entries) (asks_of entries)) new
           → KeepsRun calls entries new
       run_followed a new needs real m = begins_here resting a new needs real refl m

@@ -4,15 +4,15 @@ use Rattle.std.proofs.lemmas.Bool.{and_parts}
 use Rattle.std.proofs.lemmas.List.{append-nil, length-map}
 use Rattle.dream_asks.specs.Noting.{WereMade}
 use Rattle.dream_asks.specs.Progress.{numbered}
-use Rattle.instance_queue.specs.Level.{instances_of}
+use Rattle.instance_queue.specs.Level.{due_instances}
 use Rattle.instance_queue.specs.declared.due.Due.{Due}
 use Rattle.lemmas.proofs.Bools.{zero_and_not}
 use Rattle.level_course.specs.Agendas.{Agenda, place_in}
 use Rattle.level_course.specs.Courses.{Opens}
 use Rattle.mode_course.proofs.MovesLemmas.{nexts_made, runs_made, starts_open}
 use Rattle.mode_course.proofs.OpensLemmas.{opens_at}
-use Rattle.mode_course.specs.Agendas.{Begins, HasPicked, ModeAgenda, MovesOn, is_dreamt, is_over, is_resting, is_undreamt, mode_place_in, with_run}
-use Rattle.mode_course.specs.Places.{Awaits, AwaitsLine, AwaitsPick, HasNoneToPick, IsBehindDream, IsDreamStep, IsFallbackStep, IsLevelStep, IsNoneStep, IsPickStep, IsResetStep, IsRetireStep, MayDream, Phase, Place, RunsNext, RunsOnce, asked_first, awaits_line, dreamt, forgetting, joining, keeping, phase_behind, picking, repeated, resting, sent_first, unasked, undreamt}
+use Rattle.mode_course.specs.Agendas.{BeginsBatch, HasPicked, ModeAgenda, MovesOn, is_dreamt, is_over, is_resting, is_undreamt, mode_place_in, with_run}
+use Rattle.mode_course.specs.Places.{AwaitsPhase, AwaitsLine, AwaitsPick, HasNoneToPick, IsBehindDream, IsDreamStep, IsFallbackStep, IsLevelStep, IsNoneStep, IsPickStep, IsResetStep, IsRetireStep, MayDream, Phase, ModePlace, RunsNext, RunsOnce, asked_first, awaits_line, dreamt, forgetting, joining, keeping, phase_behind, picking, repeated, resting, sent_first, unasked, undreamt}
 use Rattle.mode_course.specs.Running.{asking, sent_of}
 use Rattle.pools.specs.Pools.{HaveWorkers}
 use Rattle.task_model.specs.Dreams as dreams
@@ -64,22 +64,22 @@ place_same task xs ys b none =
 
 -- the tests of the code
 module _ (task : Task) (entries : List Entry) (a : ModeAgenda) where
-  pub awaits_where : (phase : Phase) → is_over a.batch ≡ true → a.phase ≡ phase → Awaits (mode_place_in task entries a) phase
+  pub awaits_where : (phase : Phase) → is_over a.batch ≡ true → a.phase ≡ phase → AwaitsPhase (mode_place_in task entries a) phase
   awaits_where phase over is =
       let parts = zero_and_not a.batch.answers a.batch.is_cut over in
       record { phase_is = is; answered = parts.0; uncut = parts.1 }
 
-  pub between_awaits : (is_over a.batch && is_resting a.phase) ≡ true → Awaits (mode_place_in task entries a) resting
+  pub between_awaits : (is_over a.batch && is_resting a.phase) ≡ true → AwaitsPhase (mode_place_in task entries a) resting
   between_awaits e =
       let parts = and_parts (is_over a.batch) (is_resting a.phase) e in
       awaits_where resting parts.0 (resting_is a.phase parts.1)
 
-  pub undreamt_awaits : (is_over a.batch && is_undreamt a.phase) ≡ true → Awaits (mode_place_in task entries a) undreamt
+  pub undreamt_awaits : (is_over a.batch && is_undreamt a.phase) ≡ true → AwaitsPhase (mode_place_in task entries a) undreamt
   undreamt_awaits e =
       let parts = and_parts (is_over a.batch) (is_undreamt a.phase) e in
       awaits_where undreamt parts.0 (undreamt_is a.phase parts.1)
 
-  pub dreamt_awaits : (is_over a.batch && is_dreamt a.phase) ≡ true → Awaits (mode_place_in task entries a) dreamt
+  pub dreamt_awaits : (is_over a.batch && is_dreamt a.phase) ≡ true → AwaitsPhase (mode_place_in task entries a) dreamt
   dreamt_awaits e =
       let parts = and_parts (is_over a.batch) (is_dreamt a.phase) e in
       awaits_where dreamt parts.0 (dreamt_is a.phase parts.1)
@@ -91,11 +91,11 @@ module _ (task : Task) (entries : List Entry) (a : ModeAgenda) where
       record { line = parts.1; answered = over.0; uncut = over.1 }
 
 module _ (limits : Limits) (task : Task) (entries : List Entry) (a new : ModeAgenda) where
-  abbrev pub here : Place
+  abbrev pub here : ModePlace
   here = mode_place_in task entries a
 
   -- where the entry leads
-  abbrev pub there : Entry → Place
+  abbrev pub there : Entry → ModePlace
   there e = mode_place_in task (entries ++ e ∷ []) new
 
   -- ---- lines behind which no batch begins
@@ -117,7 +117,7 @@ module _ (limits : Limits) (task : Task) (entries : List Entry) (a new : ModeAge
         after_is = λ i. record { batch = same i; phase = phase i; kept = kept i };
       }
 
-  pub reset_made : a.batch.to_ask ≡ [] → Awaits here undreamt → HasNoneToPick limits.mode a.kept → 0 < length a.kept.tried
+  pub reset_made : a.batch.to_ask ≡ [] → AwaitsPhase here undreamt → HasNoneToPick limits.mode a.kept → 0 < length a.kept.tried
       → new.batch ≡ a.batch → new.phase ≡ resting → new.kept ≡ forgetting a.kept
       → IsResetStep limits here entry.Reset (there entry.Reset)
   reset_made idle awaits none_left tried batch phase kept =
@@ -132,7 +132,7 @@ module _ (limits : Limits) (task : Task) (entries : List Entry) (a new : ModeAge
 
   -- the dream becomes the last skeleton
   pub keep_made : limits.mode ≡ Adaptive → a.batch.to_ask ≡ [] → (uses : List DreamUse) (steps : List Call)
-      → (needs : List dreams.Entry) → MayDream limits task entries here
+      → (needs : List dreams.SupposedEntry) → MayDream limits task entries here
       → IsDreamAfter limits task entries a.kept.tried uses steps needs → new.batch ≡ a.batch → new.phase ≡ dreamt
       → new.kept ≡ keeping a.kept needs (length (names_of task entries))
       → IsDreamStep limits task entries here (entry.Dream uses steps) (there (entry.Dream uses steps))
@@ -154,7 +154,7 @@ module _ (limits : Limits) (task : Task) (entries : List Entry) (a new : ModeAge
       }
 
   -- nothing was asked of the skeleton
-  pub retire_made : a.batch.to_ask ≡ [] → (place : ℕ) → Awaits here (unasked place) → new.batch ≡ a.batch
+  pub retire_made : a.batch.to_ask ≡ [] → (place : ℕ) → AwaitsPhase here (unasked place) → new.batch ≡ a.batch
       → new.phase ≡ resting → new.kept ≡ a.kept
       → IsRetireStep here (entry.Retire (place + 1)) (there (entry.Retire (place + 1)))
   retire_made idle place awaits batch phase kept =
@@ -169,21 +169,21 @@ module _ (limits : Limits) (task : Task) (entries : List Entry) (a new : ModeAge
   -- ---- lines behind which a batch begins
 
   module _ (workers : HaveWorkers limits.pools) (dues : List Due) where
-    begun_opens : (e : Entry) (kept : Kept) → is_ask e ≡ false → Begins limits.pools dues (asks_of entries) limits.calls kept new
-        → Opens limits task (entries ++ e ∷ []) (take (calls_left limits entries) (instances_of dues))
-        (is_cut limits entries (instances_of dues)) (place_in task (entries ++ e ∷ []) new.batch)
+    begun_opens : (e : Entry) (kept : Kept) → is_ask e ≡ false → BeginsBatch limits.pools dues (asks_of entries) limits.calls kept new
+        → Opens limits task (entries ++ e ∷ []) (take (calls_left limits entries) (due_instances dues))
+        (is_cut limits entries (due_instances dues)) (place_in task (entries ++ e ∷ []) new.batch)
     begun_opens e kept mark begins =
-        let list = take (calls_left limits entries) (instances_of dues) in
+        let list = take (calls_left limits entries) (due_instances dues) in
         let number : asks_of entries + 1 ≡ asks_of (entries ++ e ∷ []) + 1 =
         ap (λ n. n + 1) (sym (asks_marked entries e mark)) in
-        let cut : nat_lt (limits.calls - asks_of entries) (length dues) ≡ is_cut limits entries (instances_of dues) =
+        let cut : nat_lt (limits.calls - asks_of entries) (length dues) ≡ is_cut limits entries (due_instances dues) =
         ap (nat_lt (limits.calls - asks_of entries)) (sym (length-map dues (λ (d : Due). d.instance))) in
         subst (λ (b : Bool). Opens limits task (entries ++ e ∷ []) list b (place_in task (entries ++ e ∷ []) new.batch)) cut
         (starts_open limits task (entries ++ e ∷ []) list (asks_of entries + 1)
         (nat_lt (limits.calls - asks_of entries) (length dues)) new.batch workers number begins.batch)
 
-    pub level_made : limits.mode ≡ Incremental → Awaits here resting → (may : MayBegin limits task entries)
-        → instances_of dues ≡ may.list → Begins limits.pools dues (asks_of entries) limits.calls a.kept new
+    pub level_made : limits.mode ≡ Incremental → AwaitsPhase here resting → (may : MayBegin limits task entries)
+        → due_instances dues ≡ may.list → BeginsBatch limits.pools dues (asks_of entries) limits.calls a.kept new
         → IsLevelStep limits task entries here entry.Level (there entry.Level)
     level_made mode awaits may lists begins =
         record {
@@ -206,9 +206,9 @@ module _ (limits : Limits) (task : Task) (entries : List Entry) (a new : ModeAge
           };
         }
 
-    pub fallback_made : Awaits here undreamt → HasNoneToPick limits.mode a.kept → a.kept.tried ≡ []
-        → AreDue task (known_of task entries) (notes_of task entries) (instances_of dues)
-        → Begins limits.pools dues (asks_of entries) limits.calls a.kept new
+    pub fallback_made : AwaitsPhase here undreamt → HasNoneToPick limits.mode a.kept → a.kept.tried ≡ []
+        → AreDue task (known_of task entries) (notes_of task entries) (due_instances dues)
+        → BeginsBatch limits.pools dues (asks_of entries) limits.calls a.kept new
         → IsFallbackStep limits task entries here entry.Level (there entry.Level)
     fallback_made awaits none_left untried due begins =
         record {
@@ -216,7 +216,7 @@ module _ (limits : Limits) (task : Task) (entries : List Entry) (a new : ModeAge
           no_skeleton = none_left;
           untried = untried;
           is = refl;
-          list = instances_of dues;
+          list = due_instances dues;
           due = due;
           batch = place_in task (entries ++ entry.Level ∷ []) new.batch;
           opens = begun_opens entry.Level a.kept refl begins;
@@ -228,13 +228,13 @@ module _ (limits : Limits) (task : Task) (entries : List Entry) (a new : ModeAge
         }
 
     -- the one batch of a dream
-    pub dream_made : limits.mode ≡ Focused → (uses : List DreamUse) (steps : List Call) (needs : List dreams.Entry)
+    pub dream_made : limits.mode ≡ Focused → (uses : List DreamUse) (steps : List Call) (needs : List dreams.SupposedEntry)
         → MayDream limits task entries here
         → IsDreamAfter limits task entries a.kept.tried uses steps needs
-        → instances_of dues
+        → due_instances dues
         ≡ sent_instances (sent_first task (length (names_of task entries)) (entries ++ entry.Dream uses steps ∷ []) needs)
-        → Begins limits.pools dues (asks_of entries) limits.calls
-        (joining a.kept (take (limits.calls - asks_of entries) (instances_of dues))) new
+        → BeginsBatch limits.pools dues (asks_of entries) limits.calls
+        (joining a.kept (take (limits.calls - asks_of entries) (due_instances dues))) new
         → IsDreamStep limits task entries here (entry.Dream uses steps) (there (entry.Dream uses steps))
     dream_made mode uses steps needs may dream same begins =
         let line = entry.Dream uses steps in
@@ -242,19 +242,19 @@ module _ (limits : Limits) (task : Task) (entries : List Entry) (a new : ModeAge
         let real = length (names_of task entries) in
         let firsts = sent_first task real marked needs in
         let counted : asks_of entries ≡ asks_of marked = sym (asks_marked entries line refl) in
-        let asked : take (calls_left limits entries) (instances_of dues) ≡ asked_first limits task real marked needs =
+        let asked : take (calls_left limits entries) (due_instances dues) ≡ asked_first limits task real marked needs =
         λ i. take (limits.calls - counted i) (same i) in
-        let long : length (instances_of dues) ≡ length firsts = ap length same ∙ length-map firsts (λ (s : Sent). s.instance) in
-        let cuts : is_cut limits entries (instances_of dues) ≡ is_cut limits marked firsts =
+        let long : length (due_instances dues) ≡ length firsts = ap length same ∙ length-map firsts (λ (s : Sent). s.instance) in
+        let cuts : is_cut limits entries (due_instances dues) ≡ is_cut limits marked firsts =
         λ i. nat_lt (limits.calls - counted i) (long i) in
-        let kept = joining a.kept (take (calls_left limits entries) (instances_of dues)) in
+        let kept = joining a.kept (take (calls_left limits entries) (due_instances dues)) in
         let keeps : new.kept ≡ joining a.kept (asked_first limits task real marked needs) =
         begins.kept_is ∙ ap (joining a.kept) asked in
         let once : RunsOnce limits task real marked needs a.kept (there line) =
         record {
           batch = place_in task marked new.batch;
-          opens = opens_at limits task marked (take (calls_left limits entries) (instances_of dues))
-              (asked_first limits task real marked needs) (is_cut limits entries (instances_of dues)) (is_cut limits marked firsts)
+          opens = opens_at limits task marked (take (calls_left limits entries) (due_instances dues))
+              (asked_first limits task real marked needs) (is_cut limits entries (due_instances dues)) (is_cut limits marked firsts)
               (place_in task marked new.batch) asked cuts (begun_opens line kept refl begins);
           after_is = λ i. record {
             batch = place_in task marked new.batch;
@@ -278,7 +278,7 @@ module _ (limits : Limits) (task : Task) (entries : List Entry) (a new : ModeAge
     -- the batch behind the line, of which nothing was asked yet
     module _ (e : Entry) (legal : IsLegal version task (entries ++ e ∷ [])) (closed : HasNoneOpen (entries ++ e ∷ []))
         (known_is : known ≡ known_of task (entries ++ e ∷ [])) (notes_is : notes ≡ notes_of task (entries ++ e ∷ []))
-        (over : Phase) (needs : List dreams.Entry) (real from before : ℕ) (counted : before ≡ asks_of (entries ++ e ∷ []))
+        (over : Phase) (needs : List dreams.SupposedEntry) (real from before : ℕ) (counted : before ≡ asks_of (entries ++ e ∷ []))
         (middle : ModeAgenda)
         (m : MovesOn task known notes [] limits.pools over limits.calls (with_run a needs real from before) middle) where
       abbrev marked : List Entry
@@ -319,7 +319,7 @@ module _ (limits : Limits) (task : Task) (entries : List Entry) (a new : ModeAge
           ∙ ap (λ es. sent_first task real es needs) whole
 
     -- a dream's line
-    pub run_made : limits.mode ≡ Binding → (uses : List DreamUse) (steps : List Call) (needs : List dreams.Entry)
+    pub run_made : limits.mode ≡ Binding → (uses : List DreamUse) (steps : List Call) (needs : List dreams.SupposedEntry)
         → MayDream limits task entries here → IsDreamAfter limits task entries a.kept.tried uses steps needs
         → IsLegal version task (entries ++ entry.Dream uses steps ∷ []) → HasNoneOpen (entries ++ entry.Dream uses steps ∷ [])
         → known ≡ known_of task (entries ++ entry.Dream uses steps ∷ [])
@@ -360,13 +360,13 @@ module _ (limits : Limits) (task : Task) (entries : List Entry) (a new : ModeAge
         let sent : sent_of new.run ≡ firsts =
         ap sent_of (h.run_is ∙ h.moves.begins.run_is)
         ∙ first_sent line legal closed known_is notes_is (unasked place) s.entries s.real from before counted h.middle h.moves in
-        let middle_kept : h.middle.kept ≡ joining a.kept asked = ap (λ (x : Place). x.kept) runs.after_is in
+        let middle_kept : h.middle.kept ≡ joining a.kept asked = ap (λ (x : ModePlace). x.kept) runs.after_is in
         let kept : new.kept ≡ joining (picking a.kept place s firsts) asked =
         h.kept_is ∙ (λ i. picking (middle_kept i) place s (sent i)) in
         let batch : place_in task marked new.batch ≡ runs.batch =
-        ap (place_in task marked) h.batch_is ∙ ap (λ (x : Place). x.batch) runs.after_is in
+        ap (place_in task marked) h.batch_is ∙ ap (λ (x : ModePlace). x.batch) runs.after_is in
         let phase : new.phase ≡ phase_behind (unasked place) own s.real s.entries [] firsts =
-        h.phase_is ∙ ap (λ (x : Place). x.phase) runs.after_is in
+        h.phase_is ∙ ap (λ (x : ModePlace). x.phase) runs.after_is in
         record {
           mode = mode;
           awaits = awaits;

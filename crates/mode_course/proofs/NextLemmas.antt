@@ -5,10 +5,10 @@ use Rattle.std.proofs.lemmas.List.{append-nil, length-map}
 use Rattle.dream_asks.specs.Next.{AreDuesOf, asked_instances}
 use Rattle.dream_asks.specs.Progress.{numbered}
 use Rattle.dream_asks.specs.declared.asks.DreamAsk.{DreamAsk}
-use Rattle.instance_queue.specs.Level.{instances_of}
+use Rattle.instance_queue.specs.Level.{due_instances}
 use Rattle.instance_queue.specs.declared.due.Due.{Due}
 use Rattle.level_course.specs.Agendas.{Starts}
-use Rattle.mode_course.specs.Agendas.{Begins, ModeAgenda, MovesOn, left_behind, phase_of, shown}
+use Rattle.mode_course.specs.Agendas.{BeginsBatch, ModeAgenda, MovesOn, left_behind, phase_of, shown_mode}
 use Rattle.mode_course.specs.Places.{Phase, joining, phase_behind, repeated, resting}
 use Rattle.mode_course.specs.Running.{AreNextOf, Run, asking, made_by, run_of, sent_of}
 use Rattle.mode_course.specs.declared.course.ModeCourse.TheInside.{Inside}
@@ -93,10 +93,10 @@ module _ (task : Task) (known : Known) (notes : List Note) (behind : List Entry)
   run = run_of s.run
 
   pub next_moves : AreNextOf task known notes run behind asks → AreDuesOf notes asks dues → before ≡ made_by run
-      → Begins pools dues before calls (joining (shown s).kept (take (calls - before) (instances_of dues))) (shown t)
+      → BeginsBatch pools dues before calls (joining (shown_mode s).kept (take (calls - before) (due_instances dues))) (shown_mode t)
       → run_of t.run ≡ run → run_of r ≡ asking (run_of x.run) asks → IsSet over (run_of t.run) asks (calls - before) f
-      → MovesOn task known notes behind pools (phase_of over run) calls (shown s)
-      (shown (record { batch = x.batch; phase = x.phase; tried = x.tried; skeletons = x.skeletons; run = r; alloc = x.alloc }))
+      → MovesOn task known notes behind pools (phase_of over run) calls (shown_mode s)
+      (shown_mode (record { batch = x.batch; phase = x.phase; tried = x.tried; skeletons = x.skeletons; run = r; alloc = x.alloc }))
   next_moves next of counted begins same run_is set =
       let long : length dues ≡ length asks =
       sym (length-map dues (λ (d : Due). d.instance)) ∙ ap length of.instances ∙ length-map asks (λ (a : DreamAsk). a.instance) in
@@ -122,9 +122,9 @@ module _ (task : Task) (known : Known) (notes : List Note) (behind : List Entry)
               ∙ ap (phase_of f) runs
               ∙ phase_set over run (left_behind calls run) f asks set_here;
           kept_is =
-              ap (λ (y : Inside). (shown y).kept) x_is
+              ap (λ (y : Inside). (shown_mode y).kept) x_is
               ∙ begins.kept_is
-              ∙ (λ i. joining (shown s).kept (take (calls - counted i) (of.instances i)));
+              ∙ (λ i. joining (shown_mode s).kept (take (calls - counted i) (of.instances i)));
           run_is = runs;
         };
       }

@@ -7,8 +7,8 @@ use Rattle.mode_course.proofs.OpensLemmas.{AreRun}
 use Rattle.mode_course.proofs.RunPartsLemmas.{RunParts, rest_stays, run_cut, run_over, run_parts, run_still}
 use Rattle.mode_course.proofs.RunsLemmas.{at_rest}
 use Rattle.mode_course.proofs.StepsLemmas.{nothing_more}
-use Rattle.mode_course.specs.Laws.{IsAt}
-use Rattle.mode_course.specs.Places.{Awaits, IsCutOff, IsLevelStep, LeadsOn, Place, RunsNext, joining, resting, with_batch}
+use Rattle.mode_course.specs.Laws.{IsPlaceAt}
+use Rattle.mode_course.specs.Places.{AwaitsPhase, IsCutOff, IsLevelStep, LeadsOn, ModePlace, RunsNext, joining, resting, with_batch}
 use Rattle.mode_turns.specs.Modes.{TurnOf}
 use Rattle.task_model.specs.Dreams as dreams
 use Rattle.task_model.specs.Streams.{AreDue}
@@ -24,15 +24,15 @@ use Rattle.transcript_model.specs.declared.entry.Entry.TheVariants as entry
 use Rattle.transcript_model.specs.declared.head.Mode.{Mode}
 
 -- the entries are turns up to where they lead
-pub record Turned (limits : Limits) (task : Task) (k : Kept) (before es : List Entry) (q : Place) : Type 0 where
+pub record Turned (limits : Limits) (task : Task) (k : Kept) (before es : List Entry) (q : ModePlace) : Type 0 where
   pub stage : Stage
-  pub at : IsAt q stage
+  pub at : IsPlaceAt q stage
   pub turns : AreTurns limits task (TurnOf limits.mode limits task) k before es stage
 
 -- that shorter lists of entries from later places on are turns
 abbrev pub Shorter : Limits → Task → ℕ → Type 0
 Shorter limits task n =
-    (before es : List Entry) (p q : Place) → length es ≤ n → Awaits p resting → LeadsOn limits task p before es q
+    (before es : List Entry) (p q : ModePlace) → length es ≤ n → AwaitsPhase p resting → LeadsOn limits task p before es q
     → Turned limits task p.kept before es q
 
 -- ---- a level's line and what is asked behind it
@@ -58,14 +58,14 @@ level_of limits task before now list due run =
     }
 
 -- turns that begin with an entry that is known
-pub as_it_is : (limits : Limits) (task : Task) (k : Kept) (before es : List Entry) (e x : Entry) (m p q : Place) → e ≡ x → m ≡ p
+pub as_it_is : (limits : Limits) (task : Task) (k : Kept) (before es : List Entry) (e x : Entry) (m p q : ModePlace) → e ≡ x → m ≡ p
     → LeadsOn limits task m (before ++ e ∷ []) es q
     → (LeadsOn limits task p (before ++ x ∷ []) es q → Turned limits task k before (x ∷ es) q)
     → Turned limits task k before (e ∷ es) q
 as_it_is limits task k before es e x m p q is same leads onward =
     subst (λ (y : Entry). Turned limits task k before (y ∷ es) q) (sym is)
     (onward (subst (λ (y : Entry). LeadsOn limits task p (before ++ y ∷ []) es q) is
-    (subst (λ (r : Place). LeadsOn limits task r (before ++ e ∷ []) es q) same leads)))
+    (subst (λ (r : ModePlace). LeadsOn limits task r (before ++ e ∷ []) es q) same leads)))
 
 -- ---- a turn whose last part is a batch
 
@@ -76,10 +76,10 @@ module _ (limits : Limits) (task : Task) (workers : All (λ (s : Share). 1 ≤ s
       (turn : (now : List Entry) → AreRun limits task (before ++ head) list now
       → TurnOf limits.mode limits task k before (head ++ now) next cut) where
     -- behind the head
-    abbrev begun : Place
+    abbrev begun : ModePlace
     begun = record { batch = c; phase = resting; kept = next }
 
-    over_turned : (es now rest : List Entry) (m : Course) (q : Place) (b : Bool) → cut ≡ b → length es ≤ n
+    over_turned : (es now rest : List Entry) (m : Course) (q : ModePlace) (b : Bool) → cut ≡ b → length es ≤ n
         → es ≡ now ++ rest → AreRun limits task (before ++ head) list now → m.answers ≡ 0 → m.is_cut ≡ cut
         → LeadsOn limits task (with_batch begun m) ((before ++ head) ++ now) rest q → Turned limits task k before (head ++ es) q
     over_turned es now rest m q false uncut few is run none same later =
@@ -107,7 +107,7 @@ module _ (limits : Limits) (task : Task) (workers : All (λ (s : Share). 1 ≤ s
               (cut_off next may this);
         }
 
-    pub batch_turned : (es : List Entry) (q : Place) → length es ≤ n → LeadsOn limits task begun (before ++ head) es q
+    pub batch_turned : (es : List Entry) (q : ModePlace) → length es ≤ n → LeadsOn limits task begun (before ++ head) es q
         → Turned limits task k before (head ++ es) q
     batch_turned es q few leads = by (parts limits task begun (before ++ head) es q c.answers (inr refl) refl leads)
       where
@@ -116,7 +116,7 @@ module _ (limits : Limits) (task : Task) (workers : All (λ (s : Share). 1 ≤ s
             let r = over_run limits task workers (before ++ head) list cut c opens now m run none in
             let same = rest_stays limits task (with_batch begun m) after ((before ++ head) ++ now) refl settles in
             over_turned es now rest m q cut refl few is r.0 none r.1
-            (subst (λ (x : Place). LeadsOn limits task x ((before ++ head) ++ now) rest q) same later)
+            (subst (λ (x : ModePlace). LeadsOn limits task x ((before ++ head) ++ now) rest q) same later)
         by (still run some) =
             let r = still_run limits task workers (before ++ head) list cut c opens es q.batch run some in
             record {
@@ -130,12 +130,12 @@ module _ (limits : Limits) (task : Task) (workers : All (λ (s : Share). 1 ≤ s
   -- ---- a turn whose last part are the batches of a dream
 
   module _ (k : Kept) (before head : List Entry) (may : MayBegin limits task before) (real : ℕ)
-      (entries : List dreams.Entry) (base : Kept) (p : Place)
+      (entries : List dreams.SupposedEntry) (base : Kept) (p : ModePlace)
       (r : RunsNext limits task resting real (before ++ head) entries [] (joining base []) p)
       (turn : (now : List Entry) (after : List Sent) (cut : Bool)
       → AreBatches limits task real entries [] (before ++ head) now after cut
       → TurnOf limits.mode limits task k before (head ++ now) (joining base (sent_instances after)) cut) where
-    pub run_turned : (es : List Entry) (q : Place) → length es ≤ n → LeadsOn limits task p (before ++ head) es q
+    pub run_turned : (es : List Entry) (q : ModePlace) → length es ≤ n → LeadsOn limits task p (before ++ head) es q
         → Turned limits task k before (head ++ es) q
     run_turned es q few leads =
         by (run_parts limits task real entries base workers (suc n) [] (before ++ head) es p q (omega (arith, few)) r leads)
@@ -171,7 +171,7 @@ module _ (limits : Limits) (task : Task) (workers : All (λ (s : Share). 1 ≤ s
 
   -- ---- a level
 
-  pub level_turned : (before es : List Entry) (e : Entry) (p m q : Place) → length es ≤ n
+  pub level_turned : (before es : List Entry) (e : Entry) (p m q : ModePlace) → length es ≤ n
       → IsLevelStep limits task before p e m → LeadsOn limits task m (before ++ e ∷ []) es q
       → Turned limits task p.kept before (e ∷ es) q
   level_turned before es e p m q few s leads =

@@ -7,7 +7,7 @@ use Rattle.mode_course.proofs.PartTurnedLemmas.{Shorter, Turned, run_turned}
 use Rattle.mode_course.proofs.PicksLemmas.{given_alike, no_line, runs_any}
 use Rattle.mode_course.proofs.RunsLemmas.{at_rest, opens_none}
 use Rattle.mode_course.proofs.StepsLemmas.{awaits_two, pick_unasked, rest_unasked, still_open, undreamt_unasked}
-use Rattle.mode_course.specs.Places.{Awaits, AwaitsLine, AwaitsPick, IsPickStep, IsRetireStep, LeadsOn, Place, RunsNext, asked_first, awaits_line, begins_level, falls_back, goes_on, joining, phase_behind, picking, picks, resets, resting, retires, sent_first, tells_dream, tells_none, unasked, undreamt}
+use Rattle.mode_course.specs.Places.{AwaitsPhase, AwaitsLine, AwaitsPick, IsPickStep, IsRetireStep, LeadsOn, ModePlace, RunsNext, asked_first, awaits_line, begins_level, falls_back, goes_on, joining, phase_behind, picking, picks, resets, resting, retires, sent_first, tells_dream, tells_none, unasked, undreamt}
 use Rattle.mode_turns.proofs.BatchesLemmas.{batches_ask, batches_end}
 use Rattle.mode_turns.specs.Modes.{TurnOf}
 use Rattle.skeletons.proofs.SkeletonLemmas.{best_better, best_first, best_kept, best_nothing, best_passed}
@@ -88,17 +88,17 @@ pick_exists limits task k before workers some = let best = best_of [] k.skeleton
 -- ---- turns whose last part is a pick
 
 -- where a skeleton is to be picked, a line comes
-line_comes : (p : Place) → AwaitsPick p → AwaitsLine p
+line_comes : (p : ModePlace) → AwaitsPick p → AwaitsLine p
 line_comes p (inl a) = record { line = ap awaits_line a.phase_is; answered = a.answered; uncut = a.uncut }
 line_comes p (inr a) = record { line = ap awaits_line a.phase_is; answered = a.answered; uncut = a.uncut }
 
 module _ (limits : Limits) (task : Task) (workers : All (λ (s : Share). 1 ≤ s.workers) limits.pools) (n : ℕ)
     (shorter : Shorter limits task n) where
-  module _ (k : Kept) (before head : List Entry) (may : MayBegin limits task before) (p : Place)
+  module _ (k : Kept) (before head : List Entry) (may : MayBegin limits task before) (p : ModePlace)
       (turn : (now : List Entry) (next : Kept) (cut : Bool) → IsPickTurn limits task p.kept (before ++ head) now next cut
       → TurnOf limits.mode limits task k before (head ++ now) next cut) where
     -- the entries stop before the line
-    pub pick_stops : (q : Place) → AwaitsPick p → ¬ (AreGivenUp p.kept.skeletons) → p ≡ q
+    pub pick_stops : (q : ModePlace) → AwaitsPick p → ¬ (AreGivenUp p.kept.skeletons) → p ≡ q
         → Turned limits task k before head q
     pick_stops q awaits some is =
         let c = pick_exists limits task p.kept (before ++ head) workers some in
@@ -108,7 +108,7 @@ module _ (limits : Limits) (task : Task) (workers : All (λ (s : Share). 1 ≤ s
           turns = stopped c.next c.now c.cut may (turn c.now c.next c.cut c.turn);
         }
 
-    module _ (x : Entry) (r : Place) (t : IsPickStep limits task (before ++ head) p x r) where
+    module _ (x : Entry) (r : ModePlace) (t : IsPickStep limits task (before ++ head) p x r) where
       abbrev line : Entry
       line = entry.Pick (t.place + 1)
 
@@ -172,7 +172,7 @@ module _ (limits : Limits) (task : Task) (workers : All (λ (s : Share). 1 ≤ s
           (subst (λ (next : Kept). TurnOf limits.mode limits task k before
           (head ++ (line ∷ now ++ retiring (t.place + 1) after)) next cut) kept (pick_turn now after cut run))
 
-      asks_turned : asks_of (before ++ head) < limits.calls → 0 < length firsts → (es : List Entry) (q : Place)
+      asks_turned : asks_of (before ++ head) < limits.calls → 0 < length firsts → (es : List Entry) (q : ModePlace)
           → length es ≤ n → LeadsOn limits task r marked es q → Turned limits task k before (head ++ line ∷ es) q
       asks_turned left some es q few leads =
           let real = t.skeleton.real in
@@ -204,7 +204,7 @@ module _ (limits : Limits) (task : Task) (workers : All (λ (s : Share). 1 ≤ s
         stands = opens_none limits task t.skeleton.real marked t.skeleton.entries [] t.runs.batch t.runs.opens none
 
         -- behind the line
-        abbrev behind : Place
+        abbrev behind : ModePlace
         behind = record { batch = t.runs.batch; phase = unasked t.place; kept = kept_with [] }
 
         behind_is : r ≡ behind
@@ -222,10 +222,10 @@ module _ (limits : Limits) (task : Task) (workers : All (λ (s : Share). 1 ≤ s
               };
             })
 
-        waits : Awaits behind (unasked t.place)
+        waits : AwaitsPhase behind (unasked t.place)
         waits = record { phase_is = refl; answered = stands.1; uncut = stands.2 }
 
-        retired_turned : (es : List Entry) (y : Entry) (m q : Place) → length es ≤ n → IsRetireStep behind y m
+        retired_turned : (es : List Entry) (y : Entry) (m q : ModePlace) → length es ≤ n → IsRetireStep behind y m
             → LeadsOn limits task m (marked ++ y ∷ []) es q → Turned limits task k before (head ++ line ∷ y ∷ es) q
         retired_turned es y m q few u leads =
             let same : unasked u.place ≡ unasked t.place = sym u.awaits.phase_is in
@@ -237,7 +237,7 @@ module _ (limits : Limits) (task : Task) (workers : All (λ (s : Share). 1 ≤ s
             let later : LeadsOn limits task after (before ++ (head ++ line ∷ end ∷ [])) es q =
             subst (λ xs. LeadsOn limits task after xs es q) joined
             (subst (λ (z : Entry). LeadsOn limits task after (marked ++ z ∷ []) es q) is
-            (subst (λ (z : Place). LeadsOn limits task z (marked ++ y ∷ []) es q) u.after_is leads)) in
+            (subst (λ (z : ModePlace). LeadsOn limits task z (marked ++ y ∷ []) es q) u.after_is leads)) in
             let rest = shorter (before ++ (head ++ line ∷ end ∷ [])) es after q few
             (record { phase_is = refl; answered = stands.1; uncut = stands.2 }) later in
             subst (λ (z : Entry). Turned limits task k before (head ++ line ∷ z ∷ es) q) (sym is)
@@ -248,7 +248,7 @@ module _ (limits : Limits) (task : Task) (workers : All (λ (s : Share). 1 ≤ s
                   (append_assoc head (line ∷ end ∷ []) es) (whole (kept_with []) may given_turn rest.turns);
             })
 
-        given_turned : (es : List Entry) (q : Place) → length es ≤ n → LeadsOn limits task behind marked es q
+        given_turned : (es : List Entry) (q : ModePlace) → length es ≤ n → LeadsOn limits task behind marked es q
             → Turned limits task k before (head ++ line ∷ es) q
         given_turned [] q few leads = record {
           stage = inside;
@@ -274,13 +274,13 @@ module _ (limits : Limits) (task : Task) (workers : All (λ (s : Share). 1 ≤ s
 
       -- ---- the line
 
-      pub picks_turned : asks_of (before ++ head) < limits.calls → (es : List Entry) (q : Place) → length es ≤ n
+      pub picks_turned : asks_of (before ++ head) < limits.calls → (es : List Entry) (q : ModePlace) → length es ≤ n
           → LeadsOn limits task r ((before ++ head) ++ x ∷ []) es q → Turned limits task k before (head ++ x ∷ es) q
       picks_turned left es q few leads =
           subst (λ (y : Entry). Turned limits task k before (head ++ y ∷ es) q) (sym t.is)
           (by firsts refl (subst (λ (y : Entry). LeadsOn limits task r ((before ++ head) ++ y ∷ []) es q) t.is leads))
         where
           by : (l : List Sent) → firsts ≡ l → LeadsOn limits task r marked es q → Turned limits task k before (head ++ line ∷ es) q
-          by [] none on = given_turned none es q few (subst (λ (z : Place). LeadsOn limits task z marked es q) (behind_is none) on)
+          by [] none on = given_turned none es q few (subst (λ (z : ModePlace). LeadsOn limits task z marked es q) (behind_is none) on)
           by (s ∷ l) some on =
               asks_turned left (subst (λ (xs : List Sent). 0 < length xs) (sym some) (omega arith)) es q few on

@@ -3,7 +3,7 @@ use Rattle.std.proofs.Common.{◌≡◌, ℕ, ◌+◌, ◌-◌, ◌<◌, nat_lt,
 use Rattle.std.proofs.lemmas.Bool.{ltb-true}
 use Rattle.std.proofs.lemmas.List.{append-nil}
 use Rattle.mode_course.proofs.RunsLemmas.{LeadsTurn, at_rest, opens_none, phase_any, run_leads}
-use Rattle.mode_course.specs.Places.{AwaitsPick, Phase, Place, RunsNext, asked_first, joining, phase_behind, picking, picks, resting, retires, sent_first, sent_next, unasked}
+use Rattle.mode_course.specs.Places.{AwaitsPick, Phase, ModePlace, RunsNext, asked_first, joining, phase_behind, picking, picks, resting, retires, sent_first, sent_next, unasked}
 use Rattle.mode_turns.proofs.BatchesLemmas.{batches_ask}
 use Rattle.task_model.specs.Dreams as dreams
 use Rattle.task_model.specs.declared.task.Task.{Task}
@@ -32,7 +32,7 @@ not_cut n is = let less = ltb-true n 0 is in absurd (omega (arith, less))
 
 module _ (limits : Limits) (task : Task) where
   -- where nothing may be asked there is no batch
-  batches_none : (real : ℕ) (entries : List dreams.Entry) (before now : List Entry) (after : List Sent) (cut : Bool)
+  batches_none : (real : ℕ) (entries : List dreams.SupposedEntry) (before now : List Entry) (after : List Sent) (cut : Bool)
       → AreBatches limits task real entries [] before now after cut → sent_next task real before entries [] ≡ []
       → (now ≡ []) × (after ≡ []) × (cut ≡ false)
   batches_none real entries before now after cut (finished done) none = (refl, refl, refl)
@@ -43,8 +43,8 @@ module _ (limits : Limits) (task : Task) where
       let long = ap length (is ∙ none) in absurd (omega (arith, long, some))
 
   -- where something is asked, it doesn't matter what would come otherwise
-  pub runs_any : (over also : Phase) (real : ℕ) (before : List Entry) (entries : List dreams.Entry) (sent : List Sent) (k : Kept)
-      (p : Place) → 0 < length (sent_next task real before entries sent)
+  pub runs_any : (over also : Phase) (real : ℕ) (before : List Entry) (entries : List dreams.SupposedEntry) (sent : List Sent) (k : Kept)
+      (p : ModePlace) → 0 < length (sent_next task real before entries sent)
       → RunsNext limits task over real before entries sent k p → RunsNext limits task also real before entries sent k p
   runs_any over also real before entries sent k p some r =
       let next = sent_next task real before entries sent in
@@ -58,7 +58,7 @@ module _ (limits : Limits) (task : Task) where
         }) (phase_any over also (is_cut limits before next) real entries sent next some) r.after_is;
       }
 
-  module _ (p : Place) (before now : List Entry) (next : Kept) (cut : Bool) (mode : limits.mode ≡ Adaptive)
+  module _ (p : ModePlace) (before now : List Entry) (next : Kept) (cut : Bool) (mode : limits.mode ≡ Adaptive)
       (awaits : AwaitsPick p) (left : asks_of before < limits.calls) (t : IsPickTurn limits task p.kept before now next cut) where
     abbrev marked : List Entry
     marked = before ++ entry.Pick (t.place + 1) ∷ []
@@ -73,7 +73,7 @@ module _ (limits : Limits) (task : Task) where
     still_left = omega (arith, left, asks_marked before (entry.Pick (t.place + 1)) refl)
 
     -- behind the line of the pick
-    line_leads : (q : Place)
+    line_leads : (q : ModePlace)
         → RunsNext limits task (unasked t.place) t.skeleton.real marked t.skeleton.entries [] picked q
         → LeadsTurn limits task q marked (t.batches ++ retiring (t.place + 1) t.sent) next cut
         → LeadsTurn limits task p before now next cut
@@ -135,7 +135,7 @@ module _ (limits : Limits) (task : Task) where
         let stands = opens_none limits task real marked entries [] r.batch r.opens none in
         let phase : phase_behind (unasked t.place) own real entries [] firsts ≡ unasked t.place =
         ap (λ (l : List Sent). phase_behind (unasked t.place) own real entries [] l) none in
-        let q : Place = record { batch = r.batch; phase = unasked t.place; kept = joining picked list } in
+        let q : ModePlace = record { batch = r.batch; phase = unasked t.place; kept = joining picked list } in
         let lists : list ≡ sent_instances t.sent = stands.0 ∙ sym (ap sent_instances ends.1) in
         let same : joining picked list ≡ next =
         (λ i. record {

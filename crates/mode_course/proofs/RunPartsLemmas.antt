@@ -7,7 +7,7 @@ use Rattle.mode_course.proofs.BatchesLemmas.{Parts, only_batches, over, over_run
 use Rattle.mode_course.proofs.OpensLemmas.{AreRun}
 use Rattle.mode_course.proofs.RunsLemmas.{at_rest, opens_none, phase_cut, phase_more, phase_none}
 use Rattle.mode_course.proofs.StepsLemmas.{nothing_more}
-use Rattle.mode_course.specs.Places.{Awaits, IsCutOff, LeadsOn, Phase, Place, RunsNext, Settles, asked_next, is_repeated, joining, moves, repeated, resting, sent_next, stays, with_batch}
+use Rattle.mode_course.specs.Places.{AwaitsPhase, IsCutOff, LeadsOn, Phase, ModePlace, RunsNext, Settles, asked_next, is_repeated, joining, moves, repeated, resting, sent_next, stays, with_batch}
 use Rattle.mode_turns.proofs.BatchesLemmas.{batches_end}
 use Rattle.task_model.specs.Dreams as dreams
 use Rattle.task_model.specs.declared.stream.Instance.{Instance}
@@ -17,19 +17,19 @@ use Rattle.transcript_model.specs.Rounds.{IsBatch, Limits, Share, calls_left}
 use Rattle.transcript_model.specs.Turns.{AreBatches, Kept, finished, further, is_cut, last}
 use Rattle.transcript_model.specs.declared.entry.Entry.{Entry}
 
-rest_repeated : (real : ℕ) (entries : List dreams.Entry) (sent : List Sent) → resting ≡ repeated real entries sent → ⊥
+rest_repeated : (real : ℕ) (entries : List dreams.SupposedEntry) (sent : List Sent) → resting ≡ repeated real entries sent → ⊥
 rest_repeated real entries sent e = absurd (cc)
 
 module _ (limits : Limits) (task : Task) where
   -- where no batch comes by itself, the place stays
-  pub rest_stays : (p after : Place) (before : List Entry) → p.phase ≡ resting → Settles limits task before p after → after ≡ p
+  pub rest_stays : (p after : ModePlace) (before : List Entry) → p.phase ≡ resting → Settles limits task before p after → after ≡ p
   rest_stays p after before rests (stays s is) = is
   rest_stays p after before rests (moves real entries sent a r) =
       absurd (rest_repeated real entries sent (sym rests ∙ a.phase_is))
 
   -- where a batch of a dream is over, its next one begins
-  pub repeated_moves : (p after : Place) (before : List Entry) (real : ℕ) (entries : List dreams.Entry) (sent : List Sent)
-      → Awaits p (repeated real entries sent) → Settles limits task before p after
+  pub repeated_moves : (p after : ModePlace) (before : List Entry) (real : ℕ) (entries : List dreams.SupposedEntry) (sent : List Sent)
+      → AwaitsPhase p (repeated real entries sent) → Settles limits task before p after
       → RunsNext limits task resting real before entries sent p.kept after
   repeated_moves p after before real entries sent w (stays (inl some) is) =
       let none = w.answered in absurd (omega (arith, some, none))
@@ -41,13 +41,13 @@ module _ (limits : Limits) (task : Task) where
       let lists : others ≡ entries = cc in
       let sents : more ≡ sent = cc in
       subst (λ (n : ℕ). RunsNext limits task resting n before entries sent p.kept after) reals
-      (subst (λ (l : List dreams.Entry). RunsNext limits task resting also before l sent p.kept after) lists
+      (subst (λ (l : List dreams.SupposedEntry). RunsNext limits task resting also before l sent p.kept after) lists
       (subst (λ (l : List Sent). RunsNext limits task resting also before others l p.kept after) sents r))
 
-  module _ (real : ℕ) (entries : List dreams.Entry) (base : Kept) where
+  module _ (real : ℕ) (entries : List dreams.SupposedEntry) (base : Kept) where
     -- The entries run batches of the dream, of which these were asked: all of them, and others follow; all as far as calls
     -- are left; or they stop in them.
-    pub data RunParts (sent : List Sent) (before es : List Entry) (q : Place) : Type 0 where
+    pub data RunParts (sent : List Sent) (before es : List Entry) (q : ModePlace) : Type 0 where
       run_over : (now rest : List Entry) (after : List Sent) (end : Course) → es ≡ now ++ rest
           → AreBatches limits task real entries sent before now after false → end.answers ≡ 0 → end.is_cut ≡ false
           → LeadsOn limits task (at_rest end (joining base (sent_instances after))) (before ++ now) rest q
@@ -59,7 +59,7 @@ module _ (limits : Limits) (task : Task) where
           → RunParts sent before es q
 
     -- one batch in front
-    further_on : (sent next : List Sent) (before now rest es : List Entry) (q : Place) → es ≡ now ++ rest
+    further_on : (sent next : List Sent) (before now rest es : List Entry) (q : ModePlace) → es ≡ now ++ rest
         → next ≡ sent_next task real before entries sent → 0 < length next → is_cut limits before next ≡ false
         → IsBatch limits task before (sent_instances next) now → RunParts (sent ++ next) (before ++ now) rest q
         → RunParts sent before es q
@@ -83,11 +83,11 @@ module _ (limits : Limits) (task : Task) where
       -- that the batches of shorter lists of entries are parted so
       abbrev PartsShorter : ℕ → Type 0
       PartsShorter n =
-          (sent : List Sent) (before es : List Entry) (p q : Place) → length es < n
+          (sent : List Sent) (before es : List Entry) (p q : ModePlace) → length es < n
           → RunsNext limits task resting real before entries sent (joining base (sent_instances sent)) p
           → LeadsOn limits task p before es q → RunParts sent before es q
 
-      module _ (sent : List Sent) (before es : List Entry) (p q : Place)
+      module _ (sent : List Sent) (before es : List Entry) (p q : ModePlace)
           (r : RunsNext limits task resting real before entries sent (joining base (sent_instances sent)) p)
           (leads : LeadsOn limits task p before es q) where
         abbrev next : List Sent
@@ -107,15 +107,15 @@ module _ (limits : Limits) (task : Task) where
         cut_parts : is_cut limits before next ≡ true → p ≡ at_rest r.batch kept → RunParts sent before es q
         cut_parts own is =
             by (parts limits task (at_rest r.batch kept) before es q r.batch.answers (inr refl) refl
-            (subst (λ (x : Place). LeadsOn limits task x before es q) is leads))
+            (subst (λ (x : ModePlace). LeadsOn limits task x before es q) is leads))
           where
             by : Parts limits task (at_rest r.batch kept) before es q → RunParts sent before es q
             by (over now rest m after es_is run none settles later) =
                 let o = over_run limits task workers before list (is_cut limits before next) r.batch r.opens now m run none in
-                let at : Place = at_rest m kept in
+                let at : ModePlace = at_rest m kept in
                 let same : after ≡ at = rest_stays at after (before ++ now) refl settles in
                 let end = nothing_more limits task at q (before ++ now) rest none (o.1 ∙ own)
-                (subst (λ (x : Place). LeadsOn limits task x (before ++ now) rest q) same later) in
+                (subst (λ (x : ModePlace). LeadsOn limits task x (before ++ now) rest q) same later) in
                 let all : now ≡ es = sym (es_is ∙ ap (λ xs. now ++ xs) end.0 ∙ append-nil now) in
                 run_cut (sent ++ take (calls_left limits before) next)
                 (subst (λ xs. AreBatches limits task real entries sent before xs
@@ -135,7 +135,7 @@ module _ (limits : Limits) (task : Task) where
             run_over [] es sent r.batch refl (finished none) o.1 o.2
             (subst (λ xs. LeadsOn limits task (at_rest r.batch (joining base (sent_instances sent))) xs es q) (sym (append-nil before))
             (subst (λ (k : Kept). LeadsOn limits task (at_rest r.batch k) before es q) same
-            (subst (λ (x : Place). LeadsOn limits task x before es q) is leads)))
+            (subst (λ (x : ModePlace). LeadsOn limits task x before es q) is leads)))
 
         -- where others may follow
         more_parts : (n : ℕ) → PartsShorter n → length es < suc n → 0 < length next → is_cut limits before next ≡ false
@@ -143,9 +143,9 @@ module _ (limits : Limits) (task : Task) where
             → RunParts sent before es q
         more_parts n shorter few some whole is =
             by (parts limits task begun before es q r.batch.answers (inl some_open) refl
-            (subst (λ (x : Place). LeadsOn limits task x before es q) is leads))
+            (subst (λ (x : ModePlace). LeadsOn limits task x before es q) is leads))
           where
-            begun : Place
+            begun : ModePlace
             begun = record { batch = r.batch; phase = repeated real entries (sent ++ next); kept = kept }
 
             are : sent_instances next ≡ list
@@ -215,7 +215,7 @@ module _ (limits : Limits) (task : Task) where
             (phase_more (is_cut limits before next) real entries sent next own some))
 
       -- entries of which there are fewer than so many
-      pub run_parts : (n : ℕ) (sent : List Sent) (before es : List Entry) (p q : Place) → length es < n
+      pub run_parts : (n : ℕ) (sent : List Sent) (before es : List Entry) (p q : ModePlace) → length es < n
           → RunsNext limits task resting real before entries sent (joining base (sent_instances sent)) p
           → LeadsOn limits task p before es q → RunParts sent before es q
       run_parts zero sent before es p q few r leads = absurd (omega (arith, few))

@@ -6,7 +6,7 @@ use Rattle.level_course.proofs.CoursesStepLemmas.{LeadsThrough, rounds_lead}
 use Rattle.level_course.specs.Courses.{Course, Opens}
 use Rattle.mode_course.proofs.BatchesLemmas.{batch_leads, only_batches, opens_back}
 use Rattle.mode_course.proofs.StepsLemmas.{leads_on_then}
-use Rattle.mode_course.specs.Places.{LeadsOn, OpensNext, Phase, Place, RunsNext, Settles, asked_next, joining, moves, phase_behind, repeated, resting, sent_next, stays, with_batch}
+use Rattle.mode_course.specs.Places.{LeadsOn, OpensNext, Phase, ModePlace, RunsNext, Settles, asked_next, joining, moves, phase_behind, repeated, resting, sent_next, stays, with_batch}
 use Rattle.task_model.specs.Dreams as dreams
 use Rattle.task_model.specs.declared.stream.Instance.{Instance}
 use Rattle.task_model.specs.declared.task.Task.{Task}
@@ -16,30 +16,30 @@ use Rattle.transcript_model.specs.Turns.{AreBatches, Kept, finished, further, is
 use Rattle.transcript_model.specs.declared.entry.Entry.{Entry}
 
 -- the place between two turns, where the last batch stands so and this is kept
-abbrev pub at_rest : Course → Kept → Place
+abbrev pub at_rest : Course → Kept → ModePlace
 at_rest c k = record { batch = c; phase = resting; kept = k }
 
 -- ---- what comes behind a batch
 
 -- where something is asked, it doesn't matter what would come otherwise
-pub phase_any : (over also : Phase) (cut : Bool) (real : ℕ) (entries : List dreams.Entry) (sent next : List Sent)
+pub phase_any : (over also : Phase) (cut : Bool) (real : ℕ) (entries : List dreams.SupposedEntry) (sent next : List Sent)
     → 0 < length next → phase_behind over cut real entries sent next ≡ phase_behind also cut real entries sent next
 phase_any over also cut real entries sent [] some = absurd (omega (arith, some))
 phase_any over also true real entries sent (s ∷ next) some = refl
 phase_any over also false real entries sent (s ∷ next) some = refl
 
-pub phase_none : (cut : Bool) (real : ℕ) (entries : List dreams.Entry) (sent next : List Sent) → next ≡ []
+pub phase_none : (cut : Bool) (real : ℕ) (entries : List dreams.SupposedEntry) (sent next : List Sent) → next ≡ []
     → phase_behind resting cut real entries sent next ≡ resting
 phase_none cut real entries sent next none =
     ap (λ (l : List Sent). phase_behind resting cut real entries sent l) none
 
-pub phase_cut : (cut : Bool) (real : ℕ) (entries : List dreams.Entry) (sent next : List Sent) → cut ≡ true
+pub phase_cut : (cut : Bool) (real : ℕ) (entries : List dreams.SupposedEntry) (sent next : List Sent) → cut ≡ true
     → phase_behind resting cut real entries sent next ≡ resting
 phase_cut cut real entries sent [] is = refl
 phase_cut cut real entries sent (s ∷ next) is =
     ap (λ (b : Bool). phase_behind resting b real entries sent (s ∷ next)) is
 
-pub phase_more : (cut : Bool) (real : ℕ) (entries : List dreams.Entry) (sent next : List Sent) → cut ≡ false → 0 < length next
+pub phase_more : (cut : Bool) (real : ℕ) (entries : List dreams.SupposedEntry) (sent next : List Sent) → cut ≡ false → 0 < length next
     → phase_behind resting cut real entries sent next ≡ repeated real entries (sent ++ next)
 phase_more cut real entries sent [] is some = absurd (omega (arith, some))
 phase_more cut real entries sent (s ∷ next) is some =
@@ -54,7 +54,7 @@ not_less n = by (nat_lt n 0) refl
 
 module _ (limits : Limits) (task : Task) where
   -- where nothing may be asked of the dream, nothing of the batch is open, nor were calls wanting
-  pub opens_none : (real : ℕ) (before : List Entry) (entries : List dreams.Entry) (sent : List Sent) (c : Course)
+  pub opens_none : (real : ℕ) (before : List Entry) (entries : List dreams.SupposedEntry) (sent : List Sent) (c : Course)
       → OpensNext limits task real before entries sent c → sent_next task real before entries sent ≡ []
       → (asked_next limits task real before entries sent ≡ []) × (c.answers ≡ 0) × (c.is_cut ≡ false)
   opens_none real before entries sent c o none =
@@ -70,7 +70,7 @@ module _ (limits : Limits) (task : Task) where
       )
 
   -- The entries lead from here to where nothing is open again and this is kept.
-  pub record LeadsTurn (p : Place) (before now : List Entry) (next : Kept) (cut : Bool) : Type 0 where
+  pub record LeadsTurn (p : ModePlace) (before now : List Entry) (next : Kept) (cut : Bool) : Type 0 where
     pub last : Course
     pub leads : LeadsOn limits task p before now (at_rest last next)
     pub answered : last.answers ≡ 0
@@ -88,7 +88,7 @@ module _ (limits : Limits) (task : Task) where
       → (t : LeadsThrough (only_batches limits) task before list cut now)
       → LeadsTurn (record { batch = t.first; phase = phase; kept = next }) before now next cut
   batch_ends before now list cut phase next rests t =
-      let p : Place = at_rest t.first next in
+      let p : ModePlace = at_rest t.first next in
       let here : LeadsTurn p before now next cut =
       record {
         last = t.last;
@@ -103,14 +103,14 @@ module _ (limits : Limits) (task : Task) where
 
   -- ---- all batches
 
-  module _ (real : ℕ) (entries : List dreams.Entry) (base : Kept) where
+  module _ (real : ℕ) (entries : List dreams.SupposedEntry) (base : Kept) where
     -- what is kept where these were asked of the dream
     abbrev pub kept_with : List Sent → Kept
     kept_with sent = joining base (sent_instances sent)
 
     -- The next batch begins, where these were asked of the dream, and the entries lead to where these were.
     pub record LeadsRun (sent : List Sent) (before now : List Entry) (after : List Sent) (cut : Bool) : Type 0 where
-      pub first : Place
+      pub first : ModePlace
       pub runs : RunsNext limits task resting real before entries sent (kept_with sent) first
       pub through : LeadsTurn first before now (kept_with after) cut
 
@@ -140,7 +140,7 @@ module _ (limits : Limits) (task : Task) where
           let t = through_of before now (sent_instances next) own batch in
           let kept = joining (kept_with sent) list in
           let ended = batch_ends before now list own (phase_behind resting own real entries sent next) kept phase t in
-          let first : Place = record { batch = t.first; phase = phase_behind resting own real entries sent next; kept = kept } in
+          let first : ModePlace = record { batch = t.first; phase = phase_behind resting own real entries sent next; kept = kept } in
           record {
             first = first;
             runs = record {
@@ -170,7 +170,7 @@ module _ (limits : Limits) (task : Task) where
           let round = opens.some long in
           omega (arith, round, ap (λ (c : Course). c.answers) opens.is) in
           let phase = phase_more (is_cut limits before next) real entries sent next uncut some in
-          let first : Place = record { batch = t.first; phase = repeated real entries (sent ++ next); kept = kept_with (sent ++ next) } in
+          let first : ModePlace = record { batch = t.first; phase = repeated real entries (sent ++ next); kept = kept_with (sent ++ next) } in
           let settles : Settles limits task (before ++ now) (with_batch first t.last) later.first =
           moves real entries (sent ++ next) (record { phase_is = refl; answered = t.resting; uncut = t.cut_is }) later.runs in
           let here = batch_leads limits task first before now t.last later.first (inl some_open) t.leads settles in

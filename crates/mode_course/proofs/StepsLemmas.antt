@@ -6,7 +6,7 @@ use Rattle.dream_laws.proofs.DreamLemmas.{dreams_once}
 use Rattle.level_course.proofs.CoursesLemmas.{leads_once}
 use Rattle.level_course.specs.Courses.{Course}
 use Rattle.mode_course.proofs.OpensLemmas.{opens_once}
-use Rattle.mode_course.specs.Places.{Awaits, AwaitsPick, IsBatchStep, IsBehindDream, IsDreamStep, IsFallbackStep, IsLevelStep, IsPickStep, IsStaying, IsStep, LeadsOn, Phase, Place, RunsNext, RunsOnce, Settles, asked_first, asked_next, at_start, begins_level, dreamt, falls_back, goes_on, is_repeated, joining, moves, phase_behind, picking, picks, repeated, resets, resting, retires, sent_first, sent_next, stays, tells_dream, tells_none, unasked, undreamt, with_batch}
+use Rattle.mode_course.specs.Places.{AwaitsPhase, AwaitsPick, IsBatchStep, IsBehindDream, IsDreamStep, IsFallbackStep, IsLevelStep, IsPickStep, IsStaying, IsModeStep, LeadsOn, Phase, ModePlace, RunsNext, RunsOnce, Settles, asked_first, asked_next, at_start, begins_level, dreamt, falls_back, goes_on, is_repeated, joining, moves, phase_behind, picking, picks, repeated, resets, resting, retires, sent_first, sent_next, stays, tells_dream, tells_none, unasked, undreamt, with_batch}
 use Rattle.task_model.proofs.StreamsLemmas.{due_once}
 use Rattle.task_model.specs.Dreams as dreams
 use Rattle.task_model.specs.declared.stream.Instance.{Instance}
@@ -21,7 +21,7 @@ use Rattle.transcript_model.specs.declared.entry.Entry.TheVariants as entry
 use Rattle.transcript_model.specs.declared.head.Mode.{Mode}
 use Rattle.transcript_model.specs.declared.head.Mode.TheVariants.{Adaptive, Binding, Focused, Incremental}
 
-pub at_first_rest : Awaits at_start resting
+pub at_first_rest : AwaitsPhase at_start resting
 at_first_rest = record { phase_is = refl; answered = refl; uncut = refl }
 
 -- ---- what excludes what
@@ -30,11 +30,11 @@ pub phases_differ : resting ≡ undreamt → ⊥
 phases_differ e = absurd (cc)
 
 -- two different things can't come next
-pub awaits_two : {A : Type 0} (p : Place) (x y : Phase) → ¬ (x ≡ y) → Awaits p x → Awaits p y → A
+pub awaits_two : {A : Type 0} (p : ModePlace) (x y : Phase) → ¬ (x ≡ y) → AwaitsPhase p x → AwaitsPhase p y → A
 awaits_two p x y other a b = absurd (other (sym a.phase_is ∙ b.phase_is))
 
 -- both phases can't come next
-pub awaits_one : {A : Type 0} (p : Place) → Awaits p resting → Awaits p undreamt → A
+pub awaits_one : {A : Type 0} (p : ModePlace) → AwaitsPhase p resting → AwaitsPhase p undreamt → A
 awaits_one p a b = awaits_two p resting undreamt phases_differ a b
 
 pub rest_unasked : (place : ℕ) → resting ≡ unasked place → ⊥
@@ -53,11 +53,11 @@ pub undreamt_dreamt : undreamt ≡ dreamt → ⊥
 undreamt_dreamt e = absurd (cc)
 
 -- no skeleton is picked where a turn may begin
-pub rest_pick : {A : Type 0} (p : Place) → Awaits p resting → AwaitsPick p → A
+pub rest_pick : {A : Type 0} (p : ModePlace) → AwaitsPhase p resting → AwaitsPick p → A
 rest_pick p a (inl b) = awaits_two p resting dreamt rest_dreamt a b
 rest_pick p a (inr b) = awaits_one p a b
 
-pub pick_unasked : {A : Type 0} (p : Place) (place : ℕ) → AwaitsPick p → Awaits p (unasked place) → A
+pub pick_unasked : {A : Type 0} (p : ModePlace) (place : ℕ) → AwaitsPick p → AwaitsPhase p (unasked place) → A
 pick_unasked p place (inl a) b = awaits_two p dreamt (unasked place) (dreamt_unasked place) a b
 pick_unasked p place (inr a) b = awaits_two p undreamt (unasked place) (undreamt_unasked place) a b
 
@@ -67,19 +67,19 @@ pub batch_open : (limits : Limits) (task : Task) (before : List Entry) (c : Cour
 batch_open limits task before c e d (inl m) = m.more
 batch_open limits task before c e d (inr a) = let answers = a.answers in omega (arith, answers)
 
-pub still_open : {A : Type 0} (limits : Limits) (task : Task) (before : List Entry) (p : Place) (e : Entry) (d : Course) (phase : Phase)
-    → IsBatchStep limits task before p.batch e d → Awaits p phase → A
+pub still_open : {A : Type 0} (limits : Limits) (task : Task) (before : List Entry) (p : ModePlace) (e : Entry) (d : Course) (phase : Phase)
+    → IsBatchStep limits task before p.batch e d → AwaitsPhase p phase → A
 still_open limits task before p e d phase step awaits =
     let some = batch_open limits task before p.batch e d step in
     let none = awaits.answered in
     absurd (omega (arith, some, none))
 
-pick_open : {A : Type 0} (limits : Limits) (task : Task) (before : List Entry) (p : Place) (e : Entry) (d : Course)
+pick_open : {A : Type 0} (limits : Limits) (task : Task) (before : List Entry) (p : ModePlace) (e : Entry) (d : Course)
     → IsBatchStep limits task before p.batch e d → AwaitsPick p → A
 pick_open limits task before p e d step (inl a) = still_open limits task before p e d dreamt step a
 pick_open limits task before p e d step (inr a) = still_open limits task before p e d undreamt step a
 
-pub pick_answered : (p : Place) → AwaitsPick p → p.batch.answers ≡ 0
+pub pick_answered : (p : ModePlace) → AwaitsPick p → p.batch.answers ≡ 0
 pick_answered p (inl a) = a.answered
 pick_answered p (inr a) = a.answered
 
@@ -87,8 +87,8 @@ pick_answered p (inr a) = a.answered
 
 module _ (limits : Limits) (task : Task) where
   -- what is run next is one
-  pub runs_once : (over : Phase) (real : ℕ) (before : List Entry) (entries : List dreams.Entry) (sent : List Sent) (kept : Kept)
-      (d f : Place) → RunsNext limits task over real before entries sent kept d
+  pub runs_once : (over : Phase) (real : ℕ) (before : List Entry) (entries : List dreams.SupposedEntry) (sent : List Sent) (kept : Kept)
+      (d f : ModePlace) → RunsNext limits task over real before entries sent kept d
       → RunsNext limits task over real before entries sent kept f → d ≡ f
   runs_once over real before entries sent kept d f r t =
       let next = sent_next task real before entries sent in
@@ -104,7 +104,7 @@ module _ (limits : Limits) (task : Task) where
       })
       ∙ sym t.after_is
 
-  once_runs : (real : ℕ) (before : List Entry) (entries : List dreams.Entry) (kept : Kept) (d f : Place)
+  once_runs : (real : ℕ) (before : List Entry) (entries : List dreams.SupposedEntry) (kept : Kept) (d f : ModePlace)
       → RunsOnce limits task real before entries kept d → RunsOnce limits task real before entries kept f → d ≡ f
   once_runs real before entries kept d f r t =
       let list = asked_first limits task real before entries in
@@ -114,13 +114,13 @@ module _ (limits : Limits) (task : Task) where
       r.after_is ∙ (λ i. record { batch = one i; phase = resting; kept = joining kept list }) ∙ sym t.after_is
 
   -- where the place has to move on, it isn't settled
-  pub unsettled : {A : Type 0} (p : Place) (real : ℕ) (entries : List dreams.Entry) (sent : List Sent)
-      → Awaits p (repeated real entries sent) → IsStaying p → A
+  pub unsettled : {A : Type 0} (p : ModePlace) (real : ℕ) (entries : List dreams.SupposedEntry) (sent : List Sent)
+      → AwaitsPhase p (repeated real entries sent) → IsStaying p → A
   unsettled p real entries sent a (inl some) = let none = a.answered in absurd (omega (arith, some, none))
   unsettled p real entries sent a (inr other) =
       absurd (true≢false (sym (ap is_repeated a.phase_is) ∙ other))
 
-  pub settles_once : (before : List Entry) (p d f : Place) → Settles limits task before p d → Settles limits task before p f
+  pub settles_once : (before : List Entry) (p d f : ModePlace) → Settles limits task before p d → Settles limits task before p f
       → d ≡ f
   settles_once before p d f (stays s d_is) (stays t f_is) = d_is ∙ sym f_is
   settles_once before p d f (stays s d_is) (moves real entries sent a r) = unsettled p real entries sent a s
@@ -132,7 +132,7 @@ module _ (limits : Limits) (task : Task) where
       let sents : sent ≡ more = cc in
       runs_once resting also before others more p.kept d f
       (subst (λ (n : ℕ). RunsNext limits task resting n before others more p.kept d) reals
-      (subst (λ (l : List dreams.Entry). RunsNext limits task resting real before l more p.kept d) lists
+      (subst (λ (l : List dreams.SupposedEntry). RunsNext limits task resting real before l more p.kept d) lists
       (subst (λ (l : List Sent). RunsNext limits task resting real before entries l p.kept d) sents r))) t
 
 -- ---- one pick
@@ -170,7 +170,7 @@ line_kind (entry.End number) = 0
 
 -- ---- one place
 
-module _ (limits : Limits) (task : Task) (before : List Entry) (p : Place) (e : Entry) (d f : Place) where
+module _ (limits : Limits) (task : Task) (before : List Entry) (p : ModePlace) (e : Entry) (d f : ModePlace) where
   batch_once : (b c : Course) → IsBatchStep limits task before p.batch e b → IsBatchStep limits task before p.batch e c → b ≡ c
   batch_once b c s t = leads_once limits task p.batch before (e ∷ []) b c (b, inr s, refl) (c, inr t, refl)
 
@@ -181,7 +181,7 @@ module _ (limits : Limits) (task : Task) (before : List Entry) (p : Place) (e : 
       s.after_is ∙ (λ i. record { batch = one i; phase = resting; kept = p.kept }) ∙ sym t.after_is
 
   -- behind one dream
-  behind_once : (mode : Mode) (real : ℕ) (marked : List Entry) (entries : List dreams.Entry)
+  behind_once : (mode : Mode) (real : ℕ) (marked : List Entry) (entries : List dreams.SupposedEntry)
       → IsBehindDream mode limits task real marked entries p d → IsBehindDream mode limits task real marked entries p f → d ≡ f
   behind_once Incremental real marked entries s t = absurd s
   behind_once Focused real marked entries s t = once_runs limits task real marked entries p.kept d f s t
@@ -198,11 +198,11 @@ module _ (limits : Limits) (task : Task) (before : List Entry) (p : Place) (e : 
       (subst (λ (u : List DreamUse). IsDreamAfter limits task before p.kept.tried u s.steps s.entries) uses s.dream) t.dream in
       behind_once limits.mode real (before ++ entry.Dream t.uses t.steps ∷ []) t.entries
       (subst (λ (x : Entry). IsBehindDream limits.mode limits task real (before ++ x ∷ []) t.entries p d) both
-      (subst (λ (l : List dreams.Entry). IsBehindDream limits.mode limits task real
+      (subst (λ (l : List dreams.SupposedEntry). IsBehindDream limits.mode limits task real
       (before ++ entry.Dream s.uses s.steps ∷ []) l p d) entries s.behind)) t.behind
 
   -- a pick of one skeleton
-  abbrev picked_runs : (place : ℕ) (skeleton : Skeleton) → Place → Type 0
+  abbrev picked_runs : (place : ℕ) (skeleton : Skeleton) → ModePlace → Type 0
   picked_runs place skeleton x =
       RunsNext limits task (unasked place) skeleton.real (before ++ entry.Pick (place + 1) ∷ []) skeleton.entries []
       (picking p.kept place skeleton (sent_first task skeleton.real (before ++ entry.Pick (place + 1) ∷ []) skeleton.entries)) x
@@ -237,7 +237,7 @@ module _ (limits : Limits) (task : Task) (before : List Entry) (p : Place) (e : 
   mixed : {A : Type 0} {x y : Entry} → e ≡ x → e ≡ y → ¬ (line_kind x ≡ line_kind y) → A
   mixed is also other = absurd (other (ap line_kind (sym is ∙ also)))
 
-  step_once : IsStep limits task before p e d → IsStep limits task before p e f → d ≡ f
+  step_once : IsModeStep limits task before p e d → IsModeStep limits task before p e f → d ≡ f
   step_once (goes_on b s m) (goes_on c t n) =
       let one = batch_once b c s t in
       settles_once limits task (before ++ e ∷ []) (with_batch p c) d f
@@ -306,7 +306,7 @@ module _ (limits : Limits) (task : Task) (before : List Entry) (p : Place) (e : 
   step_once (retires s) (picks t) = mixed s.is t.is (λ same. absurd (omega (arith, same)))
   step_once (retires s) (retires t) = s.after_is ∙ sym t.after_is
 
-pub leads_on_once : (limits : Limits) (task : Task) (p : Place) (before es : List Entry) (q r : Place)
+pub leads_on_once : (limits : Limits) (task : Task) (p : ModePlace) (before es : List Entry) (q r : ModePlace)
     → LeadsOn limits task p before es q → LeadsOn limits task p before es r → q ≡ r
 leads_on_once limits task p before [] q r first second = sym first ∙ second
 leads_on_once limits task p before (e ∷ es) q r (m, step, rest) (n, also, more) =
@@ -316,7 +316,7 @@ leads_on_once limits task p before (e ∷ es) q r (m, step, rest) (n, also, more
 
 -- ---- parts
 
-pub leads_on_then : (limits : Limits) (task : Task) (p : Place) (before first rest : List Entry) (q r : Place)
+pub leads_on_then : (limits : Limits) (task : Task) (p : ModePlace) (before first rest : List Entry) (q r : ModePlace)
     → LeadsOn limits task p before first q → LeadsOn limits task q (before ++ first) rest r
     → LeadsOn limits task p before (first ++ rest) r
 leads_on_then limits task p before [] rest q r here there =
@@ -329,9 +329,9 @@ leads_on_then limits task p before (e ∷ es) rest q r (m, step, more) there = (
       (subst (λ xs. LeadsOn limits task q xs rest r) (sym (append_assoc before (e ∷ []) es)) there),
 )
 
-pub leads_on_apart : (limits : Limits) (task : Task) (p : Place) (before first rest : List Entry) (r : Place)
+pub leads_on_apart : (limits : Limits) (task : Task) (p : ModePlace) (before first rest : List Entry) (r : ModePlace)
     → LeadsOn limits task p before (first ++ rest) r
-    → (q : Place) × LeadsOn limits task p before first q × LeadsOn limits task q (before ++ first) rest r
+    → (q : ModePlace) × LeadsOn limits task p before first q × LeadsOn limits task q (before ++ first) rest r
 leads_on_apart limits task p before [] rest r all =
     (p, refl, subst (λ es. LeadsOn limits task p es rest r) (sym (append-nil before)) all)
 leads_on_apart limits task p before (e ∷ es) rest r (m, step, more) =
@@ -341,12 +341,12 @@ leads_on_apart limits task p before (e ∷ es) rest r (m, step, more) =
       subst (λ xs. LeadsOn limits task parts.0 xs rest r) (append_assoc before (e ∷ []) es) parts.2,
     )
 
-pub pick_uncut : (p : Place) → AwaitsPick p → p.batch.is_cut ≡ false
+pub pick_uncut : (p : ModePlace) → AwaitsPick p → p.batch.is_cut ≡ false
 pick_uncut p (inl a) = a.uncut
 pick_uncut p (inr a) = a.uncut
 
 -- behind a batch that was cut nothing comes
-pub nothing_more : (limits : Limits) (task : Task) (p q : Place) (before rest : List Entry) → p.batch.answers ≡ 0
+pub nothing_more : (limits : Limits) (task : Task) (p q : ModePlace) (before rest : List Entry) → p.batch.answers ≡ 0
     → p.batch.is_cut ≡ true → LeadsOn limits task p before rest q → (rest ≡ []) × (p ≡ q)
 nothing_more limits task p q before [] none cut leads = (refl, leads)
 nothing_more limits task p q before (e ∷ es) none cut (m, goes_on c s settles, more) =

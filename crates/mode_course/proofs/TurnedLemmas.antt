@@ -7,7 +7,7 @@ use Rattle.mode_course.proofs.OpensLemmas.{AreRun}
 use Rattle.mode_course.proofs.PartTurnedLemmas.{Shorter, Turned, as_it_is, batch_turned, level_of, level_turned}
 use Rattle.mode_course.proofs.PickTurnedLemmas.{AreGivenUp, pick_stops, picks_turned}
 use Rattle.mode_course.proofs.StepsLemmas.{awaits_one, awaits_two, pick_unasked, rest_pick, rest_unasked, still_open}
-use Rattle.mode_course.specs.Places.{Awaits, AwaitsLine, HasNoneToPick, IsFallbackStep, IsNoneStep, IsResetStep, IsStep, LeadsOn, Place, begins_level, falls_back, forgetting, goes_on, picks, resets, resting, retires, tells_dream, tells_none, unasked, undreamt}
+use Rattle.mode_course.specs.Places.{AwaitsPhase, AwaitsLine, HasNoneToPick, IsFallbackStep, IsNoneStep, IsResetStep, IsModeStep, LeadsOn, ModePlace, begins_level, falls_back, forgetting, goes_on, picks, resets, resting, retires, tells_dream, tells_none, unasked, undreamt}
 use Rattle.mode_turns.specs.Modes.{TurnOf}
 use Rattle.task_model.specs.declared.stream.Instance.{Instance}
 use Rattle.task_model.specs.declared.task.Task.{Task}
@@ -24,26 +24,26 @@ module _ (limits : Limits) (task : Task) (workers : All (λ (s : Share). 1 ≤ s
     (shorter : Shorter limits task n) where
   -- ---- turns without a dream
 
-  module _ (before : List Entry) (p : Place) (e : Entry) (m : Place) (s : IsNoneStep limits task before p e m) where
+  module _ (before : List Entry) (p : ModePlace) (e : Entry) (m : ModePlace) (s : IsNoneStep limits task before p e m) where
     -- behind the line
-    abbrev behind : Place
+    abbrev behind : ModePlace
     behind = record { batch = p.batch; phase = undreamt; kept = p.kept }
 
     abbrev marked : List Entry
     marked = before ++ entry.Nothing ∷ []
 
-    waits : Awaits behind undreamt
+    waits : AwaitsPhase behind undreamt
     waits = record { phase_is = refl; answered = s.may.awaits.answered; uncut = s.may.awaits.uncut }
 
-    reset_turned : (es : List Entry) (x : Entry) (r q : Place) → length es ≤ n → IsResetStep limits behind x r
+    reset_turned : (es : List Entry) (x : Entry) (r q : ModePlace) → length es ≤ n → IsResetStep limits behind x r
         → LeadsOn limits task r (marked ++ x ∷ []) es q → Turned limits task p.kept before (entry.Nothing ∷ x ∷ es) q
     reset_turned es x r q few t leads =
         let next = forgetting p.kept in
-        let after : Place = record { batch = p.batch; phase = resting; kept = next } in
+        let after : ModePlace = record { batch = p.batch; phase = resting; kept = next } in
         let later : LeadsOn limits task after (before ++ entry.Nothing ∷ entry.Reset ∷ []) es q =
         subst (λ xs. LeadsOn limits task after xs es q) (append_assoc before (entry.Nothing ∷ []) (entry.Reset ∷ []))
         (subst (λ (y : Entry). LeadsOn limits task after (marked ++ y ∷ []) es q) t.is
-        (subst (λ (z : Place). LeadsOn limits task z (marked ++ x ∷ []) es q) t.after_is leads)) in
+        (subst (λ (z : ModePlace). LeadsOn limits task z (marked ++ x ∷ []) es q) t.after_is leads)) in
         let u = shorter (before ++ entry.Nothing ∷ entry.Reset ∷ []) es after q few
         (record { phase_is = refl; answered = s.may.awaits.answered; uncut = s.may.awaits.uncut }) later in
         let this : TurnOf limits.mode limits task p.kept before (entry.Nothing ∷ entry.Reset ∷ []) next false =
@@ -52,18 +52,18 @@ module _ (limits : Limits) (task : Task) (workers : All (λ (s : Share). 1 ≤ s
         subst (λ (y : Entry). Turned limits task p.kept before (entry.Nothing ∷ y ∷ es) q) (sym t.is)
         (record { stage = u.stage; at = u.at; turns = whole next s.may.may this u.turns })
 
-    fallback_turned : (es : List Entry) (x : Entry) (r q : Place) → length es ≤ n → IsFallbackStep limits task marked behind x r
+    fallback_turned : (es : List Entry) (x : Entry) (r q : ModePlace) → length es ≤ n → IsFallbackStep limits task marked behind x r
         → LeadsOn limits task r (marked ++ x ∷ []) es q → Turned limits task p.kept before (entry.Nothing ∷ x ∷ es) q
     fallback_turned es x r q few t leads =
         let list = take (calls_left limits marked) t.list in
         let cut = is_cut limits marked t.list in
-        let after : Place = record { batch = t.batch; phase = resting; kept = p.kept } in
+        let after : ModePlace = record { batch = t.batch; phase = resting; kept = p.kept } in
         let joined : marked ++ entry.Level ∷ [] ≡ before ++ entry.Nothing ∷ entry.Level ∷ [] =
         append_assoc before (entry.Nothing ∷ []) (entry.Level ∷ []) in
         let later : LeadsOn limits task after (before ++ entry.Nothing ∷ entry.Level ∷ []) es q =
         subst (λ xs. LeadsOn limits task after xs es q) joined
         (subst (λ (y : Entry). LeadsOn limits task after (marked ++ y ∷ []) es q) t.is
-        (subst (λ (z : Place). LeadsOn limits task z (marked ++ x ∷ []) es q) t.after_is leads)) in
+        (subst (λ (z : ModePlace). LeadsOn limits task z (marked ++ x ∷ []) es q) t.after_is leads)) in
         let turn : (now : List Entry) → AreRun limits task (before ++ entry.Nothing ∷ entry.Level ∷ []) list now
         → TurnOf limits.mode limits task p.kept before (entry.Nothing ∷ entry.Level ∷ now) p.kept cut =
         λ now run. none_turn limits task before p.kept s.may.mode s.no_dream t.no_skeleton (entry.Level ∷ now) p.kept cut
@@ -86,7 +86,7 @@ module _ (limits : Limits) (task : Task) (workers : All (λ (s : Share). 1 ≤ s
     left = let less = s.may.may.left in omega (arith, less, asks_marked before entry.Nothing refl)
 
     -- the entries stop behind the line
-    none_stops : (q : Place) → behind ≡ q
+    none_stops : (q : ModePlace) → behind ≡ q
         → HasNoneToPick limits.mode p.kept ⊎ ((limits.mode ≡ Adaptive) × ¬ (AreGivenUp p.kept.skeletons))
         → Turned limits task p.kept before (entry.Nothing ∷ []) q
     none_stops q is (inl no_skeleton) =
@@ -99,7 +99,7 @@ module _ (limits : Limits) (task : Task) (workers : All (λ (s : Share). 1 ≤ s
     none_stops q is (inr (mode, some)) =
         pick_stops limits task workers n shorter p.kept before (entry.Nothing ∷ []) s.may.may behind (old_turn mode) q (inr waits) some is
 
-    none_then : (es : List Entry) (q : Place) → length es ≤ n → LeadsOn limits task behind marked es q
+    none_then : (es : List Entry) (q : ModePlace) → length es ≤ n → LeadsOn limits task behind marked es q
         → Turned limits task p.kept before (entry.Nothing ∷ es) q
     none_then [] q few leads = none_stops q leads (may_pick limits.mode p.kept)
     none_then (x ∷ xs) q few (r, goes_on b t r_is, more) = still_open limits task marked behind x b undreamt t waits
@@ -113,7 +113,7 @@ module _ (limits : Limits) (task : Task) (workers : All (λ (s : Share). 1 ≤ s
         xs q (omega (arith, few)) more
     none_then (x ∷ xs) q few (r, retires t, more) = pick_unasked behind t.place (inr waits) t.awaits
 
-  none_turned : (before es : List Entry) (e : Entry) (p m q : Place) → length es ≤ n
+  none_turned : (before es : List Entry) (e : Entry) (p m q : ModePlace) → length es ≤ n
       → IsNoneStep limits task before p e m → LeadsOn limits task m (before ++ e ∷ []) es q
       → Turned limits task p.kept before (e ∷ es) q
   none_turned before es e p m q few s leads =
@@ -121,8 +121,8 @@ module _ (limits : Limits) (task : Task) (workers : All (λ (s : Share). 1 ≤ s
       s.after_is leads (none_then before p e m s es q few)
 
   -- by its first step
-  first_turned : (before es : List Entry) (e : Entry) (p m q : Place) → length es ≤ n → Awaits p resting
-      → IsStep limits task before p e m → LeadsOn limits task m (before ++ e ∷ []) es q
+  first_turned : (before es : List Entry) (e : Entry) (p m q : ModePlace) → length es ≤ n → AwaitsPhase p resting
+      → IsModeStep limits task before p e m → LeadsOn limits task m (before ++ e ∷ []) es q
       → Turned limits task p.kept before (e ∷ es) q
   first_turned before es e p m q few rests (goes_on b s m_is) leads = still_open limits task before p e b resting s rests
   first_turned before es e p m q few rests (begins_level s) leads = level_turned limits task workers n shorter before es e p m q few s leads
@@ -138,7 +138,7 @@ module _ (limits : Limits) (task : Task) (workers : All (λ (s : Share). 1 ≤ s
 
 pub turned : (limits : Limits) (task : Task) → All (λ (s : Share). 1 ≤ s.workers) limits.pools → (n : ℕ) → Shorter limits task n
 turned limits task workers n before [] p q few rests leads =
-    record { stage = between; at = subst (λ (x : Place). Awaits x resting) leads rests; turns = none_left }
+    record { stage = between; at = subst (λ (x : ModePlace). AwaitsPhase x resting) leads rests; turns = none_left }
 turned limits task workers zero before (e ∷ es) p q few rests leads = absurd (omega (arith, few))
 turned limits task workers (suc n) before (e ∷ es) p q few rests (m, step, more) =
     first_turned limits task workers n (turned limits task workers n) before es e p m q (omega (arith, few)) rests step more

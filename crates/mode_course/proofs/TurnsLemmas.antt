@@ -7,8 +7,8 @@ use Rattle.mode_course.proofs.OpensLemmas.{opens_at}
 use Rattle.mode_course.proofs.PicksLemmas.{pick_leads}
 use Rattle.mode_course.proofs.RunsLemmas.{LeadsTurn, at_rest, batch_ends, run_leads, through_of}
 use Rattle.mode_course.proofs.StepsLemmas.{leads_on_apart, leads_on_then}
-use Rattle.mode_course.specs.Laws.{IsAt}
-use Rattle.mode_course.specs.Places.{Awaits, HasNoneToPick, IsBehindDream, LeadsOn, Place, RunsNext, asked_first, begins_level, dreamt, falls_back, forgetting, joining, keeping, resets, resting, sent_first, tells_dream, tells_none, undreamt}
+use Rattle.mode_course.specs.Laws.{IsPlaceAt}
+use Rattle.mode_course.specs.Places.{AwaitsPhase, HasNoneToPick, IsBehindDream, LeadsOn, ModePlace, RunsNext, asked_first, begins_level, dreamt, falls_back, forgetting, joining, keeping, resets, resting, sent_first, tells_dream, tells_none, undreamt}
 use Rattle.mode_turns.specs.Modes.{LeadTo, TurnOf, none_left as lead_none, whole as lead_whole}
 use Rattle.task_model.proofs.StreamsLemmas.{due_once}
 use Rattle.task_model.specs.Dreams as dreams
@@ -44,7 +44,7 @@ binding_keeps m k is = λ other. absurd (let e : Binding ≡ Adaptive = sym is �
 
 module _ (limits : Limits) (task : Task) where
   -- one entry more in front
-  in_front : (p q : Place) (before now : List Entry) (e : Entry) (next : Kept) (cut : Bool)
+  in_front : (p q : ModePlace) (before now : List Entry) (e : Entry) (next : Kept) (cut : Bool)
       → ((last : Course) → LeadsOn limits task q (before ++ e ∷ []) now (at_rest last next)
       → LeadsOn limits task p before (e ∷ now) (at_rest last next))
       → LeadsTurn limits task q (before ++ e ∷ []) now next cut → LeadsTurn limits task p before (e ∷ now) next cut
@@ -84,7 +84,7 @@ module _ (limits : Limits) (task : Task) where
       opens_at limits task marked (take (calls_left limits marked) l.list) (take (calls_left limits before) list) cut
       (is_cut limits before list) first taken (l.cut_is ∙ ap (λ (is : List Instance). is_cut limits before is) lists) o
 
-  level_leads : (p : Place) (before now : List Entry) (cut : Bool) → limits.mode ≡ Incremental → Awaits p resting
+  level_leads : (p : ModePlace) (before now : List Entry) (cut : Bool) → limits.mode ≡ Incremental → AwaitsPhase p resting
       → MayBegin limits task before → IsLevel limits task before now cut → LeadsTurn limits task p before now p.kept cut
   level_leads p before now cut mode awaits may l =
       let lists : l.list ≡ may.list = due_once task (known_of task before) (notes_of task before) l.list may.list l.due may.due in
@@ -106,9 +106,9 @@ module _ (limits : Limits) (task : Task) where
   -- ---- dreams
 
   -- behind the line of a dream
-  dream_line : (mode : Mode) (p q : Place) (before now : List Entry)
-      (asks : ℕ → List dreams.Entry → List Entry → List Entry → List Sent → Bool → Type 0) (next : Kept) (cut : Bool)
-      (last : List Instance) → limits.mode ≡ mode → ¬ (mode ≡ Incremental) → Awaits p resting → MayBegin limits task before
+  dream_line : (mode : Mode) (p q : ModePlace) (before now : List Entry)
+      (asks : ℕ → List dreams.SupposedEntry → List Entry → List Entry → List Sent → Bool → Type 0) (next : Kept) (cut : Bool)
+      (last : List Instance) → limits.mode ≡ mode → ¬ (mode ≡ Incremental) → AwaitsPhase p resting → MayBegin limits task before
       → (t : IsDreamTurn limits task asks p.kept.tried before now last cut)
       → IsBehindDream mode limits task (length (names_of task before)) (before ++ entry.Dream t.uses t.steps ∷ []) t.entries p q
       → LeadsTurn limits task q (before ++ entry.Dream t.uses t.steps ∷ []) t.rest next cut
@@ -135,7 +135,7 @@ module _ (limits : Limits) (task : Task) where
         leads,
       )) through)
 
-  dream_leads : (p : Place) (before now : List Entry) (next : Kept) (cut : Bool) → limits.mode ≡ Focused → Awaits p resting
+  dream_leads : (p : ModePlace) (before now : List Entry) (next : Kept) (cut : Bool) → limits.mode ≡ Focused → AwaitsPhase p resting
       → MayBegin limits task before → IsDreamTurn limits task (IsFirstBatch limits task) p.kept.tried before now next.tried cut
       → next.skeletons ≡ p.kept.skeletons → LeadsTurn limits task p before now next cut
   dream_leads p before now next cut mode awaits may t skeletons =
@@ -162,7 +162,7 @@ module _ (limits : Limits) (task : Task) where
       (dream_line Focused p (at_rest b.first kept) before now (IsFirstBatch limits task) kept cut next.tried
       mode (focused_dreams Focused refl) awaits may t (record { batch = b.first; opens = opens; after_is = refl }) b.through)
 
-  run_dream_leads : (p : Place) (before now : List Entry) (next : Kept) (cut : Bool) → limits.mode ≡ Binding → Awaits p resting
+  run_dream_leads : (p : ModePlace) (before now : List Entry) (next : Kept) (cut : Bool) → limits.mode ≡ Binding → AwaitsPhase p resting
       → MayBegin limits task before
       → IsDreamTurn limits task (λ real entries. AreBatches limits task real entries []) p.kept.tried before now next.tried cut
       → next.skeletons ≡ p.kept.skeletons → LeadsTurn limits task p before now next cut
@@ -181,8 +181,8 @@ module _ (limits : Limits) (task : Task) where
 
   -- ---- turns without a dream
 
-  fallback_leads : (p : Place) (before : List Entry) (next : Kept) (tried : List Instance) (now : List Entry) (cut : Bool)
-      → IsFallback limits task before tried now cut → p.kept.tried ≡ tried → Awaits p undreamt
+  fallback_leads : (p : ModePlace) (before : List Entry) (next : Kept) (tried : List Instance) (now : List Entry) (cut : Bool)
+      → IsFallback limits task before tried now cut → p.kept.tried ≡ tried → AwaitsPhase p undreamt
       → HasNoneToPick limits.mode p.kept → next.tried ≡ []
       → next.skeletons ≡ p.kept.skeletons → LeadsTurn limits task p before now next cut
   fallback_leads p before next tried now cut (reset first more) are awaits no_skeleton forgotten skeletons =
@@ -220,13 +220,13 @@ module _ (limits : Limits) (task : Task) where
       )) b.through))
 
   -- behind the line that there is no dream
-  none_line : (p : Place) (before rest : List Entry) (next : Kept) (cut : Bool) → ¬ (limits.mode ≡ Incremental)
-      → Awaits p resting → MayBegin limits task before → HasNoDreamAfter limits task before p.kept.tried
+  none_line : (p : ModePlace) (before rest : List Entry) (next : Kept) (cut : Bool) → ¬ (limits.mode ≡ Incremental)
+      → AwaitsPhase p resting → MayBegin limits task before → HasNoDreamAfter limits task before p.kept.tried
       → LeadsTurn limits task (record { batch = p.batch; phase = undreamt; kept = p.kept })
       (before ++ entry.Nothing ∷ []) rest next cut
       → LeadsTurn limits task p before (entry.Nothing ∷ rest) next cut
   none_line p before rest next cut mode awaits may none through =
-      let behind : Place = record { batch = p.batch; phase = undreamt; kept = p.kept } in
+      let behind : ModePlace = record { batch = p.batch; phase = undreamt; kept = p.kept } in
       in_front p behind before rest entry.Nothing next cut (λ last leads. (
         behind,
         tells_none (record {
@@ -238,12 +238,12 @@ module _ (limits : Limits) (task : Task) where
         leads,
       )) through
 
-  empty_leads : (p : Place) (before now : List Entry) (next : Kept) (cut : Bool) → ¬ (limits.mode ≡ Incremental)
-      → HasNoneToPick limits.mode p.kept → Awaits p resting
+  empty_leads : (p : ModePlace) (before now : List Entry) (next : Kept) (cut : Bool) → ¬ (limits.mode ≡ Incremental)
+      → HasNoneToPick limits.mode p.kept → AwaitsPhase p resting
       → MayBegin limits task before → IsEmptyTurn limits task p.kept.tried before now next.tried cut
       → next.skeletons ≡ p.kept.skeletons → LeadsTurn limits task p before now next cut
   empty_leads p before now next cut mode no_skeleton awaits may t skeletons =
-      let behind : Place = record { batch = p.batch; phase = undreamt; kept = p.kept } in
+      let behind : ModePlace = record { batch = p.batch; phase = undreamt; kept = p.kept } in
       subst (λ xs. LeadsTurn limits task p before xs next cut) (sym t.is)
       (none_line p before t.rest next cut mode awaits may t.none
       (fallback_leads behind (before ++ entry.Nothing ∷ []) next p.kept.tried t.rest cut t.fallback refl
@@ -251,13 +251,13 @@ module _ (limits : Limits) (task : Task) where
 
   -- ---- skeletons
 
-  adaptive_leads : (p : Place) (before now : List Entry) (next : Kept) (cut : Bool) → limits.mode ≡ Adaptive → Awaits p resting
+  adaptive_leads : (p : ModePlace) (before now : List Entry) (next : Kept) (cut : Bool) → limits.mode ≡ Adaptive → AwaitsPhase p resting
       → MayBegin limits task before → AdaptiveTurn limits task p.kept before now next cut
       → LeadsTurn limits task p before now next cut
   adaptive_leads p before now next cut mode awaits may (inl t) =
       let line = entry.Dream t.uses t.steps in
       let real = length (names_of task before) in
-      let q : Place = record { batch = p.batch; phase = dreamt; kept = keeping p.kept t.entries real } in
+      let q : ModePlace = record { batch = p.batch; phase = dreamt; kept = keeping p.kept t.entries real } in
       let left : asks_of (before ++ line ∷ []) < limits.calls =
       let less = may.left in omega (arith, less, asks_marked before line refl) in
       let through = pick_leads limits task q (before ++ line ∷ []) t.rest next cut mode
@@ -277,7 +277,7 @@ module _ (limits : Limits) (task : Task) where
         leads,
       )) through)
   adaptive_leads p before now next cut mode awaits may (inr (inl t)) =
-      let behind : Place = record { batch = p.batch; phase = undreamt; kept = p.kept } in
+      let behind : ModePlace = record { batch = p.batch; phase = undreamt; kept = p.kept } in
       let left : asks_of (before ++ entry.Nothing ∷ []) < limits.calls =
       let less = may.left in omega (arith, less, asks_marked before entry.Nothing refl) in
       subst (λ xs. LeadsTurn limits task p before xs next cut) (sym t.is)
@@ -291,8 +291,8 @@ module _ (limits : Limits) (task : Task) where
 
   -- ---- any turn
 
-  mode_leads : (mode : Mode) (p : Place) (before now : List Entry) (next : Kept) (cut : Bool) → limits.mode ≡ mode
-      → Awaits p resting → MayBegin limits task before
+  mode_leads : (mode : Mode) (p : ModePlace) (before now : List Entry) (next : Kept) (cut : Bool) → limits.mode ≡ mode
+      → AwaitsPhase p resting → MayBegin limits task before
       → TurnOf mode limits task p.kept before now next cut → LeadsTurn limits task p before now next cut
   mode_leads Incremental p before now next cut is awaits may (this, same) =
       subst (λ (k : Kept). LeadsTurn limits task p before now k cut) (sym same) (level_leads p before now cut is awaits may this)
@@ -307,24 +307,24 @@ module _ (limits : Limits) (task : Task) where
   mode_leads Adaptive p before now next cut is awaits may this =
       adaptive_leads p before now next cut is awaits may this
 
-  turn_leads : (p : Place) (k : Kept) (before now : List Entry) (next : Kept) (cut : Bool) → p.kept ≡ k → Awaits p resting
+  turn_leads : (p : ModePlace) (k : Kept) (before now : List Entry) (next : Kept) (cut : Bool) → p.kept ≡ k → AwaitsPhase p resting
       → MayBegin limits task before → TurnOf limits.mode limits task k before now next cut → LeadsTurn limits task p before now next cut
   turn_leads p k before now next cut same awaits may this =
       mode_leads limits.mode p before now next cut refl awaits may
       (subst (λ (x : Kept). TurnOf limits.mode limits task x before now next cut) (sym same) this)
 
   -- behind a turn that isn't cut
-  rests : (c : Course) (k : Kept) → c.answers ≡ 0 → c.is_cut ≡ false → Awaits (at_rest c k) resting
+  rests : (c : Course) (k : Kept) → c.answers ≡ 0 → c.is_cut ≡ false → AwaitsPhase (at_rest c k) resting
   rests c k none uncut = record { phase_is = refl; answered = none; uncut = uncut }
 
   -- the turns lead to where their stage says, unless they stop inside one
-  pub record LeadsTo (p : Place) (before es : List Entry) (stage : Stage) : Type 0 where
-    pub last : Place
+  pub record LeadsTo (p : ModePlace) (before es : List Entry) (stage : Stage) : Type 0 where
+    pub last : ModePlace
     pub leads : LeadsOn limits task p before es last
-    pub at : ¬ (stage ≡ inside) → IsAt last stage
+    pub at : ¬ (stage ≡ inside) → IsPlaceAt last stage
 
-  pub turns_lead : (k : Kept) (before es : List Entry) (stage : Stage) (p : Place)
-      → AreTurns limits task (TurnOf limits.mode limits task) k before es stage → p.kept ≡ k → Awaits p resting
+  pub turns_lead : (k : Kept) (before es : List Entry) (stage : Stage) (p : ModePlace)
+      → AreTurns limits task (TurnOf limits.mode limits task) k before es stage → p.kept ≡ k → AwaitsPhase p resting
       → LeadsTo p before es stage
   turns_lead k before es stage p none_left same awaits = record { last = p; leads = refl; at = λ other. awaits }
   turns_lead k before es stage p (whole next {now = now} {rest = rest} may this more) same awaits =
@@ -349,13 +349,13 @@ module _ (limits : Limits) (task : Task) where
       record { last = front.0; leads = front.1; at = λ other. absurd (other refl) }
 
   -- whole turns lead to where this is kept
-  pub record LeadsWhole (p : Place) (before es : List Entry) (last : Kept) : Type 0 where
+  pub record LeadsWhole (p : ModePlace) (before es : List Entry) (last : Kept) : Type 0 where
     pub batch : Course
     pub leads : LeadsOn limits task p before es (at_rest batch last)
-    pub awaits : Awaits (at_rest batch last) resting
+    pub awaits : AwaitsPhase (at_rest batch last) resting
 
-  pub whole_lead : (k last : Kept) (before es : List Entry) (p : Place) → LeadTo limits task k before es last → p.kept ≡ k
-      → Awaits p resting → LeadsWhole p before es last
+  pub whole_lead : (k last : Kept) (before es : List Entry) (p : ModePlace) → LeadTo limits task k before es last → p.kept ≡ k
+      → AwaitsPhase p resting → LeadsWhole p before es last
   whole_lead k last before es p lead_none same awaits = record {
     batch = p.batch;
     leads = λ i. record { batch = p.batch; phase = awaits.phase_is i; kept = same i };

@@ -3,10 +3,10 @@ use Rattle.std.specs.Prelude.{◌≡◌, ◌==◌, ◌&&◌, ℕ, ◌+◌, ◌-�
 use Rattle.dream_asks.specs.Next.{asked_instances}
 use Rattle.dream_asks.specs.Progress.{numbered}
 use Rattle.dream_asks.specs.declared.asks.DreamAsk.{DreamAsk}
-use Rattle.instance_queue.specs.Level.{instances_of}
+use Rattle.instance_queue.specs.Level.{due_instances}
 use Rattle.instance_queue.specs.declared.due.Due.{Due}
 use Rattle.level_course.specs.Agendas.{Agenda, Starts, nothing_to_do, place_in, with_answer}
-use Rattle.mode_course.specs.Places.{Phase as Awaited, Place, dreamt, is_repeated, joining, phase_behind, picking, repeated, resting, unasked, undreamt}
+use Rattle.mode_course.specs.Places.{Phase as Awaited, ModePlace, dreamt, is_repeated, joining, phase_behind, picking, repeated, resting, unasked, undreamt}
 use Rattle.mode_course.specs.Running.{AreNextOf, Run, asking, made_by, nothing_run, run_of, sent_of}
 use Rattle.mode_course.specs.declared.course.ModeCourse.TheInside.{Inside}
 use Rattle.mode_course.specs.declared.course.Phase.{Phase}
@@ -65,9 +65,9 @@ is_over batch = (batch.answers == 0) && not batch.is_cut
 
 -- a batch begins over what is due, after so many requests of so many; behind it comes the next
 -- turn, and this is kept
-pub record Begins (pools : List Share) (dues : List Due) (before calls : ℕ) (kept : Kept)
+pub record BeginsBatch (pools : List Share) (dues : List Due) (before calls : ℕ) (kept : Kept)
     (new : ModeAgenda) : Type 0 where
-  pub batch : Starts pools (take (calls - before) (instances_of dues))
+  pub batch : Starts pools (take (calls - before) (due_instances dues))
       (before + 1) (nat_lt (calls - before) (length dues)) new.batch
   pub phase_is : new.phase ≡ resting
   pub kept_is : new.kept ≡ kept
@@ -101,7 +101,7 @@ pub record MovesOn (task : Task) (known : Known) (notes : List Note) (behind : L
   pub begins : BeginsNext pools over asks calls old new
 
 -- a dream is run from its beginning, of which nothing was asked
-abbrev pub with_run : ModeAgenda → List dreams.Entry → (real from before : ℕ) → ModeAgenda
+abbrev pub with_run : ModeAgenda → List dreams.SupposedEntry → (real from before : ℕ) → ModeAgenda
 with_run a entries real from before = record {
   batch = a.batch;
   phase = a.phase;
@@ -150,7 +150,7 @@ abbrev pub KeepsRun : ℕ → List Entry → ModeAgenda → Type 0
 KeepsRun calls entries a = is_repeated a.phase ≡ true → RunsBehind calls entries a
 
 -- where a transcript stands behind which this is to be done
-abbrev pub mode_place_in : Task → List Entry → ModeAgenda → Place
+abbrev pub mode_place_in : Task → List Entry → ModeAgenda → ModePlace
 mode_place_in task entries a =
     record { batch = place_in task entries a.batch; phase = a.phase; kept = a.kept }
 
@@ -163,8 +163,8 @@ phase_of Dreamt r = dreamt
 phase_of Repeated r = repeated r.real r.entries (sent_of r)
 phase_of (Unasked place) r = unasked place
 
-abbrev pub shown : Inside → ModeAgenda
-shown c = record {
+abbrev pub shown_mode : Inside → ModeAgenda
+shown_mode c = record {
   batch = c.batch;
   phase = phase_of c.phase (run_of c.run);
   kept = record { tried = c.tried; skeletons = skeletons_in c.skeletons.items };

@@ -1,6 +1,6 @@
 -- Laws of places. Each is the contract of a public function of `laws.rt`, and so is proved.
 use Rattle.std.specs.Prelude.{◌≡◌, ◌⊎◌, ◌↔◌, ◌<◌, ◌≤◌, List, [], All}
-use Rattle.mode_course.specs.Places.{Awaits, AwaitsLine, IsCutOff, LeadsOn, Place, at_start, resting}
+use Rattle.mode_course.specs.Places.{AwaitsPhase, AwaitsLine, IsCutOff, LeadsOn, ModePlace, at_start, resting}
 use Rattle.mode_turns.specs.Modes.{Leaves}
 use Rattle.task_model.specs.declared.task.Task.{Task}
 use Rattle.transcript_model.specs.Rounds.{Limits, Share}
@@ -9,36 +9,36 @@ use Rattle.transcript_model.specs.declared.entry.Entry.{Entry}
 
 -- a place is between two turns, behind a batch that was cut, or inside a turn: in a batch, or where
 -- another line of the turn comes
-abbrev pub IsAt : Place → Stage → Type 0
-IsAt p between = Awaits p resting
-IsAt p after_cut = IsCutOff p
-IsAt p inside = (0 < p.batch.answers) ⊎ AwaitsLine p
+abbrev pub IsPlaceAt : ModePlace → Stage → Type 0
+IsPlaceAt p between = AwaitsPhase p resting
+IsPlaceAt p after_cut = IsCutOff p
+IsPlaceAt p inside = (0 < p.batch.answers) ⊎ AwaitsLine p
 
 -- Entries that lead somewhere are turns of the mode, the last of which stops there.
-abbrev pub CoursesAreTurns : Type 0
-CoursesAreTurns =
-    (limits : Limits) (task : Task) (entries : List Entry) (p : Place)
+abbrev pub ModeCoursesAreTurns : Type 0
+ModeCoursesAreTurns =
+    (limits : Limits) (task : Task) (entries : List Entry) (p : ModePlace)
     → All (λ (s : Share). 1 ≤ s.workers) limits.pools → LeadsOn limits task at_start [] entries p
-    → (stage : Stage) × IsAt p stage × AreTurnsOf limits.mode limits task entries stage
+    → (stage : Stage) × IsPlaceAt p stage × AreTurnsOf limits.mode limits task entries stage
 
 -- Turns of the mode lead somewhere; whole ones lead between two turns, and behind a batch that was
 -- cut they lead there.
-abbrev pub TurnsAreCourses : Type 0
-TurnsAreCourses =
+abbrev pub TurnsAreModeCourses : Type 0
+TurnsAreModeCourses =
     (limits : Limits) (task : Task) (entries : List Entry) (stage : Stage)
     → AreTurnsOf limits.mode limits task entries stage
-    → (p : Place) × LeadsOn limits task at_start [] entries p × (¬ (stage ≡ inside) → IsAt p stage)
+    → (p : ModePlace) × LeadsOn limits task at_start [] entries p × (¬ (stage ≡ inside) → IsPlaceAt p stage)
 
 -- The same entries lead to one place.
-abbrev pub CoursesAreOne : Type 0
-CoursesAreOne =
-    (limits : Limits) (task : Task) (entries : List Entry) (p q : Place)
+abbrev pub ModeCoursesAreOne : Type 0
+ModeCoursesAreOne =
+    (limits : Limits) (task : Task) (entries : List Entry) (p q : ModePlace)
     → LeadsOn limits task at_start [] entries p → LeadsOn limits task at_start [] entries q → p ≡ q
 
 -- Whole turns leave what is kept where the entries lead, and that alone; and between two turns it
 -- is left.
 abbrev pub LeftIsOne : Type 0
 LeftIsOne =
-    (limits : Limits) (task : Task) (entries : List Entry) (p : Place) (k : Kept)
+    (limits : Limits) (task : Task) (entries : List Entry) (p : ModePlace) (k : Kept)
     → All (λ (s : Share). 1 ≤ s.workers) limits.pools → LeadsOn limits task at_start [] entries p
-    → Leaves limits task entries k ↔ (IsAt p between × (k ≡ p.kept))
+    → Leaves limits task entries k ↔ (IsPlaceAt p between × (k ≡ p.kept))

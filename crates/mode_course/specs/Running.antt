@@ -15,7 +15,7 @@ use Rattle.transcript_model.specs.declared.entry.Entry.{Entry}
 -- The entries of a dream, before which so many objects were real; how many entries of the transcript
 -- stand before its first batch, how many requests were made before, and what was asked of it.
 pub record Run : Type 0 where
-  pub entries : List dreams.Entry
+  pub entries : List dreams.SupposedEntry
   pub real : ℕ
   pub from : ℕ
   pub before : ℕ

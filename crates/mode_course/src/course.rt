@@ -48,19 +48,19 @@ pub struct ModeCourse {
 }
 
 impl Model for ModeCourse {
-    ghost use Rattle.mode_course.specs.Agendas.{ModeAgenda, shown};
+    ghost use Rattle.mode_course.specs.Agendas.{ModeAgenda, shown_mode};
 
     ghost Value = { ModeAgenda };
 
-    ghost view = { shown };
+    ghost view = { shown_mode };
 }
 
 impl ModeCourse {
     ghost use Rattle.std.specs.Prelude.{◌≡◌, ℕ, ◌+◌, ◌-◌, ◌<◌, ◌≤◌, ◌&&◌, [], true, length, take, slice_get, option_copied, Some, IfSome, IfNone, OnOk};
     ghost use Rattle.std.specs.List.{list_all};
-    ghost use Rattle.instance_queue.specs.Level.{instances_of};
+    ghost use Rattle.instance_queue.specs.Level.{due_instances};
     ghost use Rattle.level_course.specs.Agendas.{with_asked};
-    ghost use Rattle.mode_course.specs.Agendas.{Begins, HasPicked, HasSettled, IsAnswered, MovesOn, is_dreamt, is_over, is_resting, is_to_settle, is_undreamt, nothing_begun, phase_of, with_agenda, with_run};
+    ghost use Rattle.mode_course.specs.Agendas.{BeginsBatch, HasPicked, HasSettled, IsAnswered, MovesOn, is_dreamt, is_over, is_resting, is_to_settle, is_undreamt, nothing_begun, phase_of, with_agenda, with_run};
     ghost use Rattle.mode_course.specs.Places.{awaits_line, dreamt, forgetting, joining, keeping, resting, unasked, undreamt};
     ghost use Rattle.mode_course.specs.Running.{made_by};
     ghost use Rattle.pools.specs.Pools.{shares_of};
@@ -166,7 +166,7 @@ impl ModeCourse {
     pub fn begin_level(&mut self, pools: &[Workers], dues: Vec<Due>, before: u32, calls: u32)
         requires left { before ≤ calls }
         requires few { calls ≤ MOST_CALLS }
-        ensures { Begins (shares_of pools.now) dues.items before calls self.old.kept self.new }
+        ensures { BeginsBatch (shares_of pools.now) dues.items before calls self.old.kept self.new }
     {
         self.batch.begin(pools, dues, before, calls);
         self.phase = Phase::Resting;
@@ -186,8 +186,8 @@ impl ModeCourse {
     ) -> Result<(), AllocError>
         requires left { before ≤ calls }
         requires few { calls ≤ MOST_CALLS }
-        ensures begins { OnOk result (Begins (shares_of pools.now) asks.items before calls
-            (joining self.old.kept (take (calls - before) (instances_of asks.items))) self.new) }
+        ensures begins { OnOk result (BeginsBatch (shares_of pools.now) asks.items before calls
+            (joining self.old.kept (take (calls - before) (due_instances asks.items))) self.new) }
         ensures run { self.new.run ≡ self.old.run }
     {
         let count = ((calls - before) as usize).min(asks.len());

@@ -1,20 +1,20 @@
 //! Laws of the definitions in `specs/`, each the contract of a function that does nothing.
-ghost use Rattle.mode_course.specs.Laws.{CoursesAreOne, CoursesAreTurns, LeftIsOne, TurnsAreCourses};
+ghost use Rattle.mode_course.specs.Laws.{ModeCoursesAreOne, ModeCoursesAreTurns, LeftIsOne, TurnsAreModeCourses};
 
 /// Entries that may come one after another are turns of the mode, the last of which may stop at any
 /// entry.
 pub fn courses_are_turns()
-    ensures { CoursesAreTurns }
+    ensures { ModeCoursesAreTurns }
 {}
 
 /// The entries of such turns may come one after another.
 pub fn turns_are_courses()
-    ensures { TurnsAreCourses }
+    ensures { TurnsAreModeCourses }
 {}
 
 /// The same entries lead to one place.
 pub fn courses_are_one()
-    ensures { CoursesAreOne }
+    ensures { ModeCoursesAreOne }
 {}
 
 /// What is carried behind whole turns is what the place keeps where they lead.

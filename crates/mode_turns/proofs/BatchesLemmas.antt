@@ -15,7 +15,7 @@ use Rattle.transcript_model.specs.Turns.{AreBatches, finished, further, last}
 use Rattle.transcript_model.specs.declared.entry.Entry.{Entry}
 
 module _ (limits : Limits) (task : Task) (real : ℕ)
-    (entries : List dreams.Entry) (work : All (λ (p : Share). 1 ≤ p.workers) limits.pools) where
+    (entries : List dreams.SupposedEntry) (work : All (λ (p : Share). 1 ≤ p.workers) limits.pools) where
   -- behind these entries the batches have an end
   pub record Ending (sent : List Sent) (before : List Entry) : Type 0 where
     pub now : List Entry
@@ -73,7 +73,7 @@ module _ (limits : Limits) (task : Task) (real : ℕ)
 
 -- ---- how many are asked
 
-module _ (limits : Limits) (task : Task) (real : ℕ) (entries : List dreams.Entry) where
+module _ (limits : Limits) (task : Task) (real : ℕ) (entries : List dreams.SupposedEntry) where
   pub batches_grow : (sent : List Sent) (before now : List Entry) (after : List Sent) (cut : Bool)
       → AreBatches limits task real entries sent before now after cut → length sent ≤ length after
   batches_grow sent before now after cut (finished none) = omega arith

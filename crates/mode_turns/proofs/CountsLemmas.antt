@@ -75,7 +75,7 @@ fallback_keeps limits task before tried now cut (reset first more) =
     mark_keeps limits before [] entry.Reset refl (none_keeps limits (before ++ entry.Reset ∷ []))
 fallback_keeps limits task before tried now cut (level this) = level_keeps limits task before now cut this
 
-batches_keep : (limits : Limits) (task : Task) (real : ℕ) (entries : List dreams.Entry) (sent : List Sent)
+batches_keep : (limits : Limits) (task : Task) (real : ℕ) (entries : List dreams.SupposedEntry) (sent : List Sent)
     (before now : List Entry) (after : List Sent) (cut : Bool)
     → AreBatches limits task real entries sent before now after cut → Keeps limits before now
 batches_keep limits task real entries sent before now after cut (finished none) = none_keeps limits before
@@ -92,9 +92,9 @@ retiring_none number [] = refl
 retiring_none number (s ∷ sent) = refl
 
 module _ (limits : Limits) (task : Task) where
-  dream_keeps : (asks : ℕ → List dreams.Entry → List Entry → List Entry → List Sent → Bool → Type 0)
+  dream_keeps : (asks : ℕ → List dreams.SupposedEntry → List Entry → List Entry → List Sent → Bool → Type 0)
       (tried : List Instance) (before now : List Entry) (next : List Instance) (cut : Bool)
-      → ((real : ℕ) (entries : List dreams.Entry) (b n : List Entry) (s : List Sent) (c : Bool) → asks real entries b n s c
+      → ((real : ℕ) (entries : List dreams.SupposedEntry) (b n : List Entry) (s : List Sent) (c : Bool) → asks real entries b n s c
       → Keeps limits b n)
       → IsDreamTurn limits task asks tried before now next cut → Keeps limits before now
   dream_keeps asks tried before now next cut each this =

@@ -45,7 +45,7 @@ module _ (limits : Limits) (task : Task) where
       subst Dreamless (sym this.is)
       (before_all entry.Level this.rest refl (batch_dreamless (before ++ entry.Level ∷ []) this.rest this.list this.batch))
 
-  batches_dreamless : (real : ℕ) (entries : List dreams.Entry) (sent : List Sent)
+  batches_dreamless : (real : ℕ) (entries : List dreams.SupposedEntry) (sent : List Sent)
       (before now : List Entry) (after : List Sent) (cut : Bool)
       → AreBatches limits task real entries sent before now after cut → Dreamless now
   batches_dreamless real entries sent before now after cut (finished none) = All-nil (λ x. is_dream_line x ≡ false)
@@ -58,9 +58,9 @@ module _ (limits : Limits) (task : Task) where
   retiring_dreamless number [] = before_all (entry.Retire number) [] refl (All-nil (λ x. is_dream_line x ≡ false))
   retiring_dreamless number (s ∷ sent) = All-nil (λ x. is_dream_line x ≡ false)
 
-  dream_opens : (asks : ℕ → List dreams.Entry → List Entry → List Entry → List Sent → Bool → Type 0)
+  dream_opens : (asks : ℕ → List dreams.SupposedEntry → List Entry → List Entry → List Sent → Bool → Type 0)
       (tried : List Instance) (before now : List Entry) (next : List Instance) (cut : Bool)
-      → ((real : ℕ) (entries : List dreams.Entry) (b n : List Entry) (s : List Sent) (c : Bool) → asks real entries b n s c
+      → ((real : ℕ) (entries : List dreams.SupposedEntry) (b n : List Entry) (s : List Sent) (c : Bool) → asks real entries b n s c
       → Dreamless n)
       → IsDreamTurn limits task asks tried before now next cut → Opens Focused now
   dream_opens asks tried before now next cut each this = record {

@@ -34,7 +34,7 @@ FrontsAreBegun =
 -- Behind any transcript the batches of a dream's entries have an end, where each pool has a worker.
 abbrev pub BatchesExist : Type 0
 BatchesExist =
-    (limits : Limits) (task : Task) (real : ℕ) (entries : List dreams.Entry) (sent : List Sent) (before : List Entry)
+    (limits : Limits) (task : Task) (real : ℕ) (entries : List dreams.SupposedEntry) (sent : List Sent) (before : List Entry)
     → All (λ (p : Share). 1 ≤ p.workers) limits.pools
     → (now : List Entry) × (after : List Sent) × (cut : Bool)
     × AreBatches limits task real entries sent before now after cut

@@ -14,7 +14,7 @@ use Rattle.form_reader.specs.declared.groups.Spot.TheVariants.{Start}
 use Rattle.form_reader.specs.declared.words.WordSort.TheVariants.{Name}
 use Rattle.form_reader.specs.Rows.{after_word, groups_faults}
 use Rattle.name_tables.specs.Declarations.{Typed, declare, declare_each, declared_by, declared_list, number_put, put_number}
-use Rattle.name_tables.specs.Names.{has_name, place_of, with_name}
+use Rattle.name_tables.specs.Names.{has_name, table_place, with_table_name}
 use Rattle.name_tables.specs.Variables.{is_named, named_sorts, named_words, seen_after, types_names}
 use Rattle.name_tables.proofs.GraphsOrderLemmas.{Ascends, ascends_places, ascends_with}
 use Rattle.name_tables.proofs.FitGroups.{sort_places, sorts_as_long, words_are_names}
@@ -25,7 +25,7 @@ use Rattle.task_model.specs.Known.{with_names}
 -- ---- one name more
 
 pub named_with : (names : List (List ℕ)) (name : List ℕ) → list_all is_name names ≡ true
-    → is_name name ≡ true → list_all is_name (with_name names name) ≡ true
+    → is_name name ≡ true → list_all is_name (with_table_name names name) ≡ true
 named_with names name all one =
     elim (has_name name names) as (λ b. list_all is_name (cond b names (names ++ name ∷ [])) ≡ true) [
       | true ↦ all
@@ -38,7 +38,7 @@ pub named_names : (names ns : List (List ℕ)) → list_all is_name names ≡ tr
     → list_all is_name ns ≡ true → list_all is_name (with_names names ns) ≡ true
 named_names names [] e f = e
 named_names names (n ∷ ns) e f =
-    named_names (with_name names n) ns (named_with names n e (first_so (is_name n) (list_all is_name ns) f))
+    named_names (with_table_name names n) ns (named_with names n e (first_so (is_name n) (list_all is_name ns) f))
     (second_so (is_name n) (list_all is_name ns) f)
 
 pub seen_names : (names : List (List ℕ)) (spot : Spot) (ts : Trees)
@@ -46,9 +46,9 @@ pub seen_names : (names : List (List ℕ)) (spot : Spot) (ts : Trees)
 seen_names names spot nothing = refl
 seen_names names spot (list items at rest) = refl
 seen_names names spot (word text at rest) =
-    seen_names (cond (is_named spot text) (with_name names text) names) (after_word spot text) rest
+    seen_names (cond (is_named spot text) (with_table_name names text) names) (after_word spot text) rest
     ∙ elim (is_named spot text) as (λ b.
-    with_names (cond b (with_name names text) names) (named_words (after_word spot text) rest)
+    with_names (cond b (with_table_name names text) names) (named_words (after_word spot text) rest)
     ≡ with_names names (cond b (text ∷ named_words (after_word spot text) rest) (named_words (after_word spot text) rest))) [
       | true ↦ refl
       | false ↦ refl
@@ -93,7 +93,7 @@ put_long (ns ∷ lists) (suc place) n =
     ∙ ap suc (put_long lists place n)
 
 typed_by : (size : ℕ) (t : Typed) (name : List ℕ) (sort : ℕ) (o : Option ℕ)
-    → place_of name t.names ≡ o → AreTyped size t → is_name name ≡ true → sort < size
+    → table_place name t.names ≡ o → AreTyped size t → is_name name ≡ true → sort < size
     → AreTyped size (declared_by t name sort o)
 typed_by size t name sort (Some place) e a one lt = record {
   distinct = a.distinct;
@@ -122,7 +122,7 @@ typed_each size t [] ss a e f = a
 typed_each size t (n ∷ ns) [] a e f = a
 typed_each size t (n ∷ ns) (s ∷ ss) a e f =
     typed_each size (declare t n s) ns ss
-    (typed_by size t n s (place_of n t.names) refl a
+    (typed_by size t n s (table_place n t.names) refl a
     (first_so (is_name n) (list_all is_name ns) e) (ltb-true s size (first_so (nat_lt s size) (list_all (λ n. nat_lt n size) ss) f)))
     (second_so (is_name n) (list_all is_name ns) e) (second_so (nat_lt s size) (list_all (λ n. nat_lt n size) ss) f)
 
@@ -137,8 +137,8 @@ typed_groups sorts t place ts typed a f n =
 
 -- ---- the names of what is declared
 
-declared_name : (t : Typed) (name : List ℕ) (sort : ℕ) (o : Option ℕ) → place_of name t.names ≡ o
-    → (declared_by t name sort o).names ≡ with_name t.names name
+declared_name : (t : Typed) (name : List ℕ) (sort : ℕ) (o : Option ℕ) → table_place name t.names ≡ o
+    → (declared_by t name sort o).names ≡ with_table_name t.names name
 declared_name t name sort None e = refl
 declared_name t name sort (Some place) e =
     sym (ap (λ b. cond b t.names (t.names ++ name ∷ [])) (name_there name t.names place (place_named name t.names place e)))
@@ -149,7 +149,7 @@ declared_names t [] ss e = refl
 declared_names t (n ∷ ns) [] e = absurd (omega arith)
 declared_names t (n ∷ ns) (s ∷ ss) e =
     declared_names (declare t n s) ns ss (omega arith)
-    ∙ ap (λ m. with_names m ns) (declared_name t n s (place_of n t.names) refl)
+    ∙ ap (λ m. with_names m ns) (declared_name t n s (table_place n t.names) refl)
 
 pub groups_declared : (sorts : List (List ℕ)) (t : Typed) (ts : Trees)
     → (declare_each t (named_words Start ts) (named_sorts sorts Start 0 ts)).names ≡ with_names t.names (named_words Start ts)

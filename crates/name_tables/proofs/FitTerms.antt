@@ -16,7 +16,7 @@ use Rattle.form_reader.specs.Faults.{shape}
 use Rattle.form_reader.specs.Rows.{application_faults, head_of, row_faults, tail_of}
 use Rattle.form_reader.specs.Words.{is_of}
 use Rattle.name_tables.specs.Declarations.{signature_list}
-use Rattle.name_tables.specs.Names.{Signed, has_name, last_place, place_of}
+use Rattle.name_tables.specs.Names.{Signed, has_name, last_place, table_place}
 use Rattle.name_tables.specs.Terms.{application_names, declared_place, term_by, term_of, terms_names, terms_of, use_names, width}
 use Rattle.name_tables.specs.Variables.{unless}
 use Rattle.name_tables.specs.Vocabulary.{arity_at, arity_of}
@@ -52,13 +52,13 @@ filled_more filled size more old n lt =
 module _ (objects scope : List (List ℕ)) (filled : List ℕ) (slots : AreFilled filled (length scope)) where
   term_fits : (text : List ℕ) (o : Option ℕ) → last_place 0 None text scope ≡ o
       → (has_name text scope || has_name text objects) ≡ true
-      → is_fit_term (length objects) filled (term_by o (place_of text objects)) ≡ true
+      → is_fit_term (length objects) filled (term_by o (table_place text objects)) ≡ true
   term_fits text (Some slot) e t = slots slot (last_within 0 None text scope (length scope) (λ k none. absurd (cc)) (omega arith) slot e)
   term_fits text None e t =
       let absent : has_name text scope ≡ false = (last_none 0 None text scope e).1 in
       let there : has_name text objects ≡ true = subst (λ b. (b || has_name text objects) ≡ true) absent t in
       let found = place_there text objects there in
-      lt-ltb (unwrap_or (place_of text objects) 0) (length objects)
+      lt-ltb (unwrap_or (table_place text objects) 0) (length objects)
       (subst (λ n. n < length objects) (ap (λ o. unwrap_or o 0) (sym found.1)) (place_within text objects found.0 found.1))
 
   pub terms_fit : (ts : Trees) → terms_names objects scope ts ≡ []
@@ -102,7 +102,7 @@ at_some s (Some p) a e = (p, refl, e)
 pub arity_there : (s : Signed) (text : List ℕ) (a : ℕ) → arity_of s text ≡ Some a
     → has_arity (signature_list s.names s.arities) (declared_place s text) a ≡ true
 arity_there s text a e =
-    let found = at_some s (place_of text s.names) a e in
+    let found = at_some s (table_place text s.names) a e in
     let there = signature_at s.names s.arities found.0 a (place_within text s.names found.0 found.1) found.2 in
     rw (found.1, there.1) (eq-eqb there.0.arity a there.2)
 

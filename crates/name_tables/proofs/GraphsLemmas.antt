@@ -5,7 +5,7 @@ use Rattle.std.proofs.lemmas.Map.Keys.{any_passes_from_place}
 use Rattle.std.proofs.lemmas.List.{take-append-le, take_all, append-nil}
 use Rattle.std.proofs.lemmas.Option.{slice_get_within, slice_get_cases}
 use Rattle.lemmas.specs.Lists.{LeadsAlong, has_number}
-use Rattle.name_tables.specs.Graphs.{AreReached, HasWay, leads, next_of, with_number, with_numbers}
+use Rattle.name_tables.specs.Graphs.{AreReached, HasWay, has_edge, next_of, with_number, with_numbers}
 use Rattle.lemmas.proofs.Members.{next_taken}
 
 -- one number more at the end
@@ -126,20 +126,20 @@ no_number b h = absurd (cc)
 -- ---- ways
 
 module _ (edges : List (List ℕ)) where
-  longer : (a : ℕ) (between : List ℕ) (b c : ℕ) → LeadsAlong (leads edges) a between b
-      → leads edges b c ≡ true → LeadsAlong (leads edges) a (between ++ b ∷ []) c
+  longer : (a : ℕ) (between : List ℕ) (b c : ℕ) → LeadsAlong (has_edge edges) a between b
+      → has_edge edges b c ≡ true → LeadsAlong (has_edge edges) a (between ++ b ∷ []) c
   longer a [] b c l e = (l, e)
   longer a (m ∷ ms) b c l e = (l.0, longer m ms b c l.1 e)
 
-  further : (a b c : ℕ) → HasWay edges a b → leads edges b c ≡ true → HasWay edges a c
+  further : (a b c : ℕ) → HasWay edges a b → has_edge edges b c ≡ true → HasWay edges a c
   further a b c w e =
       record { between = w.between ++ b ∷ []; steps = longer a w.between b c w.steps e }
 
   -- what has been seen, of which the first `done` have been gone through
   pub record Explored (start : ℕ) (seen : List ℕ) (done : ℕ) : Type 0 where
     pub reached : (b : ℕ) → has_number seen b ≡ true → HasWay edges start b
-    pub begun : (b : ℕ) → leads edges start b ≡ true → has_number seen b ≡ true
-    pub closed : (a b : ℕ) → has_number (take done seen) a ≡ true → leads edges a b ≡ true
+    pub begun : (b : ℕ) → has_edge edges start b ≡ true → has_number seen b ≡ true
+    pub closed : (a b : ℕ) → has_number (take done seen) a ≡ true → has_edge edges a b ≡ true
         → has_number seen b ≡ true
 
   pub explored_first : (start : ℕ) (seen : List ℕ) → seen ≡ with_numbers [] (next_of edges start)
@@ -185,15 +185,15 @@ module _ (edges : List (List ℕ)) where
             (subst (λ ys. has_number ys c ≡ true)
             (take_grown seen (with_numbers seen (next_of edges a)) done a (grows_all seen (next_of edges a)) at) h)) [
               | inl g ↦ keeps_all seen (next_of edges a) b (x.closed c b g f)
-              | inr g ↦ gets_all seen (next_of edges a) b (subst (λ d. leads edges d b ≡ true) g f)
+              | inr g ↦ gets_all seen (next_of edges a) b (subst (λ d. has_edge edges d b ≡ true) g f)
             ];
       }
       )
 
   all_closed : (start : ℕ) (seen : List ℕ)
-      → ((a b : ℕ) → has_number seen a ≡ true → leads edges a b ≡ true → has_number seen b ≡ true)
+      → ((a b : ℕ) → has_number seen a ≡ true → has_edge edges a b ≡ true → has_number seen b ≡ true)
       → (a : ℕ) (between : List ℕ) (b : ℕ) → has_number seen a ≡ true
-      → LeadsAlong (leads edges) a between b → has_number seen b ≡ true
+      → LeadsAlong (has_edge edges) a between b → has_number seen b ≡ true
   all_closed start seen closed a [] b h l = closed a b h l
   all_closed start seen closed a (m ∷ ms) b h l =
       all_closed start seen closed m ms b (closed a m h l.0) l.1
@@ -215,11 +215,11 @@ module _ (edges : List (List ℕ)) where
               some_none : (x : ℕ) → Some x ≡ None → ⊥
               some_none x e = cc
 
-      closed : (a b : ℕ) → has_number seen a ≡ true → leads edges a b ≡ true
+      closed : (a b : ℕ) → has_number seen a ≡ true → has_edge edges a b ≡ true
           → has_number seen b ≡ true
       closed a b h f = x.closed a b (subst (λ ys. has_number ys a ≡ true) (sym whole) h) f
 
-      all : (b : ℕ) (between : List ℕ) → LeadsAlong (leads edges) start between b
+      all : (b : ℕ) (between : List ℕ) → LeadsAlong (has_edge edges) start between b
           → has_number seen b ≡ true
       all b [] l = x.begun b l
       all b (m ∷ ms) l = all_closed start seen closed m ms b (x.begun m l.0) l.1

@@ -7,7 +7,7 @@ use Rattle.std.proofs.lemmas.Option.{slice_get_within}
 use Rattle.lemmas.proofs.Members.{get_append}
 use Rattle.lemmas.proofs.ListTests.{any_found}
 use Rattle.lemmas.specs.Lists.{AreDistinct}
-use Rattle.name_tables.specs.Names.{Signed, has_name, with_name, with_signature}
+use Rattle.name_tables.specs.Names.{Signed, has_name, with_table_name, with_signature}
 
 -- none of the names stands among those that were seen, and none twice
 abbrev pub AreFresh : List (List ℕ) → List (List ℕ) → Type 0
@@ -39,7 +39,7 @@ fresh_from seen (n ∷ ns) d =
 
 -- a table of fresh names has all of them, in their order
 pub name_new : (names : List (List ℕ)) (n : List ℕ) → has_name n names ≡ false
-    → with_name names n ≡ names ++ n ∷ []
+    → with_table_name names n ≡ names ++ n ∷ []
 name_new names n e = ap (λ b. cond b names (names ++ n ∷ [])) e
 
 pub signature_new : (s : Signed) (n : List ℕ) (a : ℕ) → has_name n s.names ≡ false

@@ -9,7 +9,7 @@ use Rattle.std.proofs.lemmas.Slice.Eq.{bytes_eq-Decides}
 use Rattle.std.proofs.lemmas.Map.Keys.{any_passes_from_place}
 use Rattle.lemmas.proofs.ListTests.{any_found, any_append_right}
 use Rattle.lemmas.specs.Lists.{AreDistinct}
-use Rattle.name_tables.specs.Names.{has_name, last_place, place_of, with_name}
+use Rattle.name_tables.specs.Names.{has_name, last_place, table_place, with_table_name}
 
 pub same_name : (n m : List ℕ) → bytes_eq n m ≡ true → n ≡ m
 same_name n m e = (bytes_eq-Decides n m).0 e
@@ -29,18 +29,18 @@ first_within p (x ∷ xs) e =
     ] e
 
 pub place_there : (name : List ℕ) (names : List (List ℕ)) → has_name name names ≡ true
-    → (i : ℕ) × (place_of name names ≡ Some i)
+    → (i : ℕ) × (table_place name names ≡ Some i)
 place_there name names e = (
   position_or_len (bytes_eq name) names,
   cond-true (nat_lt (position_or_len (bytes_eq name) names) (length names))
       (Some (position_or_len (bytes_eq name) names)) None (lt-ltb _ _ (first_within (bytes_eq name) names e)),
 )
 
-pub place_within : (name : List ℕ) (names : List (List ℕ)) (i : ℕ) → place_of name names ≡ Some i
+pub place_within : (name : List ℕ) (names : List (List ℕ)) (i : ℕ) → table_place name names ≡ Some i
     → i < length names
 place_within name names i e = (position-Some (bytes_eq name) names i [] e).0
 
-pub place_named : (name : List ℕ) (names : List (List ℕ)) (i : ℕ) → place_of name names ≡ Some i
+pub place_named : (name : List ℕ) (names : List (List ℕ)) (i : ℕ) → table_place name names ≡ Some i
     → slice_get names i ≡ Some name
 place_named name names i e =
     let found = position-Some (bytes_eq name) names i [] e in
@@ -57,7 +57,7 @@ name_found name names e =
     let found = any_found (bytes_eq name) names e in (found.0, found.2 ∙ ap Some (sym (same_name name found.1 found.3)))
 
 pub place_is : (name : List ℕ) (names : List (List ℕ)) (i : ℕ) → AreDistinct names
-    → slice_get names i ≡ Some name → place_of name names ≡ Some i
+    → slice_get names i ≡ Some name → table_place name names ≡ Some i
 place_is name names i distinct at =
     let found = place_there name names (name_there name names i at) in
     found.1 ∙ ap Some (distinct found.0 i name (place_named name names found.0 found.1) at)
@@ -96,7 +96,7 @@ last_none at so_far name (n ∷ ns) e =
         ] refl
 
 -- a name stands in a table that it was put into
-pub has_with : (names : List (List ℕ)) (name : List ℕ) → has_name name (with_name names name) ≡ true
+pub has_with : (names : List (List ℕ)) (name : List ℕ) → has_name name (with_table_name names name) ≡ true
 has_with names name =
     elim (has_name name names) as (λ b. has_name name names ≡ b → has_name name (cond b names (names ++ name ∷ [])) ≡ true) [
       | true ↦ λ t. t

@@ -8,29 +8,29 @@ use Rattle.lemmas.proofs.Positions.{any_within}
 use Rattle.task_model.specs.Fit.{has_arity}
 use Rattle.task_model.specs.declared.domain.Signature.{Signature}
 use Rattle.form_reader.specs.declared.fault.InputKind.TheVariants.{Arity}
-use Rattle.name_tables.specs.Names.{Signed, has_name, place_of}
+use Rattle.name_tables.specs.Names.{Signed, has_name, table_place}
 use Rattle.name_tables.specs.Terms.{declared_place, use_names}
 use Rattle.name_tables.specs.Vocabulary.{arity_at, arity_of}
 use Rattle.name_tables.proofs.NoFaultLemmas.{met}
 use Rattle.name_tables.proofs.NamesLemmas.{place_named, place_there}
 
 module _ (n : List ℕ) (ns : List (List ℕ)) where
-  pub place_none : has_name n ns ≡ false → place_of n ns ≡ None
+  pub place_none : has_name n ns ≡ false → table_place n ns ≡ None
   place_none e =
       let first : ℕ = position_or_len (bytes_eq n) ns in
       cond-false (nat_lt first (length ns)) (Some first) None (sym (any_within (bytes_eq n) ns) ∙ e)
 
   -- a name that is there has a place, and stands at it
-  pub place_some : has_name n ns ≡ true → place_of n ns ≡ Some (unwrap_or (place_of n ns) 0)
+  pub place_some : has_name n ns ≡ true → table_place n ns ≡ Some (unwrap_or (table_place n ns) 0)
   place_some e =
       let found = place_there n ns e in found.1 ∙ ap Some (sym (ap (λ o. unwrap_or o 0) found.1))
 
-  pub place_holds : has_name n ns ≡ true → slice_get ns (unwrap_or (place_of n ns) 0) ≡ Some n
-  place_holds e = place_named n ns (unwrap_or (place_of n ns) 0) (place_some e)
+  pub place_holds : has_name n ns ≡ true → slice_get ns (unwrap_or (table_place n ns) 0) ≡ Some n
+  place_holds e = place_named n ns (unwrap_or (table_place n ns) 0) (place_some e)
 
 -- a place so far stays
 pub place_push : (n y : List ℕ) (ns : List (List ℕ)) → has_name n ns ≡ true
-    → place_of n (ns ++ y ∷ []) ≡ place_of n ns
+    → table_place n (ns ++ y ∷ []) ≡ table_place n ns
 place_push n y ns e =
     let k : ℕ = position_or_len (bytes_eq n) ns in
     let low : nat_lt k (length ns) ≡ true = sym (any_within (bytes_eq n) ns) ∙ e in

@@ -3,7 +3,7 @@ use Rattle.std.specs.Prelude.{ℕ, List, [], ◌∷◌, ◌++◌, Option, Some, 
 use Rattle.task_model.specs.declared.domain.Declared as declared
 use Rattle.task_model.specs.declared.domain.Signature.{Signature}
 use Rattle.name_tables.specs.Graphs.{ascending_with}
-use Rattle.name_tables.specs.Names.{place_of, with_name}
+use Rattle.name_tables.specs.Names.{table_place, with_table_name}
 
 -- names, and at the same place in the other list the ascending numbers of their types
 pub record Typed : Type 0 where
@@ -23,12 +23,12 @@ number_put lists place n = put_number lists place n (slice_get lists place)
 
 abbrev pub declared_by : Typed → List ℕ → ℕ → Option ℕ → Typed
 declared_by t name sort None =
-    record { names = with_name t.names name; sorts = t.sorts ++ (sort ∷ []) ∷ [] }
+    record { names = with_table_name t.names name; sorts = t.sorts ++ (sort ∷ []) ∷ [] }
 declared_by t name sort (Some place) = record t { sorts = number_put t.sorts place sort }
 
 -- A name that is declared again has both types.
 abbrev pub declare : Typed → List ℕ → ℕ → Typed
-declare t name sort = declared_by t name sort (place_of name t.names)
+declare t name sort = declared_by t name sort (table_place name t.names)
 
 -- each name with the type beside it
 abbrev pub declare_each : Typed → List (List ℕ) → List ℕ → Typed

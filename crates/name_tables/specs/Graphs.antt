@@ -14,18 +14,18 @@ with_numbers ns (m ∷ ms) = with_numbers (with_number ns m) ms
 abbrev pub next_of : List (List ℕ) → ℕ → List ℕ
 next_of edges n = unwrap_or (slice_get edges n) []
 
-abbrev pub leads : List (List ℕ) → ℕ → ℕ → Bool
-leads edges a b = has_number (next_of edges a) b
+abbrev pub has_edge : List (List ℕ) → ℕ → ℕ → Bool
+has_edge edges a b = has_number (next_of edges a) b
 
 -- there is a way from the one to the other, in one step or more
 pub record HasWay (edges : List (List ℕ)) (a b : ℕ) : Type 0 where
   pub between : List ℕ
-  pub steps : LeadsAlong (leads edges) a between b
+  pub steps : LeadsAlong (has_edge edges) a between b
 
 -- The list has exactly the numbers to which there is a way.
 pub record AreReached (edges : List (List ℕ)) (a : ℕ) (reached : List ℕ) : Type 0 where
   pub only : (b : ℕ) → has_number reached b ≡ true → HasWay edges a b
-  pub all : (b : ℕ) (between : List ℕ) → LeadsAlong (leads edges) a between b
+  pub all : (b : ℕ) (between : List ℕ) → LeadsAlong (has_edge edges) a between b
       → has_number reached b ≡ true
 
 -- ascending numbers with one more, unless it is there

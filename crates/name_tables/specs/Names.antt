@@ -4,15 +4,15 @@ use Rattle.std.specs.List.{list_any}
 use Rattle.std.specs.Str.{bytes_eq}
 
 -- the place of a name in a table, counted from 0
-abbrev pub place_of : List ℕ → List (List ℕ) → Option ℕ
-place_of name names = position (bytes_eq name) names
+abbrev pub table_place : List ℕ → List (List ℕ) → Option ℕ
+table_place name names = position (bytes_eq name) names
 
 abbrev pub has_name : List ℕ → List (List ℕ) → Bool
 has_name name names = list_any (bytes_eq name) names
 
 -- the table with this name, which goes last where it is new
-abbrev pub with_name : List (List ℕ) → List ℕ → List (List ℕ)
-with_name names name = if has_name name names then names else names ++ name ∷ []
+abbrev pub with_table_name : List (List ℕ) → List ℕ → List (List ℕ)
+with_table_name names name = if has_name name names then names else names ++ name ∷ []
 
 -- the last place of a name from this place on, or else the one so far
 abbrev pub last_place : ℕ → Option ℕ → List ℕ → List (List ℕ) → Option ℕ

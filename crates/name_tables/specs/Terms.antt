@@ -7,7 +7,7 @@ use Rattle.task_model.specs.declared.domain.Pattern.{Pattern}
 use Rattle.form_reader.specs.declared.fault.Fault.{Fault}
 use Rattle.form_reader.specs.declared.fault.InputKind.TheVariants.{Unknown, Arity}
 use Rattle.form_reader.specs.Rows.{head_of, tail_of}
-use Rattle.name_tables.specs.Names.{Signed, has_name, last_place, place_of}
+use Rattle.name_tables.specs.Names.{Signed, has_name, last_place, table_place}
 use Rattle.name_tables.specs.Variables.{unless}
 use Rattle.name_tables.specs.Vocabulary.{arity_of}
 use Rattle.name_tables.specs.declared.vocabulary.Vocabulary.{Vocabulary}
@@ -44,7 +44,7 @@ term_by (Some slot) object = Slot slot
 term_by None object = Object (unwrap_or object 0)
 
 abbrev pub term_of : (objects scope : List (List ℕ)) → List ℕ → Term
-term_of objects scope text = term_by (last_place 0 None text scope) (place_of text objects)
+term_of objects scope text = term_by (last_place 0 None text scope) (table_place text objects)
 
 abbrev pub terms_of : (objects scope : List (List ℕ)) → Trees → List Term
 terms_of objects scope nothing = []
@@ -54,7 +54,7 @@ terms_of objects scope (list items at rest) = terms_of objects scope rest
 
 -- the place of a declared name
 abbrev pub declared_place : Signed → List ℕ → ℕ
-declared_place declared text = unwrap_or (place_of text declared.names) 0
+declared_place declared text = unwrap_or (table_place text declared.names) 0
 
 -- the atom that a list of these trees is
 abbrev pub pattern_of : Vocabulary → List (List ℕ) → Trees → Pattern

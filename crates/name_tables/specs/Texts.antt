@@ -5,7 +5,7 @@ use Rattle.sexpr_text.specs.Trees.{Trees, nothing, word, list}
 use Rattle.form_reader.specs.declared.fault.Fault.{Fault}
 use Rattle.form_reader.specs.declared.fault.InputKind.TheVariants.{Duplicate}
 use Rattle.form_reader.specs.Rows.{inner_of, tail_of}
-use Rattle.name_tables.specs.Names.{has_name, with_name}
+use Rattle.name_tables.specs.Names.{has_name, with_table_name}
 use Rattle.name_tables.specs.Variables.{unless}
 
 -- the items of a text that is this row of one tree
@@ -22,5 +22,5 @@ value_at key (list items at rest) = value_at key rest
 abbrev pub repeated_names : List (List ℕ) → Trees → List Fault
 repeated_names seen nothing = []
 repeated_names seen (word text at rest) =
-    unless (not (has_name text seen)) Duplicate at ++ repeated_names (with_name seen text) rest
+    unless (not (has_name text seen)) Duplicate at ++ repeated_names (with_table_name seen text) rest
 repeated_names seen (list items at rest) = repeated_names seen rest

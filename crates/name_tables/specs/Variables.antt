@@ -7,7 +7,7 @@ use Rattle.form_reader.specs.declared.fault.InputKind.TheVariants.{Unknown, Dupl
 use Rattle.form_reader.specs.declared.groups.Spot.{Spot}
 use Rattle.form_reader.specs.declared.groups.Spot.TheVariants.{Start, Named, Typed}
 use Rattle.form_reader.specs.Rows.{after_word, is_dash}
-use Rattle.name_tables.specs.Names.{has_name, place_of, with_name}
+use Rattle.name_tables.specs.Names.{has_name, table_place, with_table_name}
 
 -- the fault, unless the test holds
 abbrev pub unless : Bool → InputKind → ℕ → List Fault
@@ -40,7 +40,7 @@ copies (suc k) n = n ∷ copies k n
 
 -- the place of a type among the types
 abbrev pub sort_of : List (List ℕ) → List ℕ → ℕ
-sort_of sorts text = unwrap_or (place_of text sorts) 0
+sort_of sorts text = unwrap_or (table_place text sorts) 0
 
 -- The types of these, in order: the type behind `-` belongs to all names since the last type, so many are waiting. A
 -- name without a type has type `object`, which is the type 0.
@@ -65,7 +65,7 @@ types_names sorts spot (list items at rest) = []
 
 -- the variables that were seen, with this word if it is one
 abbrev pub seen_with : List (List ℕ) → Spot → List ℕ → List (List ℕ)
-seen_with seen spot text = if is_named spot text then with_name seen text else seen
+seen_with seen spot text = if is_named spot text then with_table_name seen text else seen
 
 -- the variables that were seen, with all of these
 abbrev pub seen_after : List (List ℕ) → Spot → Trees → List (List ℕ)

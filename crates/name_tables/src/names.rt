@@ -43,7 +43,7 @@ impl NameTable {
 
     /// The place of the name, from 0, or None where it isn't there.
     pub fn place_of(&self, name: &[u8]) -> Option<usize>
-        ensures { result ≡ specs.place_of name.now self.now }
+        ensures { result ≡ specs.table_place name.now self.now }
     {
         self.names.get_index_of(name)
     }
@@ -68,7 +68,7 @@ impl NameTable {
     /// Puts the name behind the others, where it is new, and answers whether it was new. Fails only
     /// where memory is wanting.
     pub fn add(&mut self, name: &[u8]) -> Result<bool, AllocError>
-        ensures names { OnOk result (self.new ≡ specs.with_name self.old name.now) }
+        ensures names { OnOk result (self.new ≡ specs.with_table_name self.old name.now) }
         ensures fresh { IfOk result (λ fresh. fresh ≡ not (specs.has_name name.now self.old)) }
     {
         let bytes = Vec::from_slice(self.alloc, name)?;

@@ -1,6 +1,6 @@
 //! Names that are declared with a number of arguments.
 ghost use Rattle.std.specs.Prelude.{◌≡◌, [], length, IfOk, OnOk};
-ghost use Rattle.name_tables.specs.Names.{has_name, with_signature, place_of};
+ghost use Rattle.name_tables.specs.Names.{has_name, with_signature, table_place};
 ghost use Rattle.name_tables.specs.Declarations.{signature_list};
 ghost use Rattle.name_tables.specs.Vocabulary as specs;
 
@@ -52,7 +52,7 @@ impl Signatures {
 
     /// The name's place, from 0, or None where it isn't declared.
     pub fn place_of(&self, name: &[u8]) -> Option<usize>
-        ensures { result ≡ place_of name.now self.now.names }
+        ensures { result ≡ table_place name.now self.now.names }
     {
         self.names.place_of(name)
     }

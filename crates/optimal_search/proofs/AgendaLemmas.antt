@@ -13,7 +13,7 @@ use Rattle.std.proofs.lemmas.Option.{same_Some, slice_get_within}
 use Rattle.lemmas.proofs.Ascending.{all_at, contains_cases, contains_here, contains_later}
 use Rattle.lemmas.proofs.ListTests.{one_there}
 use Rattle.lemmas.proofs.Members.{push_cases}
-use Rattle.optimal_search.specs.Agenda.{AreQueued, IsOpenAt, closed, entry_cmp, lowered}
+use Rattle.optimal_search.specs.Agenda.{AreQueued, IsOpenNodeAt, closed, entry_cmp, lowered}
 use Rattle.optimal_search.specs.declared.agenda.Node.{Node}
 use Rattle.optimal_search.specs.declared.agenda.Open.{Open}
 use Rattle.best_first.specs.declared.tree.Link.{Link}
@@ -57,13 +57,13 @@ none_from (Some x) not = absurd (not x refl)
 
 -- ---- open nodes
 
-pub open_once : (nodes : List Node) (place : ℕ) (v w : Node) (l m : Link) → IsOpenAt nodes place v l
-    → IsOpenAt nodes place w m → v ≡ w
+pub open_once : (nodes : List Node) (place : ℕ) (v w : Node) (l m : Link) → IsOpenNodeAt nodes place v l
+    → IsOpenNodeAt nodes place w m → v ≡ w
 open_once nodes place v w l m a b = one_there nodes place v w a.0 b.0
 
 -- a node that is closed isn't open
 pub closed_not_open : (nodes : List Node) (place : ℕ) (v w : Node) (l : Link) → slice_get nodes place ≡ Some v
-    → v.last ≡ None → IsOpenAt nodes place w l → ⊥
+    → v.last ≡ None → IsOpenNodeAt nodes place w l → ⊥
 closed_not_open nodes place v w l at none is =
     let same = one_there nodes place v w at is.0 in
     let both : None ≡ Some l = sym none ∙ ap (λ (u : Node). u.last) same ∙ is.1 in
@@ -140,7 +140,7 @@ queued_added nodes queue now node entry q moved heap place rank =
 -- the entries of a node whose way gets cheaper stay, besides the new one
 pub queued_lowered : (nodes : List Node) (queue now : List (Reverse Open)) (at cost : ℕ) (link : Link) (was : Node)
     (before : Link) (entry : Reverse Open) → AreQueued nodes queue → IsPermutation (entry ∷ queue) now
-    → IsHeap entry_cmp now → IsOpenAt nodes at was before → cost ≤ was.cost → entry.0.place ≡ at
+    → IsHeap entry_cmp now → IsOpenNodeAt nodes at was before → cost ≤ was.cost → entry.0.place ≡ at
     → entry.0.rank ≡ cost + was.left → AreQueued (slice_set nodes at (lowered was cost link)) now
 queued_lowered nodes queue now at cost link was before entry q moved heap held dearer place rank =
     let node = lowered was cost link in
@@ -237,13 +237,13 @@ queued_closed nodes queue now entry node q moved heap at =
 -- of no open node is the sum less than that of the one that is taken
 pub queued_least : (nodes : List Node) (queue : List (Reverse Open)) (entry : Reverse Open) (node : Node) (link : Link)
     → AreQueued nodes queue → IsUpperBound entry_cmp entry queue → Contains queue entry
-    → IsOpenAt nodes entry.0.place node link → (other : ℕ) (v : Node) (l : Link) → IsOpenAt nodes other v l
+    → IsOpenNodeAt nodes entry.0.place node link → (other : ℕ) (v : Node) (l : Link) → IsOpenNodeAt nodes other v l
     → node.cost + node.left ≤ v.cost + v.left
 queued_least nodes queue entry node link q first there here other v l is =
     let e = q.entries other v l is in
     omega (arith, q.ranks entry node link there here, least_rank queue entry e.0 first e.1, e.3)
 
 pub queued_none : (nodes : List Node) (queue : List (Reverse Open)) → AreQueued nodes queue → length queue ≡ 0
-    → (place : ℕ) (node : Node) (link : Link) → ¬ (IsOpenAt nodes place node link)
+    → (place : ℕ) (node : Node) (link : Link) → ¬ (IsOpenNodeAt nodes place node link)
 queued_none nodes queue q none place node link is =
     let e = q.entries place node link is in absurd (omega (arith, e.1.1, none))

@@ -16,50 +16,50 @@ use Rattle.task_model.specs.State.{Atoms}
 use Rattle.task_model.specs.declared.task.Task.{Task}
 use Rattle.optimal_search.proofs.AgendaLemmas.{get_set, get_set_other, length_set, set_cases}
 use Rattle.optimal_search.proofs.AstarLemmas.{closed_cases, last_closed, still_closed}
-use Rattle.optimal_search.specs.Agenda.{IsLowered, IsOpenAt, Lowers, closed as closed_node, lowered}
+use Rattle.optimal_search.specs.Agenda.{IsLowered, IsOpenNodeAt, Lowers, closed as closed_node, lowered}
 use Rattle.optimal_search.specs.Astar.{IsClosedIn, IsKnownFor, Way}
-use Rattle.optimal_search.specs.Nodes.{AreClosed, AreNodes, IsNode, IsOpenNode, IsOpenWay, states_of}
+use Rattle.optimal_search.specs.Nodes.{AreClosedNodes, AreNodes, IsNode, IsOpenNode, IsOpenWay, way_states}
 use Rattle.optimal_search.specs.declared.agenda.Node.{Node}
 
 -- ---- the states of ways
 
 pub state_at : (ways : List Way) (k : ℕ) (w : Way) → slice_get ways k ≡ Some w
-    → slice_get (states_of ways) k ≡ Some w.state
+    → slice_get (way_states ways) k ≡ Some w.state
 state_at ways k w at =
     slice_get-map (λ (v : Way). v.state) ways k ∙ ap (option_map (λ (v : Way). v.state)) at
 
-pub length_states : (ways : List Way) → length (states_of ways) ≡ length ways
+pub length_states : (ways : List Way) → length (way_states ways) ≡ length ways
 length_states ways = length-map ways (λ (v : Way). v.state)
 
 -- the way whose state stands there
-pub way_at : (ways : List Way) (k : ℕ) (state : Atoms) → slice_get (states_of ways) k ≡ Some state
+pub way_at : (ways : List Way) (k : ℕ) (state : Atoms) → slice_get (way_states ways) k ≡ Some state
     → (w : Way) × (slice_get ways k ≡ Some w) × (w.state ≡ state)
 way_at ways k state at =
-    let within = slice_get_within (states_of ways) k state at in
+    let within = slice_get_within (way_states ways) k state at in
     let w = get_there ways k (omega (arith, within, length_states ways)) in
-    (w.0, w.1, one_there (states_of ways) k w.0.state state (state_at ways k w.0 w.1) at)
+    (w.0, w.1, one_there (way_states ways) k w.0.state state (state_at ways k w.0 w.1) at)
 
-pub closed_state : (ways : List Way) (state : Atoms) → Contains (states_of ways) state → IsClosedIn ways state
+pub closed_state : (ways : List Way) (state : Atoms) → Contains (way_states ways) state → IsClosedIn ways state
 closed_state ways state c =
-    let at = place_of (states_of ways) state c in
+    let at = place_of (way_states ways) state c in
     let w = way_at ways at.0 state at.1 in
     (at.0, w.0, w.1, w.2)
 
 module _ (task : Task) (known : Known) where
   -- ---- the tree of the closed states
 
-  pub closed_count : (closed : List Way) (links : List Link) → AreClosed task known closed links
+  pub closed_count : (closed : List Way) (links : List Link) → AreClosedNodes task known closed links
       → length closed ≡ length links + 1
   closed_count closed links c = omega (arith, c.tree.linked, length_states closed)
 
   pub closed_more : (bound : Atoms → ℕ) (closed : List Way) (links : List Link) (w : Way) (node : Node) (link : Link)
-      → AreClosed task known closed links → IsOpenNode task known bound closed w.state node link → node.cost ≡ w.cost
-      → AreClosed task known (closed ++ w ∷ []) (links ++ link ∷ [])
+      → AreClosedNodes task known closed links → IsOpenNode task known bound closed w.state node link → node.cost ≡ w.cost
+      → AreClosedNodes task known (closed ++ w ∷ []) (links ++ link ∷ [])
   closed_more bound closed links w node link c n price =
       let many = closed_count closed links c in
       let within = slice_get_within closed link.parent n.from n.parent in
       let grown =
-      grown_tree task known (states_of closed) links n.from.state w.state link c.tree (state_at closed link.parent n.from n.parent)
+      grown_tree task known (way_states closed) links n.from.state w.state link c.tree (state_at closed link.parent n.from n.parent)
       n.step n.small (λ there. n.apart (closed_state closed w.state there)) in
       record {
         tree = subst (λ ss. IsTree task known ss (links ++ link ∷ [])) (sym (map-append (λ (v : Way). v.state) closed (w ∷ []))) grown;
@@ -117,9 +117,9 @@ module _ (task : Task) (known : Known) where
   module _ (bound : Atoms → ℕ) where
     -- there are no more closed states than stored ones
     pub few_closed : (closed : List Way) (links : List Link) (states : List Atoms) (nodes : List Node)
-        → AreClosed task known closed links → AreNodes task known bound closed states nodes → length closed ≤ length states
+        → AreClosedNodes task known closed links → AreNodes task known bound closed states nodes → length closed ≤ length states
     few_closed closed links states nodes c ns =
-        let fit = pigeons (states_of closed) states c.tree.distinct (λ s there.
+        let fit = pigeons (way_states closed) states c.tree.distinct (λ s there.
         let w = closed_state closed s there in subst (Contains states) w.3 (ns.stored w.0 w.1 w.2)) in
         omega (arith, fit, length_states closed)
 
@@ -283,9 +283,9 @@ ways_lowered states nodes now place cost link v (inl low) o =
 
 -- what is open at this place then costs no more than the way
 no_dearer : (nodes now : List Node) (place cost : ℕ) (link : Link) (node : Node) (l : Link)
-    → Lowers nodes place cost link now → IsOpenAt now place node l → node.cost ≤ cost
+    → Lowers nodes place cost link now → IsOpenNodeAt now place node l → node.cost ≤ cost
 no_dearer nodes now place cost link node l (inr left) is =
-    left.cheap node l (subst (λ ns. IsOpenAt ns place node l) left.nodes is)
+    left.cheap node l (subst (λ ns. IsOpenNodeAt ns place node l) left.nodes is)
 no_dearer nodes now place cost link node l (inl low) is =
     let at = subst (λ ns. slice_get ns place ≡ Some node) low.nodes is.0 in
     let same = one_there (slice_set nodes place (lowered low.was cost link)) place node (lowered low.was cost link) at

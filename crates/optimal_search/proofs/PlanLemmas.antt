@@ -14,14 +14,14 @@ use Rattle.task_model.specs.declared.task.GroundAction.{GroundAction}
 use Rattle.task_model.specs.declared.task.Task.{Task}
 use Rattle.optimal_search.proofs.NodesLemmas.{closed_count, state_at, way_at}
 use Rattle.optimal_search.specs.Astar.{Way}
-use Rattle.optimal_search.specs.Nodes.{AreClosed, states_of}
+use Rattle.optimal_search.specs.Nodes.{AreClosedNodes, way_states}
 use Rattle.optimal_search.specs.Searches.{IsMetLeast}
 
 module _ (task : Task) (known : Known) where
   -- ---- the plan
 
   -- along the links the costs add up
-  sums_along : (closed : List Way) (links : List Link) → AreClosed task known closed links → (from : ℕ)
+  sums_along : (closed : List Way) (links : List Link) → AreClosedNodes task known closed links → (from : ℕ)
       (steps : List GroundAction) (to total : ℕ) (a b : Way) → slice_get closed from ≡ Some a
       → slice_get closed to ≡ Some b → FollowsLink links from steps to total → b.cost ≡ a.cost + total
   sums_along closed links c from [] to total a b at_a at_b f =
@@ -40,16 +40,16 @@ module _ (task : Task) (known : Known) where
       → IsFoundPlan task known limit steps cost × IsLeastCost task known cost
   found_least limit links steps cost m f =
       let last = state_at m.closed (length links) m.way m.last in
-      let whole : IsMet task known true limit (states_of m.closed) links = record {
+      let whole : IsMet task known true limit (way_states m.closed) links = record {
         sought = refl;
         tree = m.tree.tree;
         few = m.few;
-        goal = λ s at. subst (IsGoal task known) (one_there (states_of m.closed) (length links) m.way.state s last at) m.goal;
+        goal = λ s at. subst (IsGoal task known) (one_there (way_states m.closed) (length links) m.way.state s last at) m.goal;
         others = λ n s before at.
             let w = way_at m.closed n s at in
             subst (λ x. ¬ (IsGoal task known x)) w.2 (m.others n w.0 before w.1);
       } in
-      let plan = found_plan task known true limit (states_of m.closed) links steps cost whole f in
+      let plan = found_plan task known true limit (way_states m.closed) links steps cost whole f in
       let first = way_at m.closed 0 (initial_state task) m.tree.tree.first in
       let sum = sums_along m.closed links m.tree 0 steps (length links) cost first.0 m.way first.1 m.last f in
       let price : m.way.cost ≡ cost = omega (arith, sum, m.tree.start first.0 first.1) in (

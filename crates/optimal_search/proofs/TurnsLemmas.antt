@@ -21,11 +21,11 @@ use Rattle.task_model.specs.declared.task.Task.{Task}
 use Rattle.optimal_search.proofs.AgendaLemmas.{get_set}
 use Rattle.optimal_search.proofs.AstarLemmas.{IsLeastOpen, closing, least_plan, least_way, passed_all, tested_last}
 use Rattle.optimal_search.proofs.NodesLemmas.{closed_count, closed_more, few_closed, length_states, nodes_closed, state_at, way_at, ways_closed}
-use Rattle.optimal_search.specs.Agenda.{IsAgenda, IsOpenAt, closed as closed_node}
+use Rattle.optimal_search.specs.Agenda.{IsAgenda, IsOpenNodeAt, closed as closed_node}
 use Rattle.optimal_search.specs.Astar.{IsClosedIn, IsSearched, PassedBefore, Way}
 use Rattle.optimal_search.specs.Consistent.{IsConsistent}
-use Rattle.optimal_search.specs.Nodes.{AreClosed, AreNodes, IsNode, IsOpenWay, states_of}
-use Rattle.optimal_search.specs.Searches.{IsBetween, IsClosedNext, IsExpanding, IsMetLeast, IsTaken}
+use Rattle.optimal_search.specs.Nodes.{AreClosedNodes, AreNodes, IsNode, IsOpenWay, way_states}
+use Rattle.optimal_search.specs.Searches.{IsBetweenTurns, IsClosedNext, IsExpanding, IsMetLeast, IsJustClosed}
 use Rattle.optimal_search.specs.declared.agenda.Node.{Node}
 use Rattle.optimal_search.specs.declared.relax.Expansion.{Expansion}
 use Rattle.optimal_search.specs.declared.search.Search.{Search}
@@ -50,7 +50,7 @@ module _ (task : Task) (known : Known) where
   abbrev start : Way
   start = record { state = initial_state task; cost = 0 }
 
-  start_closed : AreClosed task known (start ∷ []) []
+  start_closed : AreClosedNodes task known (start ∷ []) []
   start_closed = record {
     tree = start_tree task known;
     start = λ w at. ap (λ (v : Way). v.cost) (sym (get_single start w 0 at).1);
@@ -75,7 +75,7 @@ module _ (task : Task) (known : Known) where
 
   pub begun : (bound : Atoms → ℕ) (limit : ℕ) (search : Search) (node : Node) → search.store ≡ initial_state task ∷ []
       → search.links.items ≡ [] → search.agenda.nodes.items ≡ node ∷ [] → node.cost ≡ 0 → node.last ≡ None
-      → IsAgenda search.agenda → 1 ≤ limit → limit ≤ MOST_STATES → IsTaken task known bound limit search 0
+      → IsAgenda search.agenda → 1 ≤ limit → limit ≤ MOST_STATES → IsJustClosed task known bound limit search 0
   begun bound limit search node store links nodes price none queue some most =
       let empty : length search.links.items ≡ 0 = ap length links in
       record {
@@ -83,7 +83,7 @@ module _ (task : Task) (known : Known) where
           closed = start ∷ [];
           few = subst (λ ss. length ss ≤ limit) (sym store) some;
           most = most;
-          tree = subst (AreClosed task known (start ∷ [])) (sym links) start_closed;
+          tree = subst (AreClosedNodes task known (start ∷ [])) (sym links) start_closed;
           nodes = subst (λ ss. AreNodes task known bound (start ∷ []) ss search.agenda.nodes.items) (sym store)
               (subst (AreNodes task known bound (start ∷ []) (initial_state task ∷ [])) (sym nodes) (start_nodes bound node none));
           queue = queue;
@@ -106,8 +106,8 @@ module _ (task : Task) (known : Known) where
   -- ---- the open state of least rank is closed
 
   module _ (bound : Atoms → ℕ) (limit : ℕ) (c : IsConsistent task known bound) (old new : Search) (place : ℕ)
-      (is : IsBetween task known bound limit old) (closes : IsClosedNext old new place) where
-    taken_at : (state : Atoms) → slice_get old.store place ≡ Some state → IsTaken task known bound limit new place
+      (is : IsBetweenTurns task known bound limit old) (closes : IsClosedNext old new place) where
+    taken_at : (state : Atoms) → slice_get old.store place ≡ Some state → IsJustClosed task known bound limit new place
     taken_at state here =
         let closed = is.closed in
         let node = closes.next.node in
@@ -141,7 +141,7 @@ module _ (task : Task) (known : Known) where
             closed = closed ++ w ∷ [];
             few = subst (λ ss. length ss ≤ limit) (sym closes.store) is.few;
             most = is.most;
-            tree = subst (AreClosed task known (closed ++ w ∷ [])) (sym closes.links)
+            tree = subst (AreClosedNodes task known (closed ++ w ∷ [])) (sym closes.links)
                 (closed_more task known bound closed old.links.items w node link is.tree of refl);
             nodes = subst (λ ss. AreNodes task known bound (closed ++ w ∷ []) ss new.agenda.nodes.items) (sym closes.store)
                 (subst (AreNodes task known bound (closed ++ w ∷ []) old.store) (sym closes.next.nodes)
@@ -159,7 +159,7 @@ module _ (task : Task) (known : Known) where
           lower = least_plan task known closed IsOpen tested is.searched bound c (omega (arith, count)) w low;
         }
 
-    pub taken : IsTaken task known bound limit new place
+    pub taken : IsJustClosed task known bound limit new place
     taken =
         let within = slice_get_within old.agenda.nodes.items place closes.next.node closes.next.there.0 in
         let state = get_there old.store place (omega (arith, within, is.nodes.many)) in
@@ -167,15 +167,15 @@ module _ (task : Task) (known : Known) where
 
   module _ (bound : Atoms → ℕ) (limit : ℕ) where
     -- where none is open, all states that are reached were closed, and none meets the goal
-    pub ended : (search : Search) → IsBetween task known bound limit search
-        → ((place : ℕ) (node : Node) (link : Link) → ¬ (IsOpenAt search.agenda.nodes.items place node link))
+    pub ended : (search : Search) → IsBetweenTurns task known bound limit search
+        → ((place : ℕ) (node : Node) (link : Link) → ¬ (IsOpenNodeAt search.agenda.nodes.items place node link))
         → IsAll task known true limit
     ended search is none =
         let closed = is.closed in
         let links = search.links.items in
         let count = closed_count task known closed links is.tree in
         let fit = few_closed task known bound closed links search.store search.agenda.nodes.items is.tree is.nodes in
-        closed_all task known true limit (states_of closed) links is.tree.tree
+        closed_all task known true limit (way_states closed) links is.tree.tree
         (omega (arith, fit, is.few, length_states closed))
         (λ n s at ends.
         let w = way_at closed n s at in
@@ -185,14 +185,14 @@ module _ (task : Task) (known : Known) where
         let w = way_at closed n s at in
         elim (is.searched.covered n w.0 after step cost w.1 tt (subst (λ x. IsStep task known x step after cost) (sym w.2) e)) [
           | inl d ↦
-              subst (Contains (states_of closed)) d.3 (member_at (states_of closed) d.0 d.1.state (state_at closed d.0 d.1 d.2))
+              subst (Contains (way_states closed)) d.3 (member_at (way_states closed) d.0 d.1.state (state_at closed d.0 d.1 d.2))
           | inr o ↦ absurd (none o.1.0 o.1.1 o.1.2 o.1.4)
         ])
 
     -- ---- the state that was closed last
 
     -- it meets the goal
-    pub met : (search : Search) (place : ℕ) (t : IsTaken task known bound limit search place)
+    pub met : (search : Search) (place : ℕ) (t : IsJustClosed task known bound limit search place)
         → IsGoal task known t.way.state → IsMetLeast task known limit search.links.items
     met search place t goal =
         let closed = t.sound.closed in
@@ -212,7 +212,7 @@ module _ (task : Task) (known : Known) where
         }
 
     -- it doesn't, and steps are to be taken from it
-    pub expanding : (search : Search) (place : ℕ) (from : Expansion) (t : IsTaken task known bound limit search place)
+    pub expanding : (search : Search) (place : ℕ) (from : Expansion) (t : IsJustClosed task known bound limit search place)
         → from.number ≡ length search.links.items → slice_get search.store from.place ≡ Some from.state
         → from.state ≡ t.way.state → from.cost ≡ t.way.cost → ¬ (IsGoal task known from.state)
         → AreApplicable task known from.state from.steps.items → IsExpanding task known bound limit search from 0
@@ -237,7 +237,7 @@ module _ (task : Task) (known : Known) where
 
     -- all steps were taken from it
     pub expanded : (search : Search) (from : Expansion) (done : ℕ) → IsExpanding task known bound limit search from done
-        → length from.steps.items ≤ done → IsBetween task known bound limit search
+        → length from.steps.items ≤ done → IsBetweenTurns task known bound limit search
     expanded search from done e end =
         let closed = e.sound.closed in
         let last = length search.links.items in
@@ -255,7 +255,7 @@ module _ (task : Task) (known : Known) where
 
   -- there is room for one state more among the closed ones
   pub few_taken : (bound : Atoms → ℕ) (limit : ℕ) (search : Search) (place : ℕ)
-      → IsTaken task known bound limit search place → length search.links.items < limit
+      → IsJustClosed task known bound limit search place → length search.links.items < limit
   few_taken bound limit search place t =
       let closed = t.sound.closed in
       let count = closed_count task known closed search.links.items t.sound.tree in

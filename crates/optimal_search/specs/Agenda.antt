@@ -16,16 +16,16 @@ entry_cmp a b =
     (ordering_then (nat_cmp b.0.left a.0.left) (nat_cmp b.0.place a.0.place))
 
 -- the node is that of an open state, and this is the last step of the way there
-abbrev pub IsOpenAt : List Node → ℕ → Node → Link → Type 0
-IsOpenAt nodes place node link = (slice_get nodes place ≡ Some node) × (node.last ≡ Some link)
+abbrev pub IsOpenNodeAt : List Node → ℕ → Node → Link → Type 0
+IsOpenNodeAt nodes place node link = (slice_get nodes place ≡ Some node) × (node.last ≡ Some link)
 
 -- Each open node has an entry of its rank, and of no entry of an open one the rank is less.
 pub record AreQueued (nodes : List Node) (queue : List (Reverse Open)) : Type 0 where
   pub heap : IsHeap entry_cmp queue
   pub places : (entry : Reverse Open) → Contains queue entry → entry.0.place < length nodes
   pub ranks : (entry : Reverse Open) (node : Node) (link : Link) → Contains queue entry
-      → IsOpenAt nodes entry.0.place node link → node.cost + node.left ≤ entry.0.rank
-  pub entries : (place : ℕ) (node : Node) (link : Link) → IsOpenAt nodes place node link
+      → IsOpenNodeAt nodes entry.0.place node link → node.cost + node.left ≤ entry.0.rank
+  pub entries : (place : ℕ) (node : Node) (link : Link) → IsOpenNodeAt nodes place node link
       → (entry : Reverse Open) × Contains queue entry × (entry.0.place ≡ place)
       × (entry.0.rank ≡ node.cost + node.left)
 
@@ -45,31 +45,31 @@ lowered node cost link = record { cost = cost; left = node.left; last = Some lin
 pub record IsLowered (old : List Node) (place cost : ℕ) (link : Link) (new : List Node) : Type 0 where
   pub was : Node
   pub before : Link
-  pub there : IsOpenAt old place was before
+  pub there : IsOpenNodeAt old place was before
   pub dearer : cost ≤ was.cost
   pub nodes : new ≡ slice_set old place (lowered was cost link)
 
 -- nothing changes, for the state at this place is closed, or its way is no dearer
 pub record IsLeft (old : List Node) (place cost : ℕ) (new : List Node) : Type 0 where
   pub nodes : new ≡ old
-  pub cheap : (node : Node) (link : Link) → IsOpenAt old place node link → node.cost ≤ cost
+  pub cheap : (node : Node) (link : Link) → IsOpenNodeAt old place node link → node.cost ≤ cost
 
 -- the state at this place gets the way if it is open and the way cheaper
 abbrev pub Lowers : List Node → ℕ → ℕ → Link → List Node → Type 0
 Lowers old place cost link new = IsLowered old place cost link new ⊎ IsLeft old place cost new
 
 -- The open node of least rank, at this place and with this last step, is closed.
-pub record IsNext (old new : Agenda) (place : ℕ) (link : Link) : Type 0 where
+pub record IsNextClosed (old new : Agenda) (place : ℕ) (link : Link) : Type 0 where
   pub node : Node
-  pub there : IsOpenAt old.nodes.items place node link
-  pub least : (other : ℕ) (v : Node) (l : Link) → IsOpenAt old.nodes.items other v l
+  pub there : IsOpenNodeAt old.nodes.items place node link
+  pub least : (other : ℕ) (v : Node) (l : Link) → IsOpenNodeAt old.nodes.items other v l
       → node.cost + node.left ≤ v.cost + v.left
   pub nodes : new.nodes.items ≡ slice_set old.nodes.items place (closed node)
   pub agenda : IsAgenda new
 
 -- the node that is closed, if one is open
-abbrev pub Takes : Agenda → Agenda → Option (ℕ × Link) → Type 0
-Takes old new (Some next) = IsNext old new next.0 next.1
-Takes old new None =
+abbrev pub TakesLeast : Agenda → Agenda → Option (ℕ × Link) → Type 0
+TakesLeast old new (Some next) = IsNextClosed old new next.0 next.1
+TakesLeast old new None =
     (new.nodes.items ≡ old.nodes.items)
-    × ((place : ℕ) (node : Node) (link : Link) → ¬ (IsOpenAt old.nodes.items place node link))
+    × ((place : ℕ) (node : Node) (link : Link) → ¬ (IsOpenNodeAt old.nodes.items place node link))

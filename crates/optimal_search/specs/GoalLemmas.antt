@@ -40,18 +40,18 @@ any_there p (y ∷ ys) (suc i) x at is = by (p y) (any_there p ys i x at is)
     by false e = e
 
 -- it is given of one of the members
-abbrev pub IsGiven : {A B : Type 0} → (A → Option B) → List A → B → Type 0
-IsGiven {A} f xs y = (j : ℕ) × (x : A) × (slice_get xs j ≡ Some x) × (f x ≡ Some y)
+abbrev pub IsGivenOf : {A B : Type 0} → (A → Option B) → List A → B → Type 0
+IsGivenOf {A} f xs y = (j : ℕ) × (x : A) × (slice_get xs j ≡ Some x) × (f x ≡ Some y)
 
 given_cases : {A B : Type 0} (f : A → Option B) (x : A) (xs : List A) (y : B) (o : Option B) → f x ≡ o → (i : ℕ)
     → slice_get (cons_option o (filter_map f xs)) i ≡ Some y
-    → ((k : ℕ) → slice_get (filter_map f xs) k ≡ Some y → IsGiven f xs y) → IsGiven f (x ∷ xs) y
+    → ((k : ℕ) → slice_get (filter_map f xs) k ≡ Some y → IsGivenOf f xs y) → IsGivenOf f (x ∷ xs) y
 given_cases f x xs y None e i at later = let r = later i at in (suc r.0, r.1, r.2, r.3)
 given_cases f x xs y (Some z) e zero at later = (0, x, refl, e ∙ at)
 given_cases f x xs y (Some z) e (suc i) at later = let r = later i at in (suc r.0, r.1, r.2, r.3)
 
 pub from_given : {A B : Type 0} (f : A → Option B) (xs : List A) (i : ℕ) (y : B) → slice_get (filter_map f xs) i ≡ Some y
-    → IsGiven f xs y
+    → IsGivenOf f xs y
 from_given f [] i y at = absurd (cc)
 from_given f (x ∷ xs) i y at = given_cases f x xs y (f x) refl i at (λ k e. from_given f xs k y e)
 

@@ -8,24 +8,24 @@ use Rattle.task_model.specs.Steps.{IsStep}
 use Rattle.task_model.specs.declared.task.Task.{Task}
 use Rattle.best_first.specs.Explored.{IsTree}
 use Rattle.best_first.specs.declared.tree.Link.{Link}
-use Rattle.optimal_search.specs.Agenda.{IsOpenAt}
+use Rattle.optimal_search.specs.Agenda.{IsOpenNodeAt}
 use Rattle.optimal_search.specs.Astar.{IsClosedIn, Way}
 use Rattle.optimal_search.specs.declared.agenda.Node.{Node}
 
 -- the states to which the ways lead
-abbrev pub states_of : List Way → List Atoms
-states_of ways = map (λ (w : Way). w.state) ways
+abbrev pub way_states : List Way → List Atoms
+way_states ways = map (λ (w : Way). w.state) ways
 
 -- a way to an open state, as its node tells it
 abbrev pub IsOpenWay : List Atoms → List Node → Way → Type 0
 IsOpenWay states nodes w =
-    (n : ℕ) × (node : Node) × (link : Link) × (slice_get states n ≡ Some w.state) × IsOpenAt nodes n node link
+    (n : ℕ) × (node : Node) × (link : Link) × (slice_get states n ≡ Some w.state) × IsOpenNodeAt nodes n node link
     × (node.cost ≡ w.cost)
 
 module _ (task : Task) (known : Known) where
   -- The closed states form a tree by their links, and each way costs what the one to the parent costs and the link.
-  pub record AreClosed (closed : List Way) (links : List Link) : Type 0 where
-    pub tree : IsTree task known (states_of closed) links
+  pub record AreClosedNodes (closed : List Way) (links : List Link) : Type 0 where
+    pub tree : IsTree task known (way_states closed) links
     pub start : (w : Way) → slice_get closed 0 ≡ Some w → w.cost ≡ 0
     pub sums : (n : ℕ) (link : Link) (from to : Way) → slice_get links n ≡ Some link
         → slice_get closed link.parent ≡ Some from → slice_get closed (n + 1) ≡ Some to

@@ -9,9 +9,9 @@ use Rattle.task_model.specs.declared.limits.TheConstants.{MOST_STATES}
 use Rattle.task_model.specs.declared.task.GroundAction.{GroundAction}
 use Rattle.task_model.specs.declared.task.Task.{Task}
 use Rattle.best_first.specs.declared.tree.Link.{Link}
-use Rattle.optimal_search.specs.Agenda.{IsAgenda, IsNext, IsOpenAt}
+use Rattle.optimal_search.specs.Agenda.{IsAgenda, IsNextClosed, IsOpenNodeAt}
 use Rattle.optimal_search.specs.Astar.{EachPassed, IsSearched, PassedBefore, PassedTo, Way}
-use Rattle.optimal_search.specs.Nodes.{AreClosed, AreNodes, IsOpenWay}
+use Rattle.optimal_search.specs.Nodes.{AreClosedNodes, AreNodes, IsOpenWay}
 use Rattle.optimal_search.specs.declared.agenda.Node.{Node}
 use Rattle.optimal_search.specs.declared.relax.Arrival.{Arrival}
 use Rattle.optimal_search.specs.declared.relax.Expansion.{Expansion}
@@ -36,36 +36,36 @@ pub record Arrives (task : Task) (known : Known) (before : List Atoms) (source :
 -- The open state of least rank is closed, and its link put behind the others.
 pub record IsClosedNext (old new : Search) (place : ℕ) : Type 0 where
   pub link : Link
-  pub next : IsNext old.agenda new.agenda place link
+  pub next : IsNextClosed old.agenda new.agenda place link
   pub links : new.links.items ≡ old.links.items ++ link ∷ []
   pub store : new.store ≡ old.store
 
 -- the same where a state is open, and else none is
-abbrev pub Closes : Search → Search → Option ℕ → Type 0
-Closes old new (Some place) = IsClosedNext old new place
-Closes old new None =
-    (place : ℕ) (node : Node) (link : Link) → ¬ (IsOpenAt old.agenda.nodes.items place node link)
+abbrev pub ClosesNext : Search → Search → Option ℕ → Type 0
+ClosesNext old new (Some place) = IsClosedNext old new place
+ClosesNext old new None =
+    (place : ℕ) (node : Node) (link : Link) → ¬ (IsOpenNodeAt old.agenda.nodes.items place node link)
 
 -- ---- what holds at each moment
 
 module _ (task : Task) (known : Known) (bound : Atoms → ℕ) (limit : ℕ) where
   -- Of the closed states so many were tested against the goal, and these steps were taken from them.
-  pub record IsSound (search : Search) (tested : ℕ) (IsPassed : ℕ → GroundAction → Type 0) : Type 0 where
+  pub record IsSoundSearch (search : Search) (tested : ℕ) (IsPassed : ℕ → GroundAction → Type 0) : Type 0 where
     pub closed : List Way
     pub few : length search.store ≤ limit
     pub most : limit ≤ MOST_STATES
-    pub tree : AreClosed task known closed search.links.items
+    pub tree : AreClosedNodes task known closed search.links.items
     pub nodes : AreNodes task known bound closed search.store search.agenda.nodes.items
     pub queue : IsAgenda search.agenda
     pub searched : IsSearched task known closed (IsOpenWay search.store search.agenda.nodes.items) tested IsPassed
 
   -- between two turns each closed state was tested, and all steps were taken from it
-  abbrev pub IsBetween : Search → Type 0
-  IsBetween search = IsSound search (length search.links.items + 1) EachPassed
+  abbrev pub IsBetweenTurns : Search → Type 0
+  IsBetweenTurns search = IsSoundSearch search (length search.links.items + 1) EachPassed
 
   -- The state at this place was closed last, and isn't tested yet. No plan costs less than the way to it.
-  pub record IsTaken (search : Search) (place : ℕ) : Type 0 where
-    pub sound : IsSound search (length search.links.items) (PassedBefore (length search.links.items))
+  pub record IsJustClosed (search : Search) (place : ℕ) : Type 0 where
+    pub sound : IsSoundSearch search (length search.links.items) (PassedBefore (length search.links.items))
     pub way : Way
     pub last : slice_get sound.closed (length search.links.items) ≡ Some way
     pub here : slice_get search.store place ≡ Some way.state
@@ -76,7 +76,7 @@ module _ (task : Task) (known : Known) (bound : Atoms → ℕ) (limit : ℕ) whe
 
   -- So many of the steps were taken from the state that was closed last.
   pub record IsExpanding (search : Search) (from : Expansion) (done : ℕ) : Type 0 where
-    pub sound : IsSound search (length search.links.items + 1) (PassedTo (length search.links.items) from.steps.items done)
+    pub sound : IsSoundSearch search (length search.links.items + 1) (PassedTo (length search.links.items) from.steps.items done)
     pub number : from.number ≡ length search.links.items
     pub last : slice_get sound.closed (length search.links.items)
         ≡ Some (record { state = from.state; cost = from.cost })
@@ -91,7 +91,7 @@ module _ (task : Task) (known : Known) (bound : Atoms → ℕ) (limit : ℕ) whe
 -- The last of the states along the links is the only one that meets the goal, and no plan costs less than the way there.
 pub record IsMetLeast (task : Task) (known : Known) (limit : ℕ) (links : List Link) : Type 0 where
   pub closed : List Way
-  pub tree : AreClosed task known closed links
+  pub tree : AreClosedNodes task known closed links
   pub few : length links ≤ limit
   pub way : Way
   pub last : slice_get closed (length links) ≡ Some way

@@ -1,6 +1,6 @@
 //! The states that are stored, and those of them that are open, the one of least rank first.
 ghost use Rattle.std.specs.Prelude.{◌≡◌, ◌<◌, ◌^◌, ◌∷◌, [], ◌++◌, OnOk, vec_len};
-ghost use Rattle.optimal_search.specs.Agenda.{IsAgenda, Lowers, Takes};
+ghost use Rattle.optimal_search.specs.Agenda.{IsAgenda, Lowers, TakesLeast};
 
 use best_first::Link;
 use std::alloc::{AllocError, Global};
@@ -90,7 +90,7 @@ impl Agenda {
     /// to it. None where no state is open.
     pub(crate) fn next(&mut self) -> Option<(u32, Link)>
         requires { IsAgenda self.old }
-        ensures { Takes self.old self.new result }
+        ensures { TakesLeast self.old self.new result }
     {
         while let Some(Reverse(entry)) = self.queue.pop() {
             if let Some(link) = self.nodes[entry.place as usize].last.take() {

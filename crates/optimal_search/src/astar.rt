@@ -2,9 +2,9 @@
 ghost use Rattle.std.specs.Prelude.{◌≡◌, ◌≤◌, ◌↔◌, IfOk};
 ghost use Rattle.best_first.specs.Answer.{HasPlan, IsNothing, IsLimit};
 ghost use Rattle.grounder.specs.Candidates.{AreCandidates};
-ghost use Rattle.optimal_search.specs.Answer.{ComesTo, IsCheapest, Visits};
+ghost use Rattle.optimal_search.specs.Answer.{ComesToLeast, IsCheapest, Visits};
 ghost use Rattle.optimal_search.specs.Consistent.{StaysSuited};
-ghost use Rattle.optimal_search.specs.Searches.{IsTaken};
+ghost use Rattle.optimal_search.specs.Searches.{IsJustClosed};
 ghost use Rattle.task_model.specs.Fit.{IsFit};
 ghost use Rattle.task_model.specs.Plans.{IsReached, IsSolvable, MoreThan};
 ghost use Rattle.task_model.specs.declared.limits.TheConstants.{MOST_STATES};
@@ -53,7 +53,7 @@ fn visit<L: Look, C: Consistent>(
     requires fit { IsFit scene.now.task.now }
     requires candidates { AreCandidates scene.now.task.now (L.known scene.now.look.now)
         candidates.now }
-    requires taken { IsTaken scene.now.task.now (L.known scene.now.look.now)
+    requires taken { IsJustClosed scene.now.task.now (L.known scene.now.look.now)
         (C.bound estimate.old) scene.now.limit search.old place }
     ensures visits { IfOk result (Visits scene.now.task.now (L.known scene.now.look.now)
         (C.bound estimate.new) scene.now.limit search.new) }
@@ -91,7 +91,7 @@ fn explore<L: Look, C: Consistent>(
     requires some { 1 ≤ scene.now.limit }
     requires few { scene.now.limit ≤ MOST_STATES }
     requires suits { C.suits estimate.old scene.now.task.now (L.known scene.now.look.now) }
-    ensures { IfOk result (ComesTo scene.now.task.now (L.known scene.now.look.now)
+    ensures { IfOk result (ComesToLeast scene.now.task.now (L.known scene.now.look.now)
         scene.now.limit) }
 {
     let candidates = Candidates::new(alloc, scene.task, scene.look, MOST_CANDIDATES)?;

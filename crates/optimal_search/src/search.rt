@@ -3,7 +3,7 @@ ghost use Rattle.std.specs.Prelude.{◌≡◌, ◌∷◌, [], IfOk};
 ghost use Rattle.task_model.specs.Fit.{IsFit};
 ghost use Rattle.task_model.specs.Initial.{initial_state};
 ghost use Rattle.optimal_search.specs.Agenda.{IsAgenda};
-ghost use Rattle.optimal_search.specs.Searches.{Closes};
+ghost use Rattle.optimal_search.specs.Searches.{ClosesNext};
 
 use crate::agenda::{Agenda, Node};
 use best_first::Link;
@@ -51,7 +51,7 @@ impl Search {
     /// where memory is wanting.
     pub(crate) fn close_next(&mut self) -> Result<Option<u32>, AllocError>
         requires { IsAgenda self.old.agenda }
-        ensures { IfOk result (Closes self.old self.new) }
+        ensures { IfOk result (ClosesNext self.old self.new) }
     {
         let Some((place, link)) = self.agenda.next() else {
             return Ok(None);

@@ -13,7 +13,7 @@ use Rattle.lemmas.proofs.Members.{push_cases}
 use Rattle.lemmas.proofs.Numbers.{length-numbers_from}
 use Rattle.lemmas.specs.Lists.{numbers_from}
 use Rattle.task_model.proofs.KnownLemmas.{facts_then, in_names}
-use Rattle.task_model.specs.Dreams.{Entry, entry_facts, entry_values, placeholders, entry_names, instances_of, supposing, HasFreshOutputs}
+use Rattle.task_model.specs.Dreams.{SupposedEntry, entry_facts, entry_values, placeholders, entry_names, instances_of, supposing, HasFreshOutputs}
 use Rattle.task_model.specs.Known.{Known, IsCoherent, IsIn, with_facts, with_values}
 use Rattle.task_model.specs.Streams.{certified_by, worth_by}
 use Rattle.task_model.specs.declared.stream.Instance.{Instance}
@@ -28,7 +28,7 @@ use Rattle.transcript_model.proofs.LegalPrefixLemmas.{values_then}
 
 -- ---- names of entries
 
-entry_names-append : (j : ℕ) (xs ys : List Entry)
+entry_names-append : (j : ℕ) (xs ys : List SupposedEntry)
     → entry_names j (xs ++ ys) ≡ entry_names j xs ++ entry_names (j + length xs) ys
 entry_names-append j [] ys = let same : j ≡ j + 0 = omega arith in ap (λ n. entry_names n ys) same
 entry_names-append j (x ∷ xs) ys =
@@ -37,7 +37,7 @@ entry_names-append j (x ∷ xs) ys =
     ∙ sym (append_assoc (placeholders j 1 (length x.outputs)) (entry_names (j + 1) xs) (entry_names (j + 1 + length xs) ys))
     ∙ ap (λ n. (placeholders j 1 (length x.outputs) ++ entry_names (j + 1) xs) ++ entry_names n ys) next
 
-pub names_pushed : (list : List Entry) (e : Entry)
+pub names_pushed : (list : List SupposedEntry) (e : SupposedEntry)
     → entry_names 1 (list ++ e ∷ []) ≡ entry_names 1 list ++ placeholders (length list + 1) 1 (length e.outputs)
 names_pushed list e =
     let next : 1 + length list ≡ length list + 1 = omega arith in
@@ -49,15 +49,15 @@ pub length-placeholders : (j i n : ℕ) → length (placeholders j i n) ≡ n
 length-placeholders j i zero = refl
 length-placeholders j i (suc n) = ap suc (length-placeholders j (i + 1) n)
 
-length-entry_names : (j : ℕ) (list : List Entry)
-    → length (entry_names j list) ≡ sum_by (λ (e : Entry). length e.outputs) list
+length-entry_names : (j : ℕ) (list : List SupposedEntry)
+    → length (entry_names j list) ≡ sum_by (λ (e : SupposedEntry). length e.outputs) list
 length-entry_names j [] = refl
 length-entry_names j (e ∷ es) =
     length-append (placeholders j 1 (length e.outputs)) (entry_names (j + 1) es)
     ∙ (λ i. length-placeholders j 1 (length e.outputs) i + length-entry_names (j + 1) es i)
-    ∙ sym (sum_by-cons (λ (x : Entry). length x.outputs) e es)
+    ∙ sym (sum_by-cons (λ (x : SupposedEntry). length x.outputs) e es)
 
-pub few_names : (j : ℕ) (list : List Entry) → HaveFew list → length (entry_names j list) ≤ 8 * length list
+pub few_names : (j : ℕ) (list : List SupposedEntry) → HaveFew list → length (entry_names j list) ≤ 8 * length list
 few_names j [] few = omega arith
 few_names j (e ∷ es) few =
     let here : length e.outputs ≤ 8 = few 0 e (omega arith) in
@@ -78,7 +78,7 @@ numbers_in names first (suc n) le =
     All-cons (IsIn names) first (numbers_from (first + 1) n) (in_names names first (omega (arith, le)))
     (numbers_in names (first + 1) n (omega (arith, le)))
 
-pub plain_later : (task : Task) (names more : List (List ℕ)) (e : Entry) → IsPlainEntry task names e
+pub plain_later : (task : Task) (names more : List (List ℕ)) (e : SupposedEntry) → IsPlainEntry task names e
     → IsPlainEntry task (names ++ more) e
 plain_later task names more e p = record {
   stream = p.stream;
@@ -106,14 +106,14 @@ flat_map-push f xs x = flat_map-append f xs (x ∷ []) ∙ ap (λ ys. flat_map f
 -- ---- a draft
 
 module _ (task : Task) (known : Known) (base : IsBase task known) where
-  few_outputs : (names : List (List ℕ)) (e : Entry) → IsPlainEntry task names e → length e.outputs ≤ 8
+  few_outputs : (names : List (List ℕ)) (e : SupposedEntry) → IsPlainEntry task names e → length e.outputs ≤ 8
   few_outputs names e p =
       let parts = fit_parts task.domain p.stream (fit_stream_at task e.instance.stream p.stream base.fit p.named) in
       omega (arith, p.outputs, parts.outputs)
 
   pub have_few : (draft : Draft) → IsDraft task known draft → HaveFew draft.entries.items
   have_few draft d =
-      all_by_place (λ (e : Entry). length e.outputs ≤ 8) draft.entries.items
+      all_by_place (λ (e : SupposedEntry). length e.outputs ≤ 8) draft.entries.items
       (λ k e at. few_outputs (known.names ++ draft.names.items) e (d.plain k e at))
 
   pub few_draft_names : (draft : Draft) → IsDraft task known draft → length draft.names.items ≤ 160000
@@ -134,7 +134,7 @@ module _ (task : Task) (known : Known) (base : IsBase task known) where
       (λ k e at. subst (λ ns. IsPlainEntry task (known.names ++ ns) e) d.names (d.plain k e at)))
 
   -- what had names has them still with more entries
-  pub instance_in_draft : (old now : Draft) (more : List Entry) (i : Instance) → IsDraft task known old → IsDraft task known now
+  pub instance_in_draft : (old now : Draft) (more : List SupposedEntry) (i : Instance) → IsDraft task known old → IsDraft task known now
       → now.entries.items ≡ old.entries.items ++ more → IsPlainInstance task (known.names ++ old.names.items) i
       → IsPlainInstance task (known.names ++ now.names.items) i
   instance_in_draft old now more i d e added p =
@@ -155,7 +155,7 @@ module _ (task : Task) (known : Known) (base : IsBase task known) where
       (values : known.values ++ new.more.values ≡ with_values (known.values ++ old.more.values) (worth_by p.stream i.inputs 0))
       (entries : new.entries.items ≡ old.entries.items ++ record { instance = i; outputs = outputs } ∷ [])
       (asked : new.asked ≡ old.asked ++ i ∷ []) where
-    abbrev one : Entry
+    abbrev one : SupposedEntry
     one = record { instance = i; outputs = outputs }
 
     many : length outputs ≡ length p.stream.outputs
@@ -215,7 +215,7 @@ module _ (task : Task) (known : Known) (base : IsBase task known) where
           (numbers_in (known.names ++ new.names.items) (length known.names + length old.names.items) (length p.stream.outputs) long_enough);
     }
 
-    each_is_plain : (k : ℕ) (e : Entry) → slice_get (old.entries.items ++ one ∷ []) k ≡ Some e
+    each_is_plain : (k : ℕ) (e : SupposedEntry) → slice_get (old.entries.items ++ one ∷ []) k ≡ Some e
         → IsPlainEntry task (known.names ++ new.names.items) e
     each_is_plain k e at =
         elim (push_cases old.entries.items one k e at) [
@@ -231,7 +231,7 @@ module _ (task : Task) (known : Known) (base : IsBase task known) where
       facts = pushed_facts ∙ ap (λ es. with_facts known.facts (flat_map (entry_facts task) es)) (sym entries);
       values = pushed_values ∙ ap (λ es. with_values known.values (flat_map (entry_values task) es)) (sym entries);
       asked = asked ∙ ap (λ is. is ++ i ∷ []) d.asked
-          ∙ sym (ap instances_of entries ∙ map-append (λ (e : Entry). e.instance) old.entries.items (one ∷ []));
+          ∙ sym (ap instances_of entries ∙ map-append (λ (e : SupposedEntry). e.instance) old.entries.items (one ∷ []));
       few = omega (arith, room, ap length entries, length-append old.entries.items (one ∷ []));
       plain = λ k e at. each_is_plain k e (sym (ap (λ es. slice_get es k) entries) ∙ at);
     }

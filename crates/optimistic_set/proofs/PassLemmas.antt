@@ -12,20 +12,20 @@ use Rattle.instance_search.specs.Found.{Seeks, IsFound, AreFound}
 use Rattle.lemmas.proofs.Members.{push_cases, member_at, take_append}
 use Rattle.lemmas.specs.Lists.{AreAscending}
 use Rattle.task_model.proofs.TruthLemmas.{have_types-length}
-use Rattle.task_model.specs.Dreams.{Entry, instances_of, supposing, HasFreshOutputs, IsPass, AreSupposed}
+use Rattle.task_model.specs.Dreams.{SupposedEntry, instances_of, supposing, HasFreshOutputs, IsPass, AreSupposed}
 use Rattle.task_model.specs.Known.{Known, IsCoherent}
 use Rattle.task_model.specs.Streams.{Note, IsDue, is_finished, same_instance, instance_cmp}
 use Rattle.task_model.specs.Truth.{have_types}
 use Rattle.task_model.specs.declared.stream.Instance.{Instance}
 use Rattle.task_model.specs.declared.task.Task.{Task}
 use Rattle.optimistic_set.specs.Drafts.{ArePlainInstances, IsPushed, AddsEntries, LacksPass, seeks_new}
-use Rattle.optimistic_set.specs.Faults.{ComesOf, optimistic_fault}
+use Rattle.optimistic_set.specs.Faults.{HasListCause, optimistic_fault}
 use Rattle.optimistic_set.specs.declared.fault.OptimisticFault.{OptimisticFault}
 use Rattle.optimistic_set.specs.declared.fault.OptimisticFault.TheVariants as fault
 
 -- ---- entries of instances, one after another
 
-pub adds_none : (task : Task) (known : Known) (old : List Entry) → AddsEntries task known old old []
+pub adds_none : (task : Task) (known : Known) (old : List SupposedEntry) → AddsEntries task known old old []
 adds_none task known old = record {
   more = [];
   added = sym (append-nil old);
@@ -33,10 +33,10 @@ adds_none task known old = record {
   fresh = λ k e at. absurd (nothing k e at);
 }
   where
-    nothing : (k : ℕ) (e : Entry) → slice_get [] k ≡ Some e → ⊥
+    nothing : (k : ℕ) (e : SupposedEntry) → slice_get [] k ≡ Some e → ⊥
     nothing k e at = absurd (cc)
 
-pub adds_more : (task : Task) (known : Known) (old mid new : List Entry) (instances : List Instance) (i : ℕ) (instance : Instance)
+pub adds_more : (task : Task) (known : Known) (old mid new : List SupposedEntry) (instances : List Instance) (i : ℕ) (instance : Instance)
     → i < length instances → instance ≡ get_or instances i instance
     → AddsEntries task known old mid (take i instances) → IsPushed task known instance mid new
     → AddsEntries task known old new (take (i + 1) instances)
@@ -45,7 +45,7 @@ adds_more task known old mid new instances i instance lt is so_far (e, pushed, o
     record {
       more = so_far.more ++ e ∷ [];
       added = pushed ∙ ap (λ es. es ++ e ∷ []) so_far.added ∙ append_assoc old so_far.more (e ∷ []);
-      same = map-append (λ (x : Entry). x.instance) so_far.more (e ∷ [])
+      same = map-append (λ (x : SupposedEntry). x.instance) so_far.more (e ∷ [])
           ∙ (λ k. so_far.same k ++ of k ∷ [])
           ∙ sym (take_more instances i instance lt ∙ ap (λ x. take i instances ++ x ∷ []) (sym is));
       fresh = λ k x at. elim (push_cases so_far.more e k x at) [
@@ -59,14 +59,14 @@ adds_more task known old mid new instances i instance lt is so_far (e, pushed, o
       ];
     }
   where
-    within : (xs : List Entry) (k : ℕ) (x : Entry) → slice_get xs k ≡ Some x → k ≤ length xs
+    within : (xs : List SupposedEntry) (k : ℕ) (x : SupposedEntry) → slice_get xs k ≡ Some x → k ≤ length xs
     within [] k x at = absurd (cc)
     within (y ∷ ys) zero x at = omega arith
     within (y ∷ ys) (suc k) x at = omega (arith, within ys k x at)
 
 -- ---- what a pass finds
 
-module _ (task : Task) (known : Known) (notes : List Note) (tried : List Instance) (old : List Entry) where
+module _ (task : Task) (known : Known) (notes : List Note) (tried : List Instance) (old : List SupposedEntry) where
   abbrev there : Known
   there = supposing task known old old
 
@@ -99,7 +99,7 @@ module _ (task : Task) (known : Known) (notes : List Note) (tried : List Instanc
     sought = and_from _ _ (ap not d.unfinished) (and_from _ _ (ap not untried) (ap not absent));
   }
 
-  pub pass_is : (new : List Entry) (instances : List Instance) → AreFound task there seeks instances
+  pub pass_is : (new : List SupposedEntry) (instances : List Instance) → AreFound task there seeks instances
       → AddsEntries task known old new instances → IsPass task known notes tried old new
   pass_is new instances found adds = record {
     more = adds.more;
@@ -126,7 +126,7 @@ module _ (task : Task) (known : Known) (notes : List Note) (tried : List Instanc
       }
 
   pub too_many : (passes depth : ℕ) → passes < depth → AreSupposed task known notes tried passes old → length old ≤ 20000
-      → (f : OptimisticFault) → LacksPass task known notes tried old f → ComesOf task known notes tried depth f
+      → (f : OptimisticFault) → LacksPass task known notes tried old f → HasListCause task known notes tried depth f
   too_many passes depth early supposed few fault.TooManyEntries (more, distinct, each, many) = record {
     passes = passes;
     early = early;
@@ -141,7 +141,7 @@ module _ (task : Task) (known : Known) (notes : List Note) (tried : List Instanc
   too_many passes depth early supposed few fault.Memory h = tt
 
 -- the faults of what is sought are those of the pass
-pub pass_fault : (task : Task) (known : Known) (notes : List Note) (tried : List Instance) (old : List Entry) (asked : List Instance)
+pub pass_fault : (task : Task) (known : Known) (notes : List Note) (tried : List Instance) (old : List SupposedEntry) (asked : List Instance)
     (f : JoinFault) → asked ≡ instances_of old
     → Lacks (20000 - length old) (IsFound task (supposing task known old old) (seeks_new notes tried asked)) [] f
     → LacksPass task known notes tried old (optimistic_fault f)
@@ -149,7 +149,7 @@ pass_fault task known notes tried old asked join.TooMany same h =
     subst (λ a. Exceeds (20000 - length old) (IsFound task (supposing task known old old) (seeks_new notes tried a)) []) same h
 pass_fault task known notes tried old asked join.Memory same h = tt
 
-pub supposed_more : (task : Task) (known : Known) (notes : List Note) (tried : List Instance) (passes : ℕ) (old new : List Entry)
+pub supposed_more : (task : Task) (known : Known) (notes : List Note) (tried : List Instance) (passes : ℕ) (old new : List SupposedEntry)
     → AreSupposed task known notes tried passes old → IsPass task known notes tried old new
     → AreSupposed task known notes tried (passes + 1) new
 supposed_more task known notes tried passes old new so_far pass =

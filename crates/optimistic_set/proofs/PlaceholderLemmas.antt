@@ -11,7 +11,7 @@ use Rattle.lemmas.proofs.Digits.{own}
 use Rattle.lemmas.proofs.Distinct.{distinct_append, distinct_cons}
 use Rattle.lemmas.proofs.Members.{distinct_nil}
 use Rattle.lemmas.specs.Lists.{AreDistinct}
-use Rattle.task_model.specs.Dreams.{Entry, placeholder, placeholders, entry_names}
+use Rattle.task_model.specs.Dreams.{SupposedEntry, placeholder, placeholders, entry_names}
 use Rattle.optimistic_set.specs.Dreamable.{AreReal}
 
 -- ---- numbers between `@`, `.` and the end
@@ -73,10 +73,10 @@ placeholders_distinct j i (suc n) few small =
 -- ---- the names of entries
 
 -- so many outputs at most
-abbrev pub HaveFew : List Entry → Type 0
-HaveFew list = All (λ (e : Entry). length e.outputs ≤ 8) list
+abbrev pub HaveFew : List SupposedEntry → Type 0
+HaveFew list = All (λ (e : SupposedEntry). length e.outputs ≤ 8) list
 
-in_entry_names : (j : ℕ) (list : List Entry) (name : List ℕ) → HaveFew list
+in_entry_names : (j : ℕ) (list : List SupposedEntry) (name : List ℕ) → HaveFew list
     → Contains (entry_names j list) name
     → (k : ℕ) × (i : ℕ) × (j ≤ k) × (k < j + length list) × (i ≤ 8) × (name ≡ placeholder k i)
 in_entry_names j [] name few m = absurd (contains_none name m)
@@ -91,7 +91,7 @@ in_entry_names j (e ∷ es) name few m =
           (r.0, r.1, omega (arith, r.2), omega (arith, r.3), r.4, r.5)
     ]
 
-entry_names_distinct : (j : ℕ) (list : List Entry) → HaveFew list → j + length list ≤ 1000000
+entry_names_distinct : (j : ℕ) (list : List SupposedEntry) → HaveFew list → j + length list ≤ 1000000
     → AreDistinct (entry_names j list)
 entry_names_distinct j [] few small = distinct_nil
 entry_names_distinct j (e ∷ es) few small =
@@ -108,7 +108,7 @@ entry_names_distinct j (e ∷ es) few small =
     absurd (omega (arith, same.0, s.2)))
 
 -- names that are real, with those of the entries behind them
-pub names_distinct : (names : List (List ℕ)) (list : List Entry) → AreDistinct names → AreReal names
+pub names_distinct : (names : List (List ℕ)) (list : List SupposedEntry) → AreDistinct names → AreReal names
     → HaveFew list → length list ≤ 20000 → AreDistinct (names ++ entry_names 1 list)
 names_distinct names list distinct real few most =
     distinct_append names (entry_names 1 list) distinct (entry_names_distinct 1 list few (omega (arith, most)))

@@ -5,7 +5,7 @@ use Rattle.std.proofs.lemmas.List.Elements.{All-nil, All-head, All-tail}
 use Rattle.std.specs.List.{flat_map}
 use Rattle.fact_store.proofs.StoreLemmas.{in_more, fact_kept, value_kept}
 use Rattle.lemmas.proofs.ListTests.{all_one}
-use Rattle.task_model.specs.Dreams.{Entry, entry_facts, entry_values, entry_names, supposing}
+use Rattle.task_model.specs.Dreams.{SupposedEntry, entry_facts, entry_values, entry_names, supposing}
 use Rattle.task_model.specs.Fit.{IsFit}
 use Rattle.task_model.specs.Known.{Known, IsCoherent, with_fact, with_facts, with_value, with_values}
 use Rattle.task_model.specs.Streams.{worth_by}
@@ -40,7 +40,7 @@ values_coherent known (v ∷ vs) costs c =
 
 -- ---- one entry
 
-module _ (task : Task) (names : List (List ℕ)) (fit : IsFit task) (enough : length task.problem.objects ≤ length names) (e : Entry)
+module _ (task : Task) (names : List (List ℕ)) (fit : IsFit task) (enough : length task.problem.objects ≤ length names) (e : SupposedEntry)
     (plain : IsPlainEntry task names e) where
   facts_named : All (IsNamed names) (entry_facts task e)
   facts_named =
@@ -51,7 +51,7 @@ worth_nothing : (s : Stream) (inputs : List ℕ) (w : Option Worth) → s.worth 
 worth_nothing s inputs None e = rw e (All-nil IsCost)
 worth_nothing s inputs (Some w) e = rw e (all_one IsCost _ (omega arith))
 
-values_cheap : (task : Task) (e : Entry) → All IsCost (entry_values task e)
+values_cheap : (task : Task) (e : SupposedEntry) → All IsCost (entry_values task e)
 values_cheap task e = by (slice_get task.streams e.instance.stream) refl
   where
     by : (o : Option Stream) → slice_get task.streams e.instance.stream ≡ o → All IsCost (entry_values task e)
@@ -72,10 +72,10 @@ names_coherent known more c d = record {
 }
 
 -- some of the entries of a list, where the objects of each have names
-pub supposing_coherent : (task : Task) (known : Known) (list kept : List Entry) → IsFit task
+pub supposing_coherent : (task : Task) (known : Known) (list kept : List SupposedEntry) → IsFit task
     → length task.problem.objects ≤ length known.names → IsCoherent known → AreReal known.names
     → HaveFew list → length list ≤ 20000
-    → ((k : ℕ) (e : Entry) → slice_get kept k ≡ Some e → IsPlainEntry task (known.names ++ entry_names 1 list) e)
+    → ((k : ℕ) (e : SupposedEntry) → slice_get kept k ≡ Some e → IsPlainEntry task (known.names ++ entry_names 1 list) e)
     → IsCoherent (supposing task known list kept)
 supposing_coherent task known list kept fit enough c real few most plain =
     let names = known.names ++ entry_names 1 list in

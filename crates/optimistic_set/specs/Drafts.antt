@@ -3,7 +3,7 @@ use Rattle.std.specs.Prelude.{◌≡◌, ℕ, ◌-◌, ◌≤◌, List, [], ◌�
 use Rattle.std.specs.List.{list_any, flat_map}
 use Rattle.fact_join.specs.Adding.{Exceeds}
 use Rattle.instance_search.specs.Found.{IsFound}
-use Rattle.task_model.specs.Dreams.{Entry, entry_facts, entry_values, entry_names, instances_of, supposing, HasFreshOutputs}
+use Rattle.task_model.specs.Dreams.{SupposedEntry, entry_facts, entry_values, entry_names, instances_of, supposing, HasFreshOutputs}
 use Rattle.task_model.specs.Known.{Known, IsIn, with_facts, with_values}
 use Rattle.task_model.specs.Streams.{Note, is_finished, same_instance}
 use Rattle.task_model.specs.declared.limits.TheConstants.{MOST_SUPPOSED}
@@ -24,7 +24,7 @@ pub record IsDraft (task : Task) (known : Known) (draft : Draft) : Type 0 where
       ≡ with_values known.values (flat_map (entry_values task) draft.entries.items)
   pub asked : draft.asked ≡ instances_of draft.entries.items
   pub few : length draft.entries.items ≤ MOST_SUPPOSED
-  pub plain : (k : ℕ) (e : Entry) → slice_get draft.entries.items k ≡ Some e
+  pub plain : (k : ℕ) (e : SupposedEntry) → slice_get draft.entries.items k ≡ Some e
       → IsPlainEntry task (known.names ++ draft.names.items) e
 
 -- ---- one entry more
@@ -41,16 +41,16 @@ ArePlainInstances task names instances =
     (k : ℕ) (i : Instance) → slice_get instances k ≡ Some i → IsPlainInstance task names i
 
 -- the instance's entry, with placeholders of its own, is behind the others
-abbrev pub IsPushed : Task → Known → Instance → List Entry → List Entry → Type 0
+abbrev pub IsPushed : Task → Known → Instance → List SupposedEntry → List SupposedEntry → Type 0
 IsPushed task known instance old new =
-    (e : Entry) × (new ≡ old ++ e ∷ []) × (e.instance ≡ instance) × HasFreshOutputs task known old e
+    (e : SupposedEntry) × (new ≡ old ++ e ∷ []) × (e.instance ≡ instance) × HasFreshOutputs task known old e
 
 -- so are those of the instances
-pub record AddsEntries (task : Task) (known : Known) (old new : List Entry) (instances : List Instance) : Type 0 where
-  pub more : List Entry
+pub record AddsEntries (task : Task) (known : Known) (old new : List SupposedEntry) (instances : List Instance) : Type 0 where
+  pub more : List SupposedEntry
   pub added : new ≡ old ++ more
   pub same : instances_of more ≡ instances
-  pub fresh : (k : ℕ) (e : Entry) → slice_get more k ≡ Some e
+  pub fresh : (k : ℕ) (e : SupposedEntry) → slice_get more k ≡ Some e
       → HasFreshOutputs task known (old ++ take k more) e
 
 -- ---- a pass
@@ -62,7 +62,7 @@ seeks_new notes tried old stream instance =
     && (not (list_any (same_instance instance) tried) && not (list_any (same_instance instance) old))
 
 -- what is true where a pass came to no end: there are more instances than 20,000 entries leave room for
-abbrev pub LacksPass : Task → Known → List Note → List Instance → List Entry → OptimisticFault → Type 0
+abbrev pub LacksPass : Task → Known → List Note → List Instance → List SupposedEntry → OptimisticFault → Type 0
 LacksPass task known notes tried old TooManyEntries =
     Exceeds (MOST_SUPPOSED - length old)
     (IsFound task (supposing task known old old) (seeks_new notes tried (instances_of old))) []

@@ -1,6 +1,6 @@
 -- Entries that may be supposed: their objects have names.
 use Rattle.std.specs.Prelude.{◌≡◌, ℕ, ◌≤◌, ◌++◌, List, length, All, Some, slice_get}
-use Rattle.task_model.specs.Dreams.{Entry, entry_names}
+use Rattle.task_model.specs.Dreams.{SupposedEntry, entry_names}
 use Rattle.task_model.specs.Fit.{IsFit}
 use Rattle.task_model.specs.Known.{Known, IsIn}
 use Rattle.task_model.specs.declared.limits.TheConstants.{MOST_SUPPOSED}
@@ -15,7 +15,7 @@ pub record IsBase (task : Task) (known : Known) : Type 0 where
   pub real : AreReal known.names
 
 -- The entry is one of a stream of the task, has as many inputs and outputs as that, and its objects have names.
-pub record IsPlainEntry (task : Task) (names : List (List ℕ)) (e : Entry) : Type 0 where
+pub record IsPlainEntry (task : Task) (names : List (List ℕ)) (e : SupposedEntry) : Type 0 where
   pub stream : Stream
   pub named : slice_get task.streams e.instance.stream ≡ Some stream
   pub inputs : length e.instance.inputs ≡ length stream.inputs
@@ -25,8 +25,8 @@ pub record IsPlainEntry (task : Task) (names : List (List ℕ)) (e : Entry) : Ty
 
 -- At most 20,000 entries of streams of the task, over what is known without them; with the placeholders of them all
 -- their objects have names.
-pub record ArePlainEntries (task : Task) (known : Known) (list : List Entry) : Type 0 where
+pub record ArePlainEntries (task : Task) (known : Known) (list : List SupposedEntry) : Type 0 where
   pub base : IsBase task known
   pub few : length list ≤ MOST_SUPPOSED
-  pub each : (k : ℕ) (e : Entry) → slice_get list k ≡ Some e
+  pub each : (k : ℕ) (e : SupposedEntry) → slice_get list k ≡ Some e
       → IsPlainEntry task (known.names ++ entry_names 1 list) e

@@ -17,6 +17,6 @@ optimistic_fault join.TooMany = TooManyEntries
 optimistic_fault join.Memory = Memory
 
 -- what is true where there is no list
-abbrev pub ComesOf : Task → Known → List Note → List Instance → ℕ → OptimisticFault → Type 0
-ComesOf task known notes tried depth TooManyEntries = MoreAreSupposed MOST_SUPPOSED task known notes tried depth
-ComesOf task known notes tried depth Memory = Unit {0}
+abbrev pub HasListCause : Task → Known → List Note → List Instance → ℕ → OptimisticFault → Type 0
+HasListCause task known notes tried depth TooManyEntries = MoreAreSupposed MOST_SUPPOSED task known notes tried depth
+HasListCause task known notes tried depth Memory = Unit {0}

@@ -11,9 +11,9 @@ pub struct OptEntry {
 }
 
 impl Model for OptEntry {
-    ghost use Rattle.task_model.specs.Dreams.{Entry};
+    ghost use Rattle.task_model.specs.Dreams.{SupposedEntry};
 
-    ghost Value = { Entry };
+    ghost Value = { SupposedEntry };
 
     ghost view = { λ e. record { instance = e.instance; outputs = e.outputs } };
 }

@@ -5,7 +5,7 @@ ghost use Rattle.task_model.specs.Fit.{IsFit};
 ghost use Rattle.task_model.specs.declared.limits.TheConstants.{MOST_SUPPOSED};
 ghost use Rattle.optimistic_set.specs.Dreamable.{AreReal};
 ghost use Rattle.optimistic_set.specs.Entries.{ArePlainEntries};
-ghost use Rattle.optimistic_set.specs.Faults.{ComesOf};
+ghost use Rattle.optimistic_set.specs.Faults.{HasListCause};
 
 use crate::draft::Draft;
 use crate::fault::OptimisticFault;
@@ -42,7 +42,7 @@ pub fn optimistic<'a>(
     ensures few { IfOk result (λ supposed. length supposed.list ≤ MOST_SUPPOSED) }
     ensures plain { IfOk result (λ supposed. ArePlainEntries task.now supposed.base
         supposed.list) }
-    ensures fault { IfErr result (ComesOf task.now facts.now.known queue.now tried.now depth) }
+    ensures fault { IfErr result (HasListCause task.now facts.now.known queue.now tried.now depth) }
 {
     let mut draft = Draft::new(alloc, facts);
     for _pass in 0..depth {

@@ -30,7 +30,7 @@ impl Model for Tried {
 impl Tried {
     ghost use Rattle.std.specs.Prelude.{◌≡◌, ◌++◌, ◌∷◌, ◌↔◌, [], IsTrue, OnOk, OnErr};
     ghost use Rattle.std.specs.List.{list_any};
-    ghost use Rattle.instance_queue.specs.Level.{instances_of};
+    ghost use Rattle.instance_queue.specs.Level.{due_instances};
     ghost use Rattle.task_model.specs.Streams.{same_instance};
 
     /// Nothing, which takes no memory.
@@ -75,7 +75,7 @@ impl Tried {
     /// Puts the instances of these asks behind the others. Fails only where memory is wanting; then
     /// the first of them may be there.
     pub fn join(&mut self, asks: &[Due]) -> Result<(), AllocError>
-        ensures { OnOk result (self.new ≡ self.old ++ instances_of asks.now) }
+        ensures { OnOk result (self.new ≡ self.old ++ due_instances asks.now) }
     {
         for ask in asks {
             self.add(&ask.instance)?;

@@ -1,6 +1,6 @@
 -- How a run ends whose command answers.
 use Rattle.std.proofs.Common.{◌≡◌, ℕ, arith, List, [], ◌∷◌, ◌++◌, refl, sym, subst, ◌∙◌, inl, inr, Option, Some, Result, Ok, Err, IfOk, IfErr}
-use Rattle.io_world.specs.FileMap.{Asked, FileMap}
+use Rattle.io_world.specs.FileMap.{AskedPath, FileMap}
 use Rattle.io_world.specs.Faults.{Extends, HasCause, last_count}
 use Rattle.io_world.specs.Talks.{Event, Talk}
 use Rattle.round_run.proofs.CallsRunLemmas.{stops_none}
@@ -37,7 +37,7 @@ pub reported_in : {told : Option FileMap} {paths others : TaskFiles} {path other
 reported_in {told} {paths} {others} {path} {other} {r} same is read =
     subst (λ p. AreReported told others p r) is (subst (λ f. AreReported told f path r) same read)
 
-pub asked_reported : (old new : Option (List Asked)) {paths others : TaskFiles} {path other : List ℕ} → paths ≡ others
+pub asked_reported : (old new : Option (List AskedPath)) {paths others : TaskFiles} {path other : List ℕ} → paths ≡ others
     → path ≡ other → Extends old new (reads (task_files paths ++ file_of role.Report path ∷ []))
     → Extends old new (reads (task_files others ++ file_of role.Report other ∷ []))
 asked_reported old new {paths} {others} {path} {other} same is read =

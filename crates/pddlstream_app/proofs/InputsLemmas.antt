@@ -1,7 +1,7 @@
 -- Why a run ends at a file, and the task that files spell.
 use Rattle.std.proofs.Common.{◌≡◌, ℕ, ◌≤◌, arith, List, [], ◌∷◌, ◌++◌, subst, refl, sym, ◌∙◌, inl, inr, Option, Some, Result, Ok, Err, IfOk, IsErrAnd}
 use Rattle.io_world.proofs.TalksLemmas.{extends_more}
-use Rattle.io_world.specs.FileMap.{Asked, FileMap}
+use Rattle.io_world.specs.FileMap.{AskedPath, FileMap}
 use Rattle.io_world.specs.Faults.{Extends, HasCause}
 use Rattle.round_run.proofs.StoppedLemmas.{handed_err, same_err}
 use Rattle.task_model.specs.Fit.{IsFit}
@@ -31,11 +31,11 @@ use Rattle.pddlstream_app.specs.declared.stop.Text.TheVariants.{Domain, Problem,
 pub later_on : (first mid last : ℕ) → first ≤ mid → mid ≤ last → first ≤ last
 later_on first mid last a b = omega (arith, a, b)
 
-abbrev looks : Option FileMap → ℕ → ℕ → Option (List Asked) → Option (List Asked) → FilesSeen
+abbrev looks : Option FileMap → ℕ → ℕ → Option (List AskedPath) → Option (List AskedPath) → FilesSeen
 looks told first last old new =
     record { told = told; first = first; last = last; before = old; after = new }
 
-module _ (told : Option FileMap) (first mid last : ℕ) (earlier : first ≤ mid) (old middle new : Option (List Asked)) where
+module _ (told : Option FileMap) (first mid last : ℕ) (earlier : first ≤ mid) (old middle new : Option (List AskedPath)) where
   -- the count rose since the beginning too
   ends_since : (texts : List (List ℕ)) (wanted : FileWanted) (why : Stop)
       → MayEnd (looks told mid last middle new) texts wanted why
@@ -186,7 +186,7 @@ fit_if_spelled told paths (Err why) is = tt
 
 -- a run ends at the report of a task that was read
 pub ends_at_report : (paths : TaskFiles) (report : List ℕ) (more : List FileWanted) (task : Task) (told later : Option FileMap)
-    → later ≡ told → (first mid last : ℕ) → first ≤ mid → (old middle new : Option (List Asked)) → IsTaskOf told paths task
+    → later ≡ told → (first mid last : ℕ) → first ≤ mid → (old middle new : Option (List AskedPath)) → IsTaskOf told paths task
     → Extends old middle (reads (task_files paths)) → (why : Stop)
     → ((texts : List (List ℕ)) → EndsHere (looks later mid last middle new) texts (file_of role.Report report) why)
     → EndsAtFile (looks told first last old new) (task_files paths ++ file_of role.Report report ∷ more) why

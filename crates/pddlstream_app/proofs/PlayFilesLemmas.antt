@@ -1,7 +1,7 @@
 -- The files of `play`: a task and a report, and then a grid.
 use Rattle.std.proofs.Common.{◌≡◌, ℕ, ◌≤◌, List, [], ◌∷◌, ◌++◌, refl, subst, Option, Ok}
 use Rattle.io_world.proofs.TalksLemmas.{extends_more}
-use Rattle.io_world.specs.FileMap.{Asked, FileMap}
+use Rattle.io_world.specs.FileMap.{AskedPath, FileMap}
 use Rattle.io_world.specs.Faults.{Extends}
 use Rattle.command_line.specs.Words.{PlayWords, play}
 use Rattle.grid_text.specs.Files.{IsGridOf}
@@ -16,7 +16,7 @@ use Rattle.pddlstream_app.specs.declared.stop.FileRole.TheVariants as role
 use Rattle.pddlstream_app.specs.declared.stop.Stop.{Stop}
 use Rattle.pddlstream_app.specs.declared.texts.Reported.{Reported}
 
-abbrev looks : Option FileMap → ℕ → ℕ → Option (List Asked) → Option (List Asked) → FilesSeen
+abbrev looks : Option FileMap → ℕ → ℕ → Option (List AskedPath) → Option (List AskedPath) → FilesSeen
 looks told first last old new = record { told = told; first = first; last = last; before = old; after = new }
 
 module _ (w : PlayWords) where
@@ -26,7 +26,7 @@ module _ (w : PlayWords) where
 
   -- the run ends at the grid
   pub ends_at_play : (told later : Option FileMap) → later ≡ told → (first mid last : ℕ) → first ≤ mid
-      → (old middle new : Option (List Asked)) (r : Reported) → AreReported told w.files w.report r
+      → (old middle new : Option (List AskedPath)) (r : Reported) → AreReported told w.files w.report r
       → Extends old middle (reads before) → (path : List ℕ) → path ≡ w.grid → (why : Stop)
       → ((texts : List (List ℕ)) → EndsHere (looks later mid last middle new) texts (file_of role.Grid path) why)
       → EndsAtFile (looks told first last old new) (files_named (play w)) why
@@ -38,7 +38,7 @@ module _ (w : PlayWords) where
       (subst (λ p. EndsHere (looks later mid last middle new) texts (file_of role.Grid p) why) is (ends texts))
 
   -- all were asked for
-  pub asks_play : (told : Option FileMap) (first last : ℕ) (old middle new : Option (List Asked)) → Extends old middle (reads before)
+  pub asks_play : (told : Option FileMap) (first last : ℕ) (old middle new : Option (List AskedPath)) → Extends old middle (reads before)
       → (path : List ℕ) → path ≡ w.grid → Extends middle new (ask (Ok tt) (file_of role.Grid path) ∷ [])
       → AsksAllOf (play w) (looks told first last old new)
   asks_play told first last old middle new asked path is more = record {

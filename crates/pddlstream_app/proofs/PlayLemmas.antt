@@ -28,7 +28,7 @@ use Rattle.report_text.specs.Texts.{text_of_report}
 use Rattle.task_model.specs.Fit.{IsFit}
 use Rattle.task_model.specs.declared.task.Task.{Task}
 use Rattle.task_reader.proofs.SpelledLemmas.{one_task}
-use Rattle.task_reader.specs.Tasks.{Spells}
+use Rattle.task_reader.specs.Tasks.{SpellsTask}
 use Rattle.transcript_model.specs.Outcomes.{IsTrueOutcome}
 use Rattle.transcript_model.specs.declared.outcome.Outcome.{Outcome}
 use Rattle.transcript_model.specs.declared.outcome.Outcome.TheVariants as outcome
@@ -95,9 +95,9 @@ module _ (files : FileMap) (asked : PlayWords) (has : HasTruePlay files asked) (
       let third : streams ≡ x.streams = one_text files asked.files.streams streams x.streams are.1.1.0.held x.are.1.1.0.held in
       let task : a.0 ≡ has.task =
       one_task x.domain x.problem x.streams a.0 has.task
-      (subst (λ b. Spells x.domain x.problem b a.0) third
-      (subst (λ b. Spells x.domain b streams a.0) second
-      (subst (λ b. Spells b problem streams a.0) first a.1)))
+      (subst (λ b. SpellsTask x.domain x.problem b a.0) third
+      (subst (λ b. SpellsTask x.domain b streams a.0) second
+      (subst (λ b. SpellsTask b problem streams a.0) first a.1)))
       x.spelled in
       let read : report ≡ text_of_report has.report =
       one_text files asked.report report (text_of_report has.report) are.1.1.1.0.held has.held in

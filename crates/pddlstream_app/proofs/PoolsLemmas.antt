@@ -9,7 +9,7 @@ use Rattle.grid_text.specs.Files.{BlamesGridText, IsGridOf}
 use Rattle.grid_text.specs.declared.fault.GridFault.{GridFault}
 use Rattle.grid_text.specs.declared.fault.GridFault.TheVariants as grid
 use Rattle.io_world.proofs.TalksLemmas.{extends_more}
-use Rattle.io_world.specs.FileMap.{Asked, FileMap}
+use Rattle.io_world.specs.FileMap.{AskedPath, FileMap}
 use Rattle.io_world.specs.Faults.{Extends}
 use Rattle.round_run.specs.declared.fault.RunFault.TheVariants as fault
 use Rattle.stream_map.specs.Accepted.{RefusesMap}
@@ -19,7 +19,7 @@ use Rattle.stream_map.specs.Form.{all_stream_names, words_form}
 use Rattle.stream_map.specs.declared.fault.MapFault.{MapFault}
 use Rattle.stream_map.specs.declared.fault.MapFault.TheVariants as maps
 use Rattle.task_model.specs.declared.task.Task.{Task}
-use Rattle.task_reader.specs.Tasks.{Spells}
+use Rattle.task_reader.specs.Tasks.{SpellsTask}
 use Rattle.transcript_model.specs.declared.head.Pool.{Pool}
 use Rattle.pddlstream_app.proofs.InputsLemmas.{ends_behind}
 use Rattle.pddlstream_app.specs.Asked.{AsksAllOf}
@@ -32,7 +32,7 @@ use Rattle.pddlstream_app.specs.declared.stop.Stop.{Stop}
 use Rattle.pddlstream_app.specs.declared.stop.Stop.TheVariants as stop
 use Rattle.pddlstream_app.specs.declared.stop.Text.TheVariants.{Domain, Problem, Streams}
 
-abbrev looks : Option FileMap → ℕ → ℕ → Option (List Asked) → Option (List Asked) → FilesSeen
+abbrev looks : Option FileMap → ℕ → ℕ → Option (List AskedPath) → Option (List AskedPath) → FilesSeen
 looks told first last old new =
     record { told = told; first = first; last = last; before = old; after = new }
 
@@ -42,7 +42,7 @@ pub spelled_in : {told : Option FileMap} {paths others : TaskFiles} {task : Task
     → IsTaskOf told paths task → IsTaskOf told others task
 spelled_in {told} {task = task} same t = subst (λ f. IsTaskOf told f task) same t
 
-pub read_in : (old new : Option (List Asked)) {paths others : TaskFiles} → paths ≡ others
+pub read_in : (old new : Option (List AskedPath)) {paths others : TaskFiles} → paths ≡ others
     → Extends old new (reads (task_files paths)) → Extends old new (reads (task_files others))
 read_in old new same r = subst (λ f. Extends old new (reads (task_files f))) same r
 
@@ -80,7 +80,7 @@ which_stop maps.Unserved = inr (refl, λ e. absurd (cc))
 which_stop maps.Memory = inl refl
 
 -- the run ends at a map that is refused
-pub map_refused : (files : FilesSeen) (d p s : List ℕ) (task : Task) → Spells d p s task → (path bytes : List ℕ)
+pub map_refused : (files : FilesSeen) (d p s : List ℕ) (task : Task) → SpellsTask d p s task → (path bytes : List ℕ)
     → HasBytes files.told (file_of role.Map path) bytes
     → Extends files.before files.after (ask (Ok tt) (file_of role.Map path) ∷ [])
     → (f : MapFault) → RefusesMap task bytes f
@@ -111,7 +111,7 @@ grid_refused files texts path bytes has asked grid.Memory b =
     record { cause = tt; answer = Ok tt; answered = tt; asked = asked }
 
 -- where nothing is asked for
-pub extends_none : (o : Option (List Asked)) → Extends o o []
+pub extends_none : (o : Option (List AskedPath)) → Extends o o []
 extends_none None = tt
 extends_none (Some xs) = (xs, refl, sym (append-nil xs))
 
@@ -119,7 +119,7 @@ extends_none (Some xs) = (xs, refl, sym (append-nil xs))
 pub none_made : {X : Type 0} (path : Option (List ℕ)) → path ≡ None → (files : FilesSeen)
     → Extends files.before files.after [] → (w : SolveWords) (task : Task) (r : Result X Stop)
     → IfErr r (λ why. (f : MapFault) × (why ≡ stop_for_map f) × Refused (all_stream_names task) (words_form task w.program w.workers) f)
-    → IfErr r (λ why. (d p s : List ℕ) → Spells d p s task → EndsAtPools path files (d ∷ p ∷ s ∷ []) w task why)
+    → IfErr r (λ why. (d p s : List ℕ) → SpellsTask d p s task → EndsAtPools path files (d ∷ p ∷ s ∷ []) w task why)
 none_made path none files nothing w task (Ok x) made = tt
 none_made path none files nothing w task (Err why) made = λ d p s spelled.
     subst (λ o. EndsAtPools o files (d ∷ p ∷ s ∷ []) w task why) (sym none)
@@ -130,7 +130,7 @@ pub grid_is_utf8 : (bytes : List ℕ) (g : GridFile) → IsGridOf bytes g → Is
 grid_is_utf8 bytes g is = IsUtf8-from_ascii bytes (read_is_ascii bytes g is)
 
 -- files that were read behind others
-pub reads_more : (old mid new : Option (List Asked)) (xs ys : List FileWanted) → Extends old mid (reads xs)
+pub reads_more : (old mid new : Option (List AskedPath)) (xs ys : List FileWanted) → Extends old mid (reads xs)
     → Extends mid new (reads ys) → Extends old new (reads (xs ++ ys))
 reads_more old mid new xs ys first second =
     subst (Extends old new) (sym (map-append (ask (Ok tt)) xs ys)) (extends_more old mid new (reads xs) (reads ys) first second)
@@ -145,7 +145,7 @@ module _ (asked : SolveWords) where
     stopped = ends;
   })
 
-  module _ (task : Task) (told : Option FileMap) (first mid last : ℕ) (earlier : first ≤ mid) (old middle new : Option (List Asked))
+  module _ (task : Task) (told : Option FileMap) (first mid last : ℕ) (earlier : first ≤ mid) (old middle new : Option (List AskedPath))
       (t : IsTaskOf told asked.files task) (read : Extends old middle (reads (task_files asked.files))) where
     abbrev texts : List (List ℕ)
     texts = t.domain ∷ t.problem ∷ t.streams ∷ []
@@ -205,7 +205,7 @@ module _ (asked : SolveWords) where
             (task, t.spelled) (file_of role.Map path) [] why at))
 
   module _ (task : Task) (pools : List Pool) (told : Option FileMap) (first mid last : ℕ) (earlier : first ≤ mid)
-      (old middle new : Option (List Asked)) (t : IsTaskOf told asked.files task) (means : MeansPools told asked task pools)
+      (old middle new : Option (List AskedPath)) (t : IsTaskOf told asked.files task) (means : MeansPools told asked task pools)
       (read : Extends old middle (reads (files_named (solve asked)))) where
     -- the texts of the files that the words name
     record AreRead (files : List FileWanted) : Type 0 where

@@ -3,7 +3,7 @@ use Rattle.std.proofs.Common.{◌≡◌, ℕ, ◌<◌, arith, List, [], ◌∷�
 use Rattle.io_world.specs.FileMap.{FileMap, HasMore}
 use Rattle.task_reader.proofs.SpelledLemmas.{one_task, task_not_refused}
 use Rattle.task_model.specs.declared.task.Task.{Task}
-use Rattle.task_reader.specs.Tasks.{Spells, RefusesSecond, RefusesThird}
+use Rattle.task_reader.specs.Tasks.{SpellsTask, RefusesSecond, RefusesThird}
 use Rattle.task_reader.specs.Texts.{RefusesDomain}
 use Rattle.task_reader.specs.declared.refusal.FaultKind.{FaultKind}
 use Rattle.pddlstream_app.specs.Files.{FileWanted, HasBytes, file_of, most_of}
@@ -16,7 +16,7 @@ use Rattle.grid_text.specs.declared.fault.GridFault.TheVariants as grid
 use Rattle.grid_text.specs.declared.fault.GridKind.{GridKind}
 use Rattle.serde_json.specs.Data.{Data}
 use Rattle.stream_map.specs.Accepted.{Accepted, AcceptedMap, IsJson, RefusedMap, RefusesMap}
-use Rattle.stream_map.specs.Children.{numbered, plain}
+use Rattle.stream_map.specs.Children.{numbered_pools, plain}
 use Rattle.stream_map.specs.Faults.{Refused, map_fault}
 use Rattle.stream_map.specs.Form.{map_in_data, all_stream_names, words_form}
 use Rattle.stream_map.specs.Spelled.{Spelled}
@@ -51,12 +51,12 @@ module _ (files : FileMap) where
       let problem = one_text _ x.problem y.problem x.are.1.0 y.are.1.0 in
       let streams = one_text _ x.streams y.streams x.are.1.1.0 y.are.1.1.0 in
       one_task x.domain x.problem x.streams u t
-      (subst (λ b. Spells x.domain x.problem b u) streams
-      (subst (λ b. Spells x.domain b y.streams u) problem
-      (subst (λ b. Spells b y.problem y.streams u) domain y.spelled)))
+      (subst (λ b. SpellsTask x.domain x.problem b u) streams
+      (subst (λ b. SpellsTask x.domain b y.streams u) problem
+      (subst (λ b. SpellsTask b y.problem y.streams u) domain y.spelled)))
       x.spelled
 
-module _ (d p s : List ℕ) (more : List (List ℕ)) (task : Task) (spelled : Spells d p s task) where
+module _ (d p s : List ℕ) (more : List (List ℕ)) (task : Task) (spelled : SpellsTask d p s task) where
   -- none of a task's texts is refused
   pub none_refused : (texts : List (List ℕ)) (text : List ℕ) (rest : List (List ℕ)) (which : Text) (kind : FaultKind) (place : ℕ)
       → d ∷ p ∷ s ∷ more ≡ texts ++ text ∷ rest → IsInputRefused texts which text kind place → ⊥
@@ -95,7 +95,7 @@ module _ (d p s : List ℕ) (more : List (List ℕ)) (task : Task) (spelled : Sp
       let third : c ≡ s = cc in
       let same : r.0 ≡ task =
       one_task d p s r.0 task
-      (subst (λ x. Spells x p s r.0) first (subst (λ x. Spells a x s r.0) second (subst (λ x. Spells a b x r.0) third r.1))) spelled
+      (subst (λ x. SpellsTask x p s r.0) first (subst (λ x. SpellsTask a x s r.0) second (subst (λ x. SpellsTask a b x r.0) third r.1))) spelled
       in
       (r.2, subst (λ t. RefusesMap t text why) same r.3)
   before_map [] text rest why is r = absurd r
@@ -160,7 +160,7 @@ one_form : (task : Task) (form : Option (List Spelled)) (a b : List Pool) → Ac
 one_form task form a b x y =
     let both : Some y.spelled ≡ Some x.spelled = sym y.form_is ∙ x.form_is in
     let same : y.spelled ≡ x.spelled = cc in
-    y.pools_are ∙ ap (numbered (all_stream_names task) 0) same ∙ sym x.pools_are
+    y.pools_are ∙ ap (numbered_pools (all_stream_names task) 0) same ∙ sym x.pools_are
 
 -- words and files mean pools of one kind
 pub one_meaning : (files : FileMap) (w : SolveWords) (task : Task) (path : Option (List ℕ)) (a b : List Pool)

@@ -15,7 +15,7 @@ use Rattle.pddlstream_app.specs.AnswerOf.{AnswerOf, HasAnswer, SaysVerdict}
 use Rattle.pddlstream_app.specs.Asked.{AsksAll, AsksFiles}
 use Rattle.pddlstream_app.specs.Outside.{FilesSeen, Outside, Written}
 use Rattle.pddlstream_app.specs.Replays.{IsMigrated, kind_of_verdict}
-use Rattle.pddlstream_app.specs.Plans.{IsOrderTold, IsTooLong, SaysBy, SaysOfReport, SaysOrder, SaysOrderBy, SaysPlay, SaysPlayBy, play_status}
+use Rattle.pddlstream_app.specs.Plans.{IsOrderTold, IsOrderTooLong, SaysBy, SaysOfReport, SaysOrder, SaysOrderBy, SaysPlay, SaysPlayBy, play_status}
 use Rattle.pddlstream_app.specs.Runs.{IsBeforeHost}
 use Rattle.pddlstream_app.specs.Stop.{is_write_fault}
 use Rattle.pddlstream_app.specs.declared.status.Status.{Status}
@@ -59,7 +59,7 @@ order_said : (task : Task) (known : Known) (o : Outcome) (status : Status) (text
     → SaysOrderBy task known o status text → is_said status ≡ true
 order_said task known (outcome.Plan calls cost from) status text s = of s.said
   where
-    of : IsTooLong s.steps status text ⊎ IsOrderTold task calls s.steps status text → is_said status ≡ true
+    of : IsOrderTooLong s.steps status text ⊎ IsOrderTold task calls s.steps status text → is_said status ≡ true
     of (inl long) = ap is_said long.kind
     of (inr told) = ap is_said told.kind
 order_said task known outcome.NoPlan status text s = ap is_said s.0

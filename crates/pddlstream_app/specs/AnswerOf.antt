@@ -6,7 +6,7 @@ use Rattle.grid_text.specs.Grids.{GridFile}
 use Rattle.io_world.specs.FileMap.{FileMap}
 use Rattle.task_model.specs.Fit.{IsFit}
 use Rattle.task_model.specs.declared.task.Task.{Task}
-use Rattle.task_reader.specs.Tasks.{Spells}
+use Rattle.task_reader.specs.Tasks.{SpellsTask}
 use Rattle.replay_check.specs.Verdicts.{IsVerdict}
 use Rattle.replay_check.specs.declared.verdict.Verdict.{Verdict}
 use Rattle.pddlstream_app.specs.Files.{AreBytes}
@@ -24,7 +24,7 @@ only_reads command = true
 
 -- the three texts spell a task, which is fit, and of which this is said
 abbrev pub OverTask : List ℕ → List ℕ → List ℕ → (Task → Type 0) → Type 0
-OverTask domain problem streams Says = (task : Task) × Spells domain problem streams task × IsFit task × Says task
+OverTask domain problem streams Says = (task : Task) × SpellsTask domain problem streams task × IsFit task × Says task
 
 -- the text and the status are those of a verdict of which this is so
 abbrev pub SaysVerdict : (Verdict → Type 0) → Status → List ℕ → Type 0

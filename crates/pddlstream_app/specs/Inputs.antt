@@ -1,13 +1,13 @@
 -- The files of a command, in the order in which they are read, and why a run ends at one of them.
 use Rattle.std.specs.Prelude.{◌≡◌, ◌⊎◌, ℕ, List, [], ◌∷◌, ◌++◌, map, Option, None, Some, IfSome, Result, Ok, Err, ⊤}
-use Rattle.io_world.specs.FileMap.{Asked, FileMap, HasMore}
+use Rattle.io_world.specs.FileMap.{AskedPath, FileMap, HasMore}
 use Rattle.io_world.specs.Faults.{Extends}
 use Rattle.io_world.specs.declared.files.FileFault.{FileFault}
 use Rattle.io_world.specs.declared.files.FileFault.TheVariants as file
 use Rattle.task_model.specs.declared.domain.Domain as domains
 use Rattle.task_model.specs.declared.task.Problem as problems
 use Rattle.task_model.specs.declared.task.Task.{Task}
-use Rattle.task_reader.specs.Tasks.{Spells, RefusesSecond, RefusesThird}
+use Rattle.task_reader.specs.Tasks.{SpellsTask, RefusesSecond, RefusesThird}
 use Rattle.task_reader.specs.Texts.{SpellsDomain, SpellsProblem, RefusesDomain}
 use Rattle.task_reader.specs.declared.refusal.FaultKind.{FaultKind}
 use Rattle.task_reader.specs.declared.refusal.InputRefusal.{InputRefusal}
@@ -49,7 +49,7 @@ pub record IsTaskOf (told : Option FileMap) (paths : TaskFiles) (task : Task) : 
   pub problem : List ℕ
   pub streams : List ℕ
   pub are : AreBytes told (task_files paths) (domain ∷ problem ∷ streams ∷ [])
-  pub spelled : Spells domain problem streams task
+  pub spelled : SpellsTask domain problem streams task
 
 -- a file that may be there
 abbrev pub file_at : FileRole → Option (List ℕ) → List FileWanted
@@ -90,9 +90,9 @@ AreAccepted files [] = ⊤
 AreAccepted files (domain ∷ []) = (d : domains.Domain) × SpellsDomain domain d
 AreAccepted files (domain ∷ problem ∷ []) =
     (d : domains.Domain) × (p : problems.Problem) × SpellsDomain domain d × SpellsProblem d problem p
-AreAccepted files (domain ∷ problem ∷ streams ∷ []) = (task : Task) × Spells domain problem streams task
+AreAccepted files (domain ∷ problem ∷ streams ∷ []) = (task : Task) × SpellsTask domain problem streams task
 AreAccepted (first ∷ second ∷ third ∷ wanted ∷ files) (domain ∷ problem ∷ streams ∷ text ∷ texts) =
-    (task : Task) × Spells domain problem streams task × IsAcceptedAs wanted.role task text
+    (task : Task) × SpellsTask domain problem streams task × IsAcceptedAs wanted.role task text
 AreAccepted files texts = ⊥
 
 -- behind these texts, which are accepted, this one is refused for this fault
@@ -105,7 +105,7 @@ IsInputRefused texts which text kind place = ⊥
 -- behind these texts, which spell a task, this map is refused for this fault
 abbrev pub IsRefusedMap : List (List ℕ) → List ℕ → MapFault → Type 0
 IsRefusedMap (domain ∷ problem ∷ streams ∷ []) text why =
-    (task : Task) × Spells domain problem streams task × ¬ (why ≡ Memory) × RefusesMap task text why
+    (task : Task) × SpellsTask domain problem streams task × ¬ (why ≡ Memory) × RefusesMap task text why
 IsRefusedMap texts text why = ⊥
 
 -- what a refusal of a map stops for
@@ -125,11 +125,11 @@ abbrev pub FileAnswer : Type 0
 FileAnswer = Result (Unit {0}) FileFault
 
 -- the file was asked for, and this was the answer
-abbrev pub ask : FileAnswer → FileWanted → Asked
+abbrev pub ask : FileAnswer → FileWanted → AskedPath
 ask answer wanted = record { path = wanted.path; answer = answer }
 
 -- the files were asked for and read, one after another
-abbrev pub reads : List FileWanted → List Asked
+abbrev pub reads : List FileWanted → List AskedPath
 reads files = map (ask (Ok tt)) files
 
 -- the file has more bytes than it may have, where files are told

@@ -1,6 +1,6 @@
 -- What a run sees of the outside: what files, children and the sink tell, before it and after it.
 use Rattle.std.specs.Prelude.{◌≡◌, ℕ, List, Option}
-use Rattle.io_world.specs.FileMap.{Asked, FileMap}
+use Rattle.io_world.specs.FileMap.{AskedPath, FileMap}
 use Rattle.io_world.specs.Faults.{Rose, last_count}
 use Rattle.io_world.specs.Talks.{Event, Talk}
 
@@ -9,17 +9,17 @@ pub record FilesSeen : Type 0 where
   pub told : Option FileMap
   pub first : ℕ
   pub last : ℕ
-  pub before : Option (List Asked)
-  pub after : Option (List Asked)
+  pub before : Option (List AskedPath)
+  pub after : Option (List AskedPath)
 
 -- what files of a type tell that has these ghosts
-abbrev pub seen_of : {F : Type 0} → (F → Option FileMap) → (F → ℕ) → (F → Option (List Asked)) → F → F
+abbrev pub seen_of : {F : Type 0} → (F → Option FileMap) → (F → ℕ) → (F → Option (List AskedPath)) → F → F
     → FilesSeen
 seen_of told faults asked old new =
     record { told = told old; first = faults old; last = faults new; before = asked old; after = asked new }
 
 -- what files tell of which none is read
-abbrev pub unread : Option FileMap → ℕ → Option (List Asked) → FilesSeen
+abbrev pub unread : Option FileMap → ℕ → Option (List AskedPath) → FilesSeen
 unread told count asked =
     record { told = told; first = count; last = count; before = asked; after = asked }
 

@@ -1,6 +1,6 @@
 -- What is said of the plan of a right report: what of it must stay in order, and what comes of it on a grid.
 use Rattle.std.specs.Prelude.{◌≡◌, ◌⊎◌, ℕ, ◌<◌, ◌≤◌, List, length, codes}
-use Rattle.grid_play.specs.Faults.{IsPlayed}
+use Rattle.grid_play.specs.Faults.{IsActedOut}
 use Rattle.grid_play.specs.Texts.{play_text}
 use Rattle.grid_play.specs.declared.play.Play.{Play}
 use Rattle.grid_play.specs.declared.play.PlayVerdict.{PlayVerdict}
@@ -43,7 +43,7 @@ SaysOfReport states task bytes Says status text =
 -- ---- what must stay in order
 
 -- The steps are more than those whose order is told.
-pub record IsTooLong (steps : List GroundAction) (status : Status) (text : List ℕ) : Type 0 where
+pub record IsOrderTooLong (steps : List GroundAction) (status : Status) (text : List ℕ) : Type 0 where
   pub long : MOST_STEPS < length steps
   pub kind : status ≡ Limit
   pub is : text ≡ codes "order too-long\n"
@@ -61,7 +61,7 @@ pub record IsOrderTold (task : Task) (calls : List Call) (steps : List GroundAct
 pub record SaysOrderOf (task : Task) (known : Known) (calls : List Call) (status : Status) (text : List ℕ) : Type 0 where
   pub steps : List GroundAction
   pub shown : ShowsSteps task known calls steps
-  pub said : IsTooLong steps status text ⊎ IsOrderTold task calls steps status text
+  pub said : IsOrderTooLong steps status text ⊎ IsOrderTold task calls steps status text
 
 abbrev pub SaysOrderBy : Task → Known → Outcome → Status → List ℕ → Type 0
 SaysOrderBy task known (outcome.Plan calls cost from) status text = SaysOrderOf task known calls status text
@@ -80,7 +80,7 @@ play_status v = Invalid
 -- What is said is what comes of the calls on the grid.
 pub record SaysPlayOf (grid : GridFile) (calls : List Call) (status : Status) (text : List ℕ) : Type 0 where
   pub play : Play
-  pub played : IsPlayed grid calls play
+  pub played : IsActedOut grid calls play
   pub kind : status ≡ play_status play.verdict
   pub is : text ≡ play_text play
 

@@ -1,7 +1,7 @@
 //! What `deorder` answers.
 ghost use Rattle.std.specs.Prelude.{◌≡◌, ◌<◌, ◌≤◌, ◌^◌, ℕ, length, IfOk};
 ghost use Rattle.command_line.specs.Held.{held_replay};
-ghost use Rattle.command_line.specs.Ranges.{IsBetween};
+ghost use Rattle.command_line.specs.Ranges.{IsFromOne};
 ghost use Rattle.command_line.specs.Words.{deorder as to_deorder};
 ghost use Rattle.pddlstream_app.specs.Answering.{IsMade};
 ghost use Rattle.pddlstream_app.specs.Outside.{seen_of};
@@ -87,7 +87,7 @@ pub(crate) fn deorder_answer<F: Files>(
     words: &ReplayConfig,
     files: &mut F,
 ) -> Result<Said, Stop>
-    requires within { IsBetween MOST_STATES words.now.states }
+    requires within { IsFromOne MOST_STATES words.now.states }
     ensures made { IsMade (to_deorder (held_replay words.now))
         (seen_of F.told F.faults F.asked files.old files.new) result }
 {

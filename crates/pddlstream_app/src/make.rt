@@ -1,11 +1,11 @@
 //! The grid's task of a number, made and solved.
 ghost use Rattle.std.specs.Prelude.{◌≡◌, ℕ, List, Option, Some, false, string_bytes, IfOk, IfErr};
 ghost use Rattle.command_line.specs.Held.{held_solve};
-ghost use Rattle.command_line.specs.Ranges.{IsBetween};
+ghost use Rattle.command_line.specs.Ranges.{IsFromOne};
 ghost use Rattle.command_line.specs.Words.{command_of, generate as to_generate};
 ghost use Rattle.grid_text.specs.Tasks as texts;
 ghost use Rattle.io_world.specs.Faults.{last_count, HasCause};
-ghost use Rattle.io_world.specs.FileMap.{Asked, FileMap, stored};
+ghost use Rattle.io_world.specs.FileMap.{AskedPath, FileMap, stored};
 ghost use Rattle.pddlstream_app.specs.Asked.{AsksAll, AsksBefore};
 ghost use Rattle.pddlstream_app.specs.Outside.{outside_of, unread, written_of};
 ghost use Rattle.pddlstream_app.specs.Runs.{IsAtText, IsCompleted, IsLined, IsStopped, outcome_status};
@@ -58,7 +58,7 @@ fn file_with(alloc: Global, path: &str, bytes: &[u8]) -> Result<(String, Vec<u8>
 
 /// The texts of the task of a number, as files. Fails only where memory is wanting.
 fn made_files(alloc: Global, number: u32) -> Result<SureFiles, AllocError>
-    requires { IsBetween 12 number }
+    requires { IsFromOne 12 number }
     ensures { IfOk result (λ files. files ≡ works.stored_task (texts.grid_task number)) }
 {
     let task = grid_task(alloc, number)?;
@@ -116,14 +116,14 @@ pub(crate) fn make<H: Host, O: Sink>(
     host: &mut H,
     out: &mut O,
 ) -> Result<Status, Stop>
-    requires within { IsBetween 12 number }
+    requires within { IsFromOne 12 number }
     requires idle { (k : ℕ) → H.running host.old k ≡ false }
     ensures completed { (line : List (List ℕ)) (told : Option FileMap) (count : ℕ)
-        (asked : Option (List Asked)) → command_of line ≡ Some (to_generate number)
+        (asked : Option (List AskedPath)) → command_of line ≡ Some (to_generate number)
         → IfOk result (IsCompleted line (outside_of (unread told count asked) H.spoken H.log
         host.old host.new) (written_of O.taken out.old out.new)) }
     ensures stopped { (line : List (List ℕ)) (told : Option FileMap) (count : ℕ)
-        (asked : Option (List Asked)) → command_of line ≡ Some (to_generate number)
+        (asked : Option (List AskedPath)) → command_of line ≡ Some (to_generate number)
         → IfErr result (IsStopped line (outside_of (unread told count asked) H.spoken H.log
         host.old host.new) (written_of O.taken out.old out.new)) }
     ensures idle { (k : ℕ) → H.running host.new k ≡ false }
@@ -133,10 +133,10 @@ pub(crate) fn make<H: Host, O: Sink>(
     ensures sink { HasCause (Run fault.Write) last_count (O.faults out.old) (O.faults out.new)
         result }
     ensures asked { (line : List (List ℕ)) (told : Option FileMap) (count : ℕ)
-        (asked : Option (List Asked)) → command_of line ≡ Some (to_generate number)
+        (asked : Option (List AskedPath)) → command_of line ≡ Some (to_generate number)
         → IfOk result (λ _. AsksAll line (unread told count asked)) }
     ensures asked_before { (line : List (List ℕ)) (told : Option FileMap) (count : ℕ)
-        (asked : Option (List Asked)) → command_of line ≡ Some (to_generate number)
+        (asked : Option (List AskedPath)) → command_of line ≡ Some (to_generate number)
         → IfErr result (AsksBefore line (unread told count asked)) }
 {
     let words = made_words(alloc)?;

@@ -14,7 +14,7 @@ ghost use Rattle.stream_map.specs.Children.{grid_file, plain};
 ghost use Rattle.stream_map.specs.Faults.{Refused};
 ghost use Rattle.stream_map.specs.Form.{all_stream_names, words_form};
 ghost use Rattle.task_model.specs.Fit.{IsFit};
-ghost use Rattle.task_reader.specs.Tasks.{Spells};
+ghost use Rattle.task_reader.specs.Tasks.{SpellsTask};
 ghost use Rattle.pddlstream_app.specs.declared.stop.FileRole.TheVariants as role;
 
 use crate::stop::{FileRole, Stop};
@@ -78,7 +78,7 @@ fn map_pools<F: Files>(
         (λ bytes. AcceptedMap task.now bytes pools)) }
     ensures asked { IfOk result (λ _. Extends (F.asked files.old) (F.asked files.new)
         (ask (Ok tt) (file_of role.Map path.now) ∷ [])) }
-    ensures stop { IfErr result (λ why. (d p s : List ℕ) → Spells d p s task.now
+    ensures stop { IfErr result (λ why. (d p s : List ℕ) → SpellsTask d p s task.now
         → EndsHere (seen_of F.told F.faults F.asked files.old files.new) (d ∷ p ∷ s ∷ [])
         (file_of role.Map path.now) why) }
     ensures same { F.told files.new ≡ F.told files.old }
@@ -104,7 +104,7 @@ pub(crate) fn meant_pools<F: Files>(
     ensures pools { IfOk result (MeansPools (F.told files.old) (held_solve words.now) task.now) }
     ensures asked { IfOk result (λ _. Extends (F.asked files.old) (F.asked files.new)
         (reads (file_at role.Map (held_solve words.now).path))) }
-    ensures stop { IfErr result (λ why. (d p s : List ℕ) → Spells d p s task.now
+    ensures stop { IfErr result (λ why. (d p s : List ℕ) → SpellsTask d p s task.now
         → EndsAtPools (held_solve words.now).path
         (seen_of F.told F.faults F.asked files.old files.new) (d ∷ p ∷ s ∷ [])
         (held_solve words.now) task.now why) }

@@ -1,7 +1,7 @@
 //! What `play` answers.
 ghost use Rattle.std.specs.Prelude.{◌≡◌, ◌<◌, ◌≤◌, ◌^◌, length, IfOk};
 ghost use Rattle.command_line.specs.Held.{held_play};
-ghost use Rattle.command_line.specs.Ranges.{IsBetween};
+ghost use Rattle.command_line.specs.Ranges.{IsFromOne};
 ghost use Rattle.command_line.specs.Words.{play as to_play};
 ghost use Rattle.pddlstream_app.specs.Answering.{IsMade};
 ghost use Rattle.pddlstream_app.specs.Outside.{seen_of};
@@ -105,7 +105,7 @@ pub(crate) fn play_answer<F: Files>(
     words: &PlayConfig,
     files: &mut F,
 ) -> Result<Said, Stop>
-    requires within { IsBetween MOST_STATES words.now.states }
+    requires within { IsFromOne MOST_STATES words.now.states }
     ensures made { IsMade (to_play (held_play words.now))
         (seen_of F.told F.faults F.asked files.old files.new) result }
 {

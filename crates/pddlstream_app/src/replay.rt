@@ -7,7 +7,7 @@ ghost use Rattle.pddlstream_app.specs.Outside.{seen_of};
 ghost use Rattle.pddlstream_app.specs.Paths.{held_files};
 ghost use Rattle.pddlstream_app.specs.Replays.{kind_of_verdict, verdict_text};
 ghost use Rattle.command_line.specs.Held.{held_replay};
-ghost use Rattle.command_line.specs.Ranges.{IsBetween};
+ghost use Rattle.command_line.specs.Ranges.{IsFromOne};
 ghost use Rattle.command_line.specs.Words.{replay as to_replay};
 ghost use Rattle.task_model.specs.Fit.{IsFit};
 ghost use Rattle.task_model.specs.declared.limits.TheConstants.{MOST_STATES};
@@ -98,7 +98,7 @@ pub(crate) fn replay_answer<F: Files>(
     words: &ReplayConfig,
     files: &mut F,
 ) -> Result<Said, Stop>
-    requires within { IsBetween MOST_STATES words.now.states }
+    requires within { IsFromOne MOST_STATES words.now.states }
     ensures made { IsMade (to_replay (held_replay words.now))
         (seen_of F.told F.faults F.asked files.old files.new) result }
 {

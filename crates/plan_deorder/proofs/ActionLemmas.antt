@@ -5,9 +5,9 @@ use Rattle.lemmas.proofs.ListTests.{get_some}
 use Rattle.task_model.specs.declared.domain.Action.{Action}
 use Rattle.task_model.specs.declared.task.GroundAction.{GroundAction}
 use Rattle.task_model.specs.declared.task.Task.{Task}
-use Rattle.plan_deorder.specs.Clashes.{IsNamed}
+use Rattle.plan_deorder.specs.Clashes.{IsNamedStep}
 
-pub at_place : (task : Task) (step : GroundAction) → IsNamed task step → (actions : List Action)
+pub at_place : (task : Task) (step : GroundAction) → IsNamedStep task step → (actions : List Action)
     → actions ≡ task.domain.actions → (action : Action) → action ≡ get_or actions step.action action
     → slice_get task.domain.actions step.action ≡ Some action
 at_place task step named actions same action is =

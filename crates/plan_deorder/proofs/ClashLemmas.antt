@@ -15,8 +15,8 @@ use Rattle.task_model.specs.declared.fact.Atom.{Atom}
 use Rattle.task_model.specs.declared.task.GroundAction.{GroundAction}
 use Rattle.task_model.specs.declared.task.Task.{Task}
 use Rattle.plan_deorder.proofs.SwapLemmas.{any_by, from_among, to_among}
-use Rattle.plan_deorder.specs.Clashes.{IsTouchedBy, clash, disturbs, is_read, meets}
-use Rattle.plan_deorder.specs.Touches.{Conflict, Disturbs, Meet, Reads, StepsConflict, adds_of, deletes_of, reads_in}
+use Rattle.plan_deorder.specs.Clashes.{IsTouchedBy, clash, disturbs, is_read, adds_deleted}
+use Rattle.plan_deorder.specs.Touches.{Conflict, Disturbs, Meet, ReadsAtom, StepsConflict, adds_of, deletes_of, reads_in}
 use Rattle.plan_deorder.specs.declared.touched.Touched.{Touched}
 
 -- ---- members of sets
@@ -55,14 +55,14 @@ module _ (task : Task) (s t : GroundAction) (a b : Touched) (is : IsTouchedBy ta
   deleted : (x : Atom) → contains a.deletes x ≡ true → Contains (deletes_of is.action s.args) x
   deleted x e = listed (deletes_of is.action s.args) x (ap (λ w. contains w x) (sym is.deletes) ∙ e)
 
-  read : (x : Atom) → is_read b x ≡ true → Reads task.domain are.action.condition (slots_of t.args) x
+  read : (x : Atom) → is_read b x ≡ true → ReadsAtom task.domain are.action.condition (slots_of t.args) x
   read x e =
       elim (or_cases (contains b.reads x) (has_number b.whole x.pred) e) [
         | inl one ↦ inl (listed (reads_in task.domain (slots_of t.args) are.action.condition) x (ap (λ w. contains w x) (sym are.reads) ∙ one))
         | inr all ↦ inr ((are.whole x.pred).0 all)
       ]
 
-  reads_it : (x : Atom) → Reads task.domain are.action.condition (slots_of t.args) x → is_read b x ≡ true
+  reads_it : (x : Atom) → ReadsAtom task.domain are.action.condition (slots_of t.args) x → is_read b x ≡ true
   reads_it x r =
       elim r [
         | inl one ↦ or_left (contains b.reads x) (has_number b.whole x.pred)
@@ -70,7 +70,7 @@ module _ (task : Task) (s t : GroundAction) (a b : Touched) (is : IsTouchedBy ta
         | inr all ↦ or_right (contains b.reads x) (has_number b.whole x.pred) ((are.whole x.pred).1 all)
       ]
 
-  meet_from : meets a b ≡ true → Meet (adds_of is.action s.args) (deletes_of are.action t.args)
+  meet_from : adds_deleted a b ≡ true → Meet (adds_of is.action s.args) (deletes_of are.action t.args)
   meet_from e =
       let found = some_passes (contains b.deletes) a.adds e in (
         found.x,
@@ -78,7 +78,7 @@ module _ (task : Task) (s t : GroundAction) (a b : Touched) (is : IsTouchedBy ta
         listed (deletes_of are.action t.args) found.x (ap (λ w. contains w found.x) (sym are.deletes) ∙ found.passes),
       )
 
-  meet_to : Meet (adds_of is.action s.args) (deletes_of are.action t.args) → meets a b ≡ true
+  meet_to : Meet (adds_of is.action s.args) (deletes_of are.action t.args) → adds_deleted a b ≡ true
   meet_to m =
       passes_some (contains b.deletes) a.adds m.0 (ap (λ w. contains w m.0) is.adds ∙ is_listed (adds_of is.action s.args) m.0 m.1)
       (ap (λ w. contains w m.0) are.deletes ∙ is_listed (deletes_of are.action t.args) m.0 m.2)
@@ -109,8 +109,8 @@ clashes task s t a b is are = (from, to)
   where
     conflict : clash a b ≡ true → Conflict task.domain is.action s.args are.action t.args
     conflict e =
-        elim (or_cases (meets a b || meets b a) (disturbs a b || disturbs b a) e) [
-          | inl met ↦ elim (or_cases (meets a b) (meets b a) met) [
+        elim (or_cases (adds_deleted a b || adds_deleted b a) (disturbs a b || disturbs b a) e) [
+          | inl met ↦ elim (or_cases (adds_deleted a b) (adds_deleted b a) met) [
             | inl first ↦ inl (meet_from task s t a b is are first)
             | inr second ↦ inr (inl (meet_from task t s b a are is second))
           ]
@@ -126,15 +126,15 @@ clashes task s t a b is are = (from, to)
     clash_by : Conflict task.domain is.action s.args are.action t.args → clash a b ≡ true
     clash_by c =
         elim c [
-          | inl met ↦ or_left (meets a b || meets b a) (disturbs a b || disturbs b a)
-              (or_left (meets a b) (meets b a) (meet_to task s t a b is are met))
+          | inl met ↦ or_left (adds_deleted a b || adds_deleted b a) (disturbs a b || disturbs b a)
+              (or_left (adds_deleted a b) (adds_deleted b a) (meet_to task s t a b is are met))
           | inr rest ↦ elim rest [
-            | inl met ↦ or_left (meets a b || meets b a) (disturbs a b || disturbs b a)
-                (or_right (meets a b) (meets b a) (meet_to task t s b a are is met))
+            | inl met ↦ or_left (adds_deleted a b || adds_deleted b a) (disturbs a b || disturbs b a)
+                (or_right (adds_deleted a b) (adds_deleted b a) (meet_to task t s b a are is met))
             | inr more ↦ elim more [
-              | inl first ↦ or_right (meets a b || meets b a) (disturbs a b || disturbs b a)
+              | inl first ↦ or_right (adds_deleted a b || adds_deleted b a) (disturbs a b || disturbs b a)
                   (or_left (disturbs a b) (disturbs b a) (disturbs_to task s t a b is are first))
-              | inr second ↦ or_right (meets a b || meets b a) (disturbs a b || disturbs b a)
+              | inr second ↦ or_right (adds_deleted a b || adds_deleted b a) (disturbs a b || disturbs b a)
                   (or_right (disturbs a b) (disturbs b a) (disturbs_to task t s b a are is second))
             ]
           ]

@@ -8,12 +8,12 @@ use Rattle.std.specs.List.{list_all, list_any}
 use Rattle.lemmas.proofs.Ascending.{contains_here}
 use Rattle.lemmas.proofs.ListTests.{all_at, all_from, any_found}
 use Rattle.lemmas.proofs.Members.{get_append, get_behind, get_pushed, member_at, place_of, push_cases}
-use Rattle.plan_deorder.specs.Listed.{ArePlaces, is_kept, is_less, place_in}
-use Rattle.plan_deorder.specs.Orders.{IsListing, Keeps, Pair}
+use Rattle.plan_deorder.specs.Listed.{ArePlaces, is_pair_kept, is_less, place_of_number}
+use Rattle.plan_deorder.specs.Orders.{IsOrderListing, Keeps, Pair}
 
 -- ---- places
 
-pub at_number : (places : List (Option ℕ)) (n : ℕ) → 1 ≤ n → place_in places n ≡ get_or places (n - 1) None
+pub at_number : (places : List (Option ℕ)) (n : ℕ) → 1 ≤ n → place_of_number places n ≡ get_or places (n - 1) None
 at_number places zero some = absurd (omega (arith, some))
 at_number places (suc n) some = ap (λ k. get_or places k None) (let e : n ≡ suc n - 1 = omega arith in e)
 
@@ -34,11 +34,11 @@ none_listed count = record {
   there = λ n k at. absurd (none n k at);
 }
   where
-    none : (n k : ℕ) → place_in (replicate count None) n ≡ Some k → ⊥
+    none : (n k : ℕ) → place_of_number (replicate count None) n ≡ Some k → ⊥
     none zero k e = none-some k e
     none (suc n) k e = none_of_none count n k e
 
-within : (places : List (Option ℕ)) (n k : ℕ) → place_in places n ≡ Some k → (1 ≤ n) × (n ≤ length places)
+within : (places : List (Option ℕ)) (n k : ℕ) → place_of_number places n ≡ Some k → (1 ≤ n) × (n ≤ length places)
 within places zero k e = absurd (none-some k e)
 within places (suc n) k e =
     elim (cases_lt n (length places)) [
@@ -47,13 +47,13 @@ within places (suc n) k e =
     ]
 
 set_same : (places : List (Option ℕ)) (n : ℕ) (v : Option ℕ) → 1 ≤ n → n ≤ length places
-    → place_in (set places (n - 1) v) n ≡ v
+    → place_of_number (set places (n - 1) v) n ≡ v
 set_same places n v some few =
     at_number (set places (n - 1) v) n some
     ∙ get_or-set_same places (n - 1) v None (let lt : n - 1 < length places = omega (arith, some, few) in lt)
 
 set_other : (places : List (Option ℕ)) (n m : ℕ) (v : Option ℕ) → 1 ≤ n → ¬ (m ≡ n)
-    → place_in (set places (n - 1) v) m ≡ place_in places m
+    → place_of_number (set places (n - 1) v) m ≡ place_of_number places m
 set_other places n zero v some other = refl
 set_other places n (suc m) v some other =
     get_or-set_other places (n - 1) m v None (λ e. other (omega (arith, e, some)))
@@ -62,15 +62,15 @@ set_other places n (suc m) v some other =
 
 module _ (listing : List ℕ) (places : List (Option ℕ)) (p : ArePlaces listing places) (n : ℕ) where
   -- it has no place yet
-  pub noted : place_in places n ≡ None → 1 ≤ n → n ≤ length places
+  pub noted : place_of_number places n ≡ None → 1 ≤ n → n ≤ length places
       → ArePlaces (listing ++ n ∷ []) (set places (n - 1) (Some (length listing)))
   noted fresh some few = record {
     found = λ k m at. elim (push_cases listing n k m at) [
       | inl h ↦
-          let other : ¬ (m ≡ n) = λ same. none-some k (sym fresh ∙ ap (place_in places) (sym same) ∙ p.found k m h) in
+          let other : ¬ (m ≡ n) = λ same. none-some k (sym fresh ∙ ap (place_of_number places) (sym same) ∙ p.found k m h) in
           set_other places n m (Some (length listing)) some other ∙ p.found k m h
       | inr h ↦
-          ap (place_in (set places (n - 1) (Some (length listing)))) h.1
+          ap (place_of_number (set places (n - 1) (Some (length listing)))) h.1
           ∙ set_same places n (Some (length listing)) some few ∙ ap Some (sym h.0)
     ];
     there = λ m k at. elim (m == n) as (λ b. (m == n) ≡ b → slice_get (listing ++ n ∷ []) k ≡ Some m) [
@@ -78,7 +78,7 @@ module _ (listing : List ℕ) (places : List (Option ℕ)) (p : ArePlaces listin
           let same : m ≡ n = eqb-true m n e in
           let here : Some (length listing) ≡ Some k =
           sym (set_same places n (Some (length listing)) some few)
-          ∙ ap (place_in (set places (n - 1) (Some (length listing)))) (sym same) ∙ at in
+          ∙ ap (place_of_number (set places (n - 1) (Some (length listing)))) (sym same) ∙ at in
           get_pushed listing n k (sym (same_Some (length listing) k here)) ∙ ap Some (sym same)
       | false ↦ λ e.
           let other : ¬ (m ≡ n) = λ same. let bad : true ≡ false = sym (eq-eqb m n same) ∙ e in absurd (cc) in
@@ -88,13 +88,13 @@ module _ (listing : List ℕ) (places : List (Option ℕ)) (p : ArePlaces listin
   }
 
   -- it is none of those that are listed
-  pub out_of_range : (count : ℕ) (more : List ℕ) → ¬ ((1 ≤ n) × (n ≤ count)) → ¬ (IsListing count (listing ++ n ∷ more))
+  pub out_of_range : (count : ℕ) (more : List ℕ) → ¬ ((1 ≤ n) × (n ≤ count)) → ¬ (IsOrderListing count (listing ++ n ∷ more))
   out_of_range count more out l =
       out ((l.each n).0 (Contains-append_right listing (n ∷ more) n (contains_here n more)))
 
   -- it was listed before
-  pub listed_twice : (count k : ℕ) (more : List ℕ) → place_in places n ≡ Some k
-      → ¬ (IsListing count (listing ++ n ∷ more))
+  pub listed_twice : (count k : ℕ) (more : List ℕ) → place_of_number places n ≡ Some k
+      → ¬ (IsOrderListing count (listing ++ n ∷ more))
   listed_twice count k more at l =
       let there = p.there n k at in
       let same = l.once k (length listing + 0) n (get_append listing (n ∷ more) k n there) (get_behind listing (n ∷ more) 0 n refl) in
@@ -110,9 +110,9 @@ cut_here (n ∷ ns) zero lt = refl
 cut_here (n ∷ ns) (suc place) lt = ap (λ ms. n ∷ ms) (cut_here ns place (omega (arith, lt)))
 
 pub refused_here : (listing : List ℕ) (place count : ℕ) → place < length listing
-    → ((more : List ℕ) → ¬ (IsListing count (take place listing ++ get_or listing place 0 ∷ more))) → ¬ (IsListing count listing)
+    → ((more : List ℕ) → ¬ (IsOrderListing count (take place listing ++ get_or listing place 0 ∷ more))) → ¬ (IsOrderListing count listing)
 refused_here listing place count lt refused l =
-    refused (drop (suc place) listing) (subst (IsListing count) (sym (cut_here listing place lt)) l)
+    refused (drop (suc place) listing) (subst (IsOrderListing count) (sym (cut_here listing place lt)) l)
 
 -- ---- all numbers
 
@@ -126,18 +126,18 @@ none_there (p ∷ ps) (suc k) lt e = or_right (is_none p) (list_any is_none ps) 
 module _ (listing : List ℕ) (places : List (Option ℕ)) (p : ArePlaces listing places) (count : ℕ)
     (long : length places ≡ count) where
   -- each number has a place
-  pub all_listed : list_any is_none places ≡ false → IsListing count listing
+  pub all_listed : list_any is_none places ≡ false → IsOrderListing count listing
   all_listed all = record {
     each = λ n. (
       λ c. let at = place_of listing n c in
           let r = within places n at.0 (p.found at.0 n at.1) in
           (r.0, omega (arith, r.1, long)),
-      λ r. by n r.0 r.1 (place_in places n) refl,
+      λ r. by n r.0 r.1 (place_of_number places n) refl,
     );
     once = λ i j n e f. same_Some i j (sym (p.found i n e) ∙ p.found j n f);
   }
     where
-      by : (n : ℕ) → 1 ≤ n → n ≤ count → (o : Option ℕ) → place_in places n ≡ o → Contains listing n
+      by : (n : ℕ) → 1 ≤ n → n ≤ count → (o : Option ℕ) → place_of_number places n ≡ o → Contains listing n
       by n some few (Some k) at = member_at listing k n (p.there n k at)
       by n some few None at =
           let bad = none_there places (n - 1) (omega (arith, some, few, long)) (sym (at_number places n some) ∙ at) in
@@ -145,7 +145,7 @@ module _ (listing : List ℕ) (places : List (Option ℕ)) (p : ArePlaces listin
           absurd (cc)
 
   -- a number has none
-  pub one_is_missing : list_any is_none places ≡ true → ¬ (IsListing count listing)
+  pub one_is_missing : list_any is_none places ≡ true → ¬ (IsOrderListing count listing)
   one_is_missing some l =
       let found = any_found is_none places some in
       missing found.0 found.1 found.2 found.3
@@ -174,17 +174,17 @@ less_from (Some a) None each = refl
 less_from None q each = refl
 
 -- the listing keeps the pairs exactly where each pair is kept
-pub kept_by_places : (listing : List ℕ) (places : List (Option ℕ)) (count : ℕ) (pairs : List Pair) → IsListing count listing
-    → ArePlaces listing places → IsTrue (list_all (is_kept places) pairs) ↔ Keeps pairs count listing
+pub kept_by_places : (listing : List ℕ) (places : List (Option ℕ)) (count : ℕ) (pairs : List Pair) → IsOrderListing count listing
+    → ArePlaces listing places → IsTrue (list_all (is_pair_kept places) pairs) ↔ Keeps pairs count listing
 kept_by_places listing places count pairs listed p = (
   λ all. record {
     listed = listed;
     kept = λ i j c k l at_i at_j.
         let at = place_of pairs (i, j) c in
-        less_at (place_in places i) (place_in places j) k l (p.found k i at_i) (p.found l j at_j)
-        (all_at (is_kept places) pairs at.0 (i, j) all at.1);
+        less_at (place_of_number places i) (place_of_number places j) k l (p.found k i at_i) (p.found l j at_j)
+        (all_at (is_pair_kept places) pairs at.0 (i, j) all at.1);
   },
-  λ keeps. all_from (is_kept places) pairs (λ n pair at.
-      less_from (place_in places pair.0) (place_in places pair.1) (λ k l e f.
+  λ keeps. all_from (is_pair_kept places) pairs (λ n pair at.
+      less_from (place_of_number places pair.0) (place_of_number places pair.1) (λ k l e f.
       keeps.kept pair.0 pair.1 (member_at pairs n pair at) k l (p.there pair.0 k e) (p.there pair.1 l f))),
 )

@@ -8,7 +8,7 @@ use Rattle.formula_eval.proofs.ReadableLemmas.{has_place, roles_length}
 use Rattle.lemmas.proofs.Bools.{and_false, from_or_false, not_both, or_false}
 use Rattle.lemmas.proofs.ListTests.{all_at, any_found}
 use Rattle.lemmas.specs.Lists.{LeadsAlong, has_number, numbers_from}
-use Rattle.name_tables.specs.Graphs.{AreReached, leads}
+use Rattle.name_tables.specs.Graphs.{AreReached, has_edge}
 use Rattle.plan_check.proofs.ReadableLemmas.{fit_action}
 use Rattle.task_model.specs.Condition.{Condition, Conditions, Atom, Equal, All as every, Any, Not, Exists, none, more, parts_of}
 use Rattle.task_model.specs.Fit.{IsFitDomain, any_mentions, are_fit_effects, are_fit_params, are_fit_patterns, depends, has_arity, is_fit_action, is_fit_condition, is_fit_item, is_fit_pattern, is_short, mentions, param_slots}
@@ -19,7 +19,7 @@ use Rattle.task_model.specs.declared.domain.Role.TheVariants as role
 use Rattle.task_model.specs.Roles.{is_changed, is_derived, role_of}
 use Rattle.task_model.specs.declared.domain.Action.{Action}
 use Rattle.task_model.specs.declared.domain.Pattern.{Pattern}
-use Rattle.plan_deorder.specs.Occurring.{IsWay, all_occurring_in, below_in, body_of, fluents_of, is_fluent_role, occurring_in}
+use Rattle.plan_deorder.specs.Occurring.{IsWay, all_occurring_in, below_in, occurring_in_body, fluents_of, is_fluent_role, occurring_in}
 use Rattle.plan_deorder.specs.Touches.{ReadsAll, RestsOn, all_reads_in, any_inside, mentions_inside, reads_in}
 use borrow.Author.Tests.{lt-ltb, ltb-true}
 
@@ -66,7 +66,7 @@ mutual
 
 -- ---- below a predicate
 
-in_body : (d : Derived) (head p : ℕ) → has_number (body_of head d) p ≡ ((d.pred == head) && mentions p d.body)
+in_body : (d : Derived) (head p : ℕ) → has_number (occurring_in_body head d) p ≡ ((d.pred == head) && mentions p d.body)
 in_body d head p = by (d.pred == head)
   where
     by : (b : Bool) → has_number (cond b (occurring_in true d.body) []) p ≡ (b && mentions p d.body)
@@ -77,7 +77,7 @@ rests : (items : List Derived) (head p : ℕ)
     → has_number (below_in items head) p ≡ list_any (λ (d : Derived). (d.pred == head) && mentions p d.body) items
 rests [] head p = refl
 rests (d ∷ ds) head p =
-    list_any-append (λ m. p == m) (body_of head d) (below_in ds head)
+    list_any-append (λ m. p == m) (occurring_in_body head d) (below_in ds head)
     ∙ (λ i. in_body d head p i || rests ds head p i)
 
 -- what heads an item is a predicate of the domain
@@ -124,9 +124,9 @@ abbrev pub edges_in : Domain → List (List ℕ)
 edges_in domain = map (below_in domain.derived) (numbers_from 0 (length domain.predicates))
 
 -- An edge leads from one predicate to another exactly where the one rests on the other in one step.
-lead : (domain : Domain) → IsFitDomain domain → (a b : ℕ) → leads (edges_in domain) a b ≡ depends domain a b
+lead : (domain : Domain) → IsFitDomain domain → (a b : ℕ) → has_edge (edges_in domain) a b ≡ depends domain a b
 lead domain fit a b =
-    elim (nat_lt a size) as (λ t. nat_lt a size ≡ t → leads (edges_in domain) a b ≡ depends domain a b) [
+    elim (nat_lt a size) as (λ t. nat_lt a size ≡ t → has_edge (edges_in domain) a b ≡ depends domain a b) [
       | true ↦ λ e. inside (ltb-true a size e)
       | false ↦ λ e. outside (λ l. not_both (nat_lt a size) (lt-ltb a size l) e)
     ] refl
@@ -134,7 +134,7 @@ lead domain fit a b =
     size : ℕ
     size = length domain.predicates
 
-    inside : a < size → leads (edges_in domain) a b ≡ depends domain a b
+    inside : a < size → has_edge (edges_in domain) a b ≡ depends domain a b
     inside h =
         let zeros : 0 + a ≡ a = omega arith in
         ap (λ o. has_number (unwrap_or o []) b)
@@ -145,7 +145,7 @@ lead domain fit a b =
     none h true e = absurd (h (headed domain domain.derived (second_so (is_short domain.derived) _ fit.items) a b e))
     none h false e = refl
 
-    outside : (a < size → ⊥) → leads (edges_in domain) a b ≡ depends domain a b
+    outside : (a < size → ⊥) → has_edge (edges_in domain) a b ≡ depends domain a b
     outside h =
         ap (λ o. has_number (unwrap_or o []) b) (past (below_in domain.derived) 0 size a h)
         ∙ none h (depends domain a b) refl
@@ -197,7 +197,7 @@ whole_are domain fit c reached ways p = (from, to)
       derived = w.start;
       there = sym (occurs c w.start) ∙ w.begins;
       between = w.way.between;
-      way = along (leads (edges_in domain)) (depends domain) (lead domain fit) w.start w.way.between p w.way.steps;
+      way = along (has_edge (edges_in domain)) (depends domain) (lead domain fit) w.start w.way.between p w.way.steps;
     }
 
     back : RestsOn domain c p → IsWay (edges_in domain) (occurring_in true c) p
@@ -206,7 +206,7 @@ whole_are domain fit c reached ways p = (from, to)
       begins = occurs c r.derived ∙ r.there;
       way = record {
         between = r.between;
-        steps = along (depends domain) (leads (edges_in domain)) (λ a b. sym (lead domain fit a b)) r.derived r.between p r.way;
+        steps = along (depends domain) (has_edge (edges_in domain)) (λ a b. sym (lead domain fit a b)) r.derived r.between p r.way;
       };
     }
 
@@ -282,7 +282,7 @@ more_ways edges starts start reached others ways are p = (from, to)
           | inr new ↦
               let same = eqb-true w.start start (from_or_false (w.start == start) new) in
               or_right (has_number reached p) (has_number others p)
-              (are.all p w.way.between (subst (λ s. LeadsAlong (leads edges) s w.way.between p) same w.way.steps))
+              (are.all p w.way.between (subst (λ s. LeadsAlong (has_edge edges) s w.way.between p) same w.way.steps))
         ]
 
 -- ---- roles

@@ -16,7 +16,7 @@ use Rattle.task_model.specs.declared.task.GroundAction.{GroundAction}
 use Rattle.task_model.specs.declared.task.Task.{Task}
 use Rattle.plan_deorder.proofs.ClashLemmas.{clashes}
 use Rattle.plan_deorder.proofs.OrderLemmas.{highest, lowest}
-use Rattle.plan_deorder.specs.Clashes.{AreTouched, clash_at, clash_of, pair_of, row_of}
+use Rattle.plan_deorder.specs.Clashes.{AreTouched, clash_at, clash_of, pair_of, pairs_from}
 use Rattle.plan_deorder.specs.Orders.{ConflictAt, Pair, pair_cmp, step_at}
 use Rattle.plan_deorder.specs.declared.touched.Touched.{Touched}
 
@@ -85,7 +85,7 @@ pub record InRow (touched : List Touched) (i : ℕ) (p : Pair) : Type 0 where
   pub clashing : clash_at touched i j ≡ true
   pub is : p ≡ pair_of i j
 
-pub from_row : (touched : List Touched) (i : ℕ) (p : Pair) → Contains (row_of touched i) p → InRow touched i p
+pub from_row : (touched : List Touched) (i : ℕ) (p : Pair) → Contains (pairs_from touched i) p → InRow touched i p
 from_row touched i p c =
     let size = length touched - (i + 1) in
     let mapped = from_mapped (pair_of i) (filter (clash_at touched i) (numbers_from (i + 1) size)) p c in
@@ -125,7 +125,7 @@ row_next touched i j h =
     by false = refl
 
 pub in_row : (touched : List Touched) (i j : ℕ) → i < j → j < length touched → clash_at touched i j ≡ true
-    → Contains (row_of touched i) (pair_of i j)
+    → Contains (pairs_from touched i) (pair_of i j)
 in_row touched i j less within clashing =
     let size = length touched - (i + 1) in
     in_mapped (pair_of i) (filter (clash_at touched i) (numbers_from (i + 1) size)) j
@@ -135,7 +135,7 @@ in_row touched i j less within clashing =
 -- ---- the pairs
 
 abbrev pub pairs_in : List Touched → List Pair
-pairs_in touched = flat_map (row_of touched) (numbers_from 0 (length touched))
+pairs_in touched = flat_map (pairs_from touched) (numbers_from 0 (length touched))
 
 module _ (task : Task) (steps : List GroundAction) (touched : List Touched) (are : AreTouched task steps touched) where
   clash_told : (i j : ℕ) → i < length touched → j < length touched → clash_at touched i j ≡ true
@@ -174,7 +174,7 @@ module _ (task : Task) (steps : List GroundAction) (touched : List Touched) (are
     where
       from : Contains (pairs_in touched) (i, j) → (i < j) × ConflictAt task steps i j
       from c =
-          let row = from_flat_map (row_of touched) (numbers_from 0 (length touched)) (i, j) c in
+          let row = from_flat_map (pairs_from touched) (numbers_from 0 (length touched)) (i, j) c in
           let bounds = lowest 0 (length touched) row.0 row.1 in
           let in_it = from_row touched row.0 (i, j) row.2 in
           let first : row.0 + 1 ≡ i = sym (ap (λ (p : Pair). p.0) in_it.is) in
@@ -192,7 +192,7 @@ module _ (task : Task) (steps : List GroundAction) (touched : List Touched) (are
           let same : pair_of i j ≡ (suc i, suc j) =
           (let first : i + 1 ≡ suc i = omega arith in let second : j + 1 ≡ suc j = omega arith in λ k. (first k, second k)) in
           subst (λ p. Contains (pairs_in touched) p) same
-          (in_flat_map (row_of touched) (numbers_from 0 (length touched)) i (pair_of i j)
+          (in_flat_map (pairs_from touched) (numbers_from 0 (length touched)) i (pair_of i j)
           (highest 0 (length touched) i (omega arith) (omega (arith, c.0)))
           (in_row touched i j (omega (arith, both.0)) c.1 c.2))
 
@@ -245,7 +245,7 @@ row_rises i (x ∷ xs) sorted = (
 pub pairs_rise : (touched : List Touched) → AreAscending pair_cmp (pairs_in touched)
 pairs_rise touched =
     ascending pair_cmp (pairs_in touched)
-    (rising_flat_map nat_cmp pair_cmp (row_of touched) (numbers_from 0 (length touched)) (numbers_rise 0 (length touched))
+    (rising_flat_map nat_cmp pair_cmp (pairs_from touched) (numbers_from 0 (length touched)) (numbers_rise 0 (length touched))
     (λ i. row_rises i _ (filter_rises (clash_at touched i) _ (numbers_rise (i + 1) (length touched - (i + 1)))))
     (λ x y a b less c d.
     let p = from_row touched x a c in

@@ -13,7 +13,7 @@ use Rattle.plan_deorder.proofs.PairLemmas.{each_pair, from_filter, from_row, in_
 use Rattle.plan_deorder.proofs.StageLemmas.{at_most_greatest, kept_by}
 use Rattle.task_model.specs.declared.task.GroundAction.{GroundAction}
 use Rattle.task_model.specs.declared.task.Task.{Task}
-use Rattle.plan_deorder.specs.Clashes.{AreTouched, IsTouchedBy, clash_at, pair_of, row_of, stage_of, stages_of, stages_under}
+use Rattle.plan_deorder.specs.Clashes.{AreTouched, IsTouchedBy, clash_at, pair_of, pairs_from, stage_of, stages_of, stages_under}
 use Rattle.plan_deorder.specs.Orders.{AreStages, IsOrder, Pair, greatest, stage_at, stages_before}
 use Rattle.plan_deorder.specs.declared.touched.Touched.{Touched}
 
@@ -150,7 +150,7 @@ module _ (touched : List Touched) where
           let bounds = lowest 0 k i kept.0 in
           let less : i < k = omega (arith, bounds.1) in
           let there : Contains (pairs_in touched) (pair_of i k) =
-          in_flat_map (row_of touched) (numbers_from 0 size) i (pair_of i k)
+          in_flat_map (pairs_from touched) (numbers_from 0 size) i (pair_of i k)
           (highest 0 size i (omega arith) (omega (arith, less, h))) (in_row touched i k less h kept.1) in
           let one = in_mapped (λ (p : Pair). stage_at stages p.0) (filter (λ (p : Pair). p.1 == k + 1) (pairs_in touched)) (pair_of i k)
           (kept_by (pairs_in touched) (i + 1) (k + 1) there) in
@@ -164,7 +164,7 @@ module _ (touched : List Touched) where
       from m c =
           let mapped = from_mapped (λ (p : Pair). stage_at stages p.0) (filter (λ (p : Pair). p.1 == k + 1) (pairs_in touched)) m c in
           let kept = from_filter (λ (p : Pair). p.1 == k + 1) (pairs_in touched) mapped.0 mapped.1 in
-          let row = from_flat_map (row_of touched) (numbers_from 0 size) mapped.0 kept.0 in
+          let row = from_flat_map (pairs_from touched) (numbers_from 0 size) mapped.0 kept.0 in
           let in_it = from_row touched row.0 mapped.0 row.2 in
           let i = row.0 in
           let second : in_it.j + 1 ≡ k + 1 = sym (ap (λ (p : Pair). p.1) in_it.is) ∙ eqb-true mapped.0.1 (k + 1) kept.1 in

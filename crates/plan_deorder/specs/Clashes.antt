@@ -15,14 +15,14 @@ use Rattle.plan_deorder.specs.declared.touched.Touched.{Touched}
 -- ---- steps
 
 -- The step names an action, and has at most sixteen arguments.
-pub record IsNamed (task : Task) (step : GroundAction) : Type 0 where
+pub record IsNamedStep (task : Task) (step : GroundAction) : Type 0 where
   pub action : Action
   pub named : slice_get task.domain.actions step.action ≡ Some action
   pub few : length step.args ≤ 16
 
 -- each does
-abbrev pub AreNamed : Task → List GroundAction → Type 0
-AreNamed task steps = (k : ℕ) (step : GroundAction) → slice_get steps k ≡ Some step → IsNamed task step
+abbrev pub AreStepsNamed : Task → List GroundAction → Type 0
+AreStepsNamed task steps = (k : ℕ) (step : GroundAction) → slice_get steps k ≡ Some step → IsNamedStep task step
 
 -- The sets have what the step writes and reads.
 pub record IsTouchedBy (task : Task) (step : GroundAction) (touched : Touched) : Type 0 where
@@ -45,15 +45,15 @@ abbrev pub is_read : Touched → Atom → Bool
 is_read touched x = contains touched.reads x || has_number touched.whole x.pred
 
 -- the one adds what the other deletes
-abbrev pub meets : Touched → Touched → Bool
-meets a b = list_any (contains b.deletes) (items a.adds)
+abbrev pub adds_deleted : Touched → Touched → Bool
+adds_deleted a b = list_any (contains b.deletes) (items a.adds)
 
 -- the first writes what the second reads
 abbrev pub disturbs : Touched → Touched → Bool
 disturbs a b = list_any (is_read b) (items a.adds) || list_any (is_read b) (items a.deletes)
 
 abbrev pub clash : Touched → Touched → Bool
-clash a b = (meets a b || meets b a) || (disturbs a b || disturbs b a)
+clash a b = (adds_deleted a b || adds_deleted b a) || (disturbs a b || disturbs b a)
 
 abbrev pub clash_of : Option Touched → Option Touched → Bool
 clash_of (Some a) (Some b) = clash a b
@@ -70,8 +70,8 @@ abbrev pub pair_of : ℕ → ℕ → Pair
 pair_of i j = (i + 1, j + 1)
 
 -- the pairs of the step at this place with later ones
-abbrev pub row_of : List Touched → ℕ → List Pair
-row_of touched i =
+abbrev pub pairs_from : List Touched → ℕ → List Pair
+pairs_from touched i =
     map (pair_of i) (filter (clash_at touched i) (numbers_from (i + 1) (length touched - (i + 1))))
 
 -- ---- stages

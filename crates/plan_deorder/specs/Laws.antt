@@ -10,14 +10,14 @@ use Rattle.task_model.specs.declared.domain.Domain.{Domain}
 use Rattle.task_model.specs.declared.fact.Atom.{Atom}
 use Rattle.task_model.specs.declared.task.GroundAction.{GroundAction}
 use Rattle.task_model.specs.declared.task.Task.{Task}
-use Rattle.plan_deorder.specs.Orders.{AreListed, ConflictAt, IsListing, IsOrder, Keeps, Pair, stage_at}
-use Rattle.plan_deorder.specs.Touches.{Reads, StepsConflict}
+use Rattle.plan_deorder.specs.Orders.{AreListed, ConflictAt, IsOrderListing, IsOrder, Keeps, Pair, stage_at}
+use Rattle.plan_deorder.specs.Touches.{ReadsAtom, StepsConflict}
 
 -- Two states that agree on what a condition reads make it equally true.
 abbrev pub TruthIsWhatIsRead : Type 0
 TruthIsWhatIsRead =
     (domain : Domain) (known : Known) (s t : Atoms) (c : Condition) (slots : List ℕ)
-    → ((x : Atom) → Reads domain c slots x → contains s x ≡ contains t x)
+    → ((x : Atom) → ReadsAtom domain c slots x → contains s x ≡ contains t x)
     → is_true domain known s c slots ≡ is_true domain known t c slots
 
 -- One after the other, the second step first: each costs what it did, and they lead to the same state.
@@ -66,7 +66,7 @@ Rises stages listing =
 -- Steps of one stage don't conflict, and a listing by stages keeps the order.
 pub record StagesSuffice (task : Task) (steps : List GroundAction) (pairs : List Pair) (stages : List ℕ) : Type 0 where
   pub later : (i j : ℕ) → i < j → ConflictAt task steps i j → stage_at stages i < stage_at stages j
-  pub kept : (listing : List ℕ) → IsListing (length steps) listing → Rises stages listing
+  pub kept : (listing : List ℕ) → IsOrderListing (length steps) listing → Rises stages listing
       → Keeps pairs (length steps) listing
 
 abbrev pub StagesKeepTheOrder : Type 0

@@ -25,12 +25,12 @@ abbrev mutual
   all_occurring_in outside (more part parts) = occurring_in outside part ++ all_occurring_in outside parts
 
 -- those in the item's body, where it heads the predicate
-abbrev pub body_of : ℕ → Derived → List ℕ
-body_of pred d = if d.pred == pred then occurring_in true d.body else []
+abbrev pub occurring_in_body : ℕ → Derived → List ℕ
+occurring_in_body pred d = if d.pred == pred then occurring_in true d.body else []
 
 -- those in the bodies of the predicate's items
 abbrev pub below_in : List Derived → ℕ → List ℕ
-below_in items pred = flat_map (body_of pred) items
+below_in items pred = flat_map (occurring_in_body pred) items
 
 -- There is a way to the number from one of these.
 pub record IsWay (edges : List (List ℕ)) (starts : List ℕ) (number : ℕ) : Type 0 where

@@ -1,15 +1,15 @@
 //! Whether a listing of steps keeps the order of a plan.
 ghost use Rattle.std.specs.Prelude.{◌≡◌, ◌↔◌, ℕ, List, IfOk, IfSome, IfNone, IsTrue, is_none, length};
 ghost use Rattle.std.specs.List.{list_all, list_any};
-ghost use Rattle.plan_deorder.specs.Listed.{ArePlaces, IsNoted, is_kept, place_in};
-ghost use Rattle.plan_deorder.specs.Orders.{IsListing, Keeps};
+ghost use Rattle.plan_deorder.specs.Listed.{ArePlaces, IsNumberNoted, is_pair_kept, place_of_number};
+ghost use Rattle.plan_deorder.specs.Orders.{IsOrderListing, Keeps};
 
 use crate::order::Order;
 use std::alloc::{AllocError, Global};
 
 /// The place of a number, from 1, where it has one.
 fn place_of(places: &[Option<usize>], number: u32) -> Option<usize>
-    ensures { result ≡ place_in places.now number }
+    ensures { result ≡ place_of_number places.now number }
 {
     let number = number as usize;
     if number == 0 || number > places.len() {
@@ -24,7 +24,7 @@ fn place_of(places: &[Option<usize>], number: u32) -> Option<usize>
 fn note(places: &mut [Option<usize>], number: u32, place: usize) -> bool
     ensures count { length places.new ≡ length places.old }
     ensures noted { (listing : List ℕ) → length listing ≡ place → ArePlaces listing places.old
-        → IsNoted listing number places.new result }
+        → IsNumberNoted listing number places.new result }
 {
     let slot = number as usize;
     if slot == 0 || slot > places.len() {
@@ -53,9 +53,9 @@ fn places_of(
     count: usize,
     listing: &[u32],
 ) -> Result<Option<Vec<Option<usize>>>, AllocError>
-    ensures some { IfOk result (λ found. IfSome found (λ places. IsListing count listing.now
+    ensures some { IfOk result (λ found. IfSome found (λ places. IsOrderListing count listing.now
         × ArePlaces listing.now places.items)) }
-    ensures none { IfOk result (λ found. IfNone found (¬ (IsListing count listing.now))) }
+    ensures none { IfOk result (λ found. IfNone found (¬ (IsOrderListing count listing.now))) }
 {
     let mut places = vec![in alloc; None; count]?;
     for (place, number) in listing.iter().enumerate() {
@@ -71,7 +71,7 @@ fn places_of(
 
 /// Whether the first of two numbers stands before the second, where both have a place.
 fn is_before(places: &[Option<usize>], first: u32, second: u32) -> bool
-    ensures { result ≡ is_kept places.now (first, second) }
+    ensures { result ≡ is_pair_kept places.now (first, second) }
 {
     match (place_of(places, first), place_of(places, second)) {
         (Some(first), Some(second)) => first < second,
@@ -81,7 +81,7 @@ fn is_before(places: &[Option<usize>], first: u32, second: u32) -> bool
 
 /// Whether the first number of each pair stands before the second, where both have a place.
 fn keep_all(places: &[Option<usize>], pairs: &[(u32, u32)]) -> bool
-    ensures { result ≡ list_all (is_kept places.now) pairs.now }
+    ensures { result ≡ list_all (is_pair_kept places.now) pairs.now }
 {
     pairs
         .iter()

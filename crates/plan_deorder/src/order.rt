@@ -4,7 +4,7 @@ ghost use Rattle.std.specs.List.{flat_map};
 ghost use Rattle.lemmas.specs.Lists.{numbers_from};
 ghost use Rattle.task_model.specs.Fit.{IsFit};
 ghost use Rattle.task_model.specs.Plans.{IsValid};
-ghost use Rattle.plan_deorder.specs.Clashes.{AreNamed, AreTouched, row_of, stage_of, stages_of};
+ghost use Rattle.plan_deorder.specs.Clashes.{AreStepsNamed, AreTouched, pairs_from, stage_of, stages_of};
 ghost use Rattle.plan_deorder.specs.Laws.{KeepsMeaning};
 ghost use Rattle.plan_deorder.specs.Occurring.{below_in};
 ghost use Rattle.plan_deorder.specs.Orders.{IsOrder};
@@ -49,7 +49,7 @@ fn touched_by_each(
     steps: &[GroundAction],
 ) -> Result<Vec<Touched>, AllocError>
     requires fit { IsFit task.now }
-    requires named { AreNamed task.now steps.now }
+    requires named { AreStepsNamed task.now steps.now }
     ensures { IfOk result (λ touched. AreTouched task.now steps.now touched.items) }
 {
     let edges = edges_of(alloc, &task.domain)?;
@@ -64,7 +64,7 @@ fn touched_by_each(
 fn put_row(touched: &[Touched], first: usize, pairs: &mut Vec<(u32, u32)>) -> Result<(), AllocError>
     requires few { length touched.now ≤ MOST_STEPS }
     requires within { first < length touched.now }
-    ensures { OnOk result (pairs.new.items ≡ pairs.old.items ++ row_of touched.now first) }
+    ensures { OnOk result (pairs.new.items ≡ pairs.old.items ++ pairs_from touched.now first) }
 {
     for second in first + 1..touched.len() {
         if conflict(&touched[first], &touched[second]) {
@@ -78,7 +78,7 @@ fn put_row(touched: &[Touched], first: usize, pairs: &mut Vec<(u32, u32)>) -> Re
 fn pairs_of(alloc: Global, touched: &[Touched]) -> Result<Vec<(u32, u32)>, AllocError>
     requires few { length touched.now ≤ MOST_STEPS }
     ensures { IfOk result (λ pairs. pairs.items
-        ≡ flat_map (row_of touched.now) (numbers_from 0 (length touched.now))) }
+        ≡ flat_map (pairs_from touched.now) (numbers_from 0 (length touched.now))) }
 {
     let mut pairs = Vec::new(alloc);
     for first in 0..touched.len() {
@@ -120,7 +120,7 @@ fn all_stages(alloc: Global, touched: &[Touched]) -> Result<Vec<u32>, AllocError
 /// wanting.
 fn order_of(alloc: Global, task: &Task, steps: &[GroundAction]) -> Result<Order, AllocError>
     requires fit { IsFit task.now }
-    requires named { AreNamed task.now steps.now }
+    requires named { AreStepsNamed task.now steps.now }
     requires few { length steps.now ≤ MOST_STEPS }
     ensures { IfOk result (λ order. IsOrder task.now steps.now order.pairs order.stages) }
 {

@@ -3,7 +3,7 @@ ghost use Rattle.std.specs.Prelude.{◌≡◌, IfOk, length, map};
 ghost use Rattle.lemmas.specs.Lists.{numbers_from};
 ghost use Rattle.task_model.specs.Fit.{IsFit};
 ghost use Rattle.plan_deorder.specs.Occurring.{below_in};
-ghost use Rattle.plan_deorder.specs.Clashes.{IsNamed, IsTouchedBy};
+ghost use Rattle.plan_deorder.specs.Clashes.{IsNamedStep, IsTouchedBy};
 
 use crate::reads::{put_reads, whole_reads};
 use formula_eval::Env;
@@ -35,7 +35,7 @@ pub(crate) fn touched_by(
     requires fit { IsFit task.now }
     requires edges { edges.now ≡ map (below_in task.now.domain.derived)
         (numbers_from 0 (length task.now.domain.predicates)) }
-    requires named { IsNamed task.now step.now }
+    requires named { IsNamedStep task.now step.now }
     ensures { IfOk result (IsTouchedBy task.now step.now) }
 {
     let action = &task.domain.actions.as_slice()[step.action as usize];

@@ -8,8 +8,8 @@ use Rattle.std.specs.List.{list_all}
 use Rattle.std.specs.Option.{option_or}
 use Rattle.std.specs.Str.Parse.{ParsesUnsigned, digits_value}
 use Rattle.lemmas.proofs.Digits.{own}
-use Rattle.plan_reader.specs.Claims.{claim_of, claimed_cost, first_claim, is_cost}
-use Rattle.plan_reader.specs.Lines.{IsFirstLine, lines_of}
+use Rattle.plan_reader.specs.Claims.{claimed_by_line, claimed_cost, first_claim, is_cost}
+use Rattle.plan_reader.specs.Lines.{IsFirstTextLine, text_lines}
 use Rattle.plan_reader.proofs.PlansLemmas.{lines_left}
 
 -- ---- numbers
@@ -40,12 +40,12 @@ not_cost {E} word text r e same digits h err =
 -- ---- lines
 
 -- at first all lines are left
-pub all_claims : (text : List ℕ) → claimed_cost text ≡ first_claim (lines_of text)
+pub all_claims : (text : List ℕ) → claimed_cost text ≡ first_claim (text_lines text)
 unfolding claimed_cost
 all_claims text = refl
 
 -- what is left claims what its first line does, or what is left behind that
-pub claims_left : (text line : List ℕ) (rest : Option (Bor (List ℕ))) → IsFirstLine text line rest
-    → first_claim (lines_of text) ≡ option_or (claim_of line) (first_claim (lines_left rest))
+pub claims_left : (text line : List ℕ) (rest : Option (Bor (List ℕ))) → IsFirstTextLine text line rest
+    → first_claim (text_lines text) ≡ option_or (claimed_by_line line) (first_claim (lines_left rest))
 claims_left text line None is = ap first_claim is
 claims_left text line (Some rest) is = ap first_claim is.0

@@ -5,9 +5,9 @@ use Rattle.std.proofs.lemmas.List.Splits.{length-slice_split}
 use Rattle.std.proofs.lemmas.List.Sums.{count_by-le-length}
 use Rattle.gen_lines.specs.Lines.{is_feed}
 use Rattle.transcript_model.specs.declared.entry.Call.{Call}
-use Rattle.plan_reader.specs.Lines.{IsFirstLine, lines_of}
-use Rattle.plan_reader.specs.Plans.{Adds, RefusesPlan, WrongLine, behind_calls, plan_of, refusal_at, said_then, steps_of}
-use Rattle.plan_reader.specs.Steps.{Fails, said_by}
+use Rattle.plan_reader.specs.Lines.{IsFirstTextLine, text_lines}
+use Rattle.plan_reader.specs.Plans.{AddsStep, RefusesPlan, WrongLine, behind_calls, plan_of, refusal_at, said_then, steps_of}
+use Rattle.plan_reader.specs.Steps.{LineFails, said_by}
 use Rattle.plan_reader.specs.declared.fault.LineFault.{LineFault}
 use Rattle.plan_reader.specs.declared.fault.LineFault.TheVariants.{Wrong, Memory}
 use Rattle.task_reader.specs.Refusals.{Refuses}
@@ -16,7 +16,7 @@ use Rattle.task_reader.specs.declared.refusal.FaultKind.{FaultKind}
 -- the lines that are left
 abbrev pub lines_left : Option (Bor (List ℕ)) → List (List ℕ)
 lines_left None = []
-lines_left (Some rest) = lines_of rest.now
+lines_left (Some rest) = text_lines rest.now
 
 -- where they begin in a text of so many bytes
 abbrev pub place_left : ℕ → Option (Bor (List ℕ)) → ℕ
@@ -34,23 +34,23 @@ steps_left total rest = steps_of (place_left total rest) (lines_left rest)
 
 -- the steps of a text that is left are what its first line says, and then the steps of the rest
 pub first_said : (total : ℕ) (text line : List ℕ) (rest : Option (Bor (List ℕ))) → length text ≤ total
-    → IsFirstLine text line rest
-    → steps_of (total - length text) (lines_of text) ≡ said_then (total - length text) (said_by line) (steps_left total rest)
+    → IsFirstTextLine text line rest
+    → steps_of (total - length text) (text_lines text) ≡ said_then (total - length text) (said_by line) (steps_left total rest)
 first_said total text line None within is = ap (steps_of (total - length text)) is
 first_said total text line (Some rest) within is =
     let there : total - length text + length line + 1 ≡ total - length rest.now = omega (arith, is.1, within) in
     ap (steps_of (total - length text)) is.0
-    ∙ ap (λ place. said_then (total - length text) (said_by line) (steps_of place (lines_of rest.now))) there
+    ∙ ap (λ place. said_then (total - length text) (said_by line) (steps_of place (text_lines rest.now))) there
 
 -- what is left behind the first line is within the text
 pub rest_left : (total : ℕ) (text line : List ℕ) (rest : Option (Bor (List ℕ))) → length text ≤ total
-    → IsFirstLine text line rest → IsLeft total rest
+    → IsFirstTextLine text line rest → IsLeft total rest
 rest_left total text line None within is = tt
 rest_left total text line (Some rest) within is = omega (arith, is.1, within)
 
 -- and has one line fewer
-pub rest_shorter : (text line : List ℕ) (rest : Option (Bor (List ℕ))) → IsFirstLine text line rest
-    → length (lines_of text) ≡ length (lines_left rest) + 1
+pub rest_shorter : (text line : List ℕ) (rest : Option (Bor (List ℕ))) → IsFirstTextLine text line rest
+    → length (text_lines text) ≡ length (lines_left rest) + 1
 rest_shorter text line None is = omega (arith, ap length is)
 rest_shorter text line (Some rest) is = omega (arith, ap length is.0)
 
@@ -68,11 +68,11 @@ behind_nothing (Ok more) = refl
 behind_nothing (Err wrong) = refl
 
 -- nothing is said, or one step more
-pub adds_said : (calls : List Call) (line : List ℕ) → said_by line ≡ Ok None → Adds calls line calls
+pub adds_said : (calls : List Call) (line : List ℕ) → said_by line ≡ Ok None → AddsStep calls line calls
 adds_said calls line said = λ place more. ap (λ o. behind_calls calls (said_then place o more)) said
 
 pub adds_call : (calls new : List Call) (call : Call) (line : List ℕ) → said_by line ≡ Ok (Some call)
-    → new ≡ calls ++ call ∷ [] → Adds calls line new
+    → new ≡ calls ++ call ∷ [] → AddsStep calls line new
 adds_call calls new call line said is = λ place more.
     ap (λ o. behind_calls calls (said_then place o more)) said ∙ behind_call calls call more
     ∙ ap (λ cs. behind_calls cs more) (sym is)
@@ -87,17 +87,17 @@ all_left text calls none =
     let start : length text.now - length text.now ≡ 0 = omega arith in
     sym (ap (λ cs. behind_calls cs (steps_left (length text.now) (Some text))) none
     ∙ behind_nothing (steps_left (length text.now) (Some text))
-    ∙ ap (λ place. steps_of place (lines_of text.now)) start)
+    ∙ ap (λ place. steps_of place (text_lines text.now)) start)
 
 -- it has no more lines than bytes, and one
-pub few_lines : (text : List ℕ) → length (lines_of text) ≤ length text + 1
+pub few_lines : (text : List ℕ) → length (text_lines text) ≤ length text + 1
 few_lines text = omega (arith, length-slice_split is_feed text, count_by-le-length is_feed text)
 
 module _ (total : ℕ) (all : Result (List Call) WrongLine) (calls : List Call) (text : Bor (List ℕ)) (line : List ℕ)
-    (rest : Option (Bor (List ℕ))) (within : length text.now ≤ total) (is : IsFirstLine text.now line rest)
+    (rest : Option (Bor (List ℕ))) (within : length text.now ≤ total) (is : IsFirstTextLine text.now line rest)
     (read : all ≡ behind_calls calls (steps_left total (Some text))) where
   -- behind a line that was read the rest is left
-  pub line_read : (new : List Call) → Adds calls line new → all ≡ behind_calls new (steps_left total rest)
+  pub line_read : (new : List Call) → AddsStep calls line new → all ≡ behind_calls new (steps_left total rest)
   line_read new adds =
       read ∙ ap (behind_calls calls) (first_said total text.now line rest within is)
       ∙ adds (total - length text.now) (steps_left total rest)
@@ -111,9 +111,9 @@ module _ (total : ℕ) (all : Result (List Call) WrongLine) (calls : List Call) 
 
 -- so it refuses the text, want of memory apart
 pub text_refused : (bytes : List ℕ) (calls : List Call) (text : Bor (List ℕ)) (line : List ℕ) (rest : Option (Bor (List ℕ)))
-    → length text.now ≤ length bytes → IsFirstLine text.now line rest
+    → length text.now ≤ length bytes → IsFirstTextLine text.now line rest
     → plan_of bytes ≡ behind_calls calls (steps_left (length bytes) (Some text)) → (fault : LineFault)
-    → Fails fault (said_by line) → Refuses (RefusesPlan bytes) (refusal_at fault (length bytes - length text.now))
+    → LineFails fault (said_by line) → Refuses (RefusesPlan bytes) (refusal_at fault (length bytes - length text.now))
 text_refused bytes calls text line rest within is read (Wrong kind) wrong =
     line_wrong (length bytes) (plan_of bytes) calls text line rest within is read kind wrong
 text_refused bytes calls text line rest within is read Memory wrong = tt

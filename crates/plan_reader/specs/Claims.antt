@@ -6,7 +6,7 @@ use Rattle.std.specs.List.{list_all}
 use Rattle.std.specs.Option.{option_or}
 use Rattle.std.specs.Str.Parse.{digits_value}
 use Rattle.sexpr_text.specs.Tokens.{is_blank}
-use Rattle.plan_reader.specs.Lines.{behind_blanks, lines_of}
+use Rattle.plan_reader.specs.Lines.{behind_blanks, text_lines}
 
 -- what stands behind this word, where the bytes begin with it
 abbrev pub behind_word : List ℕ → List ℕ → Option (List ℕ)
@@ -39,14 +39,14 @@ claim_behind bytes =
     (behind_word (codes "cost") (behind_blanks bytes))
 
 -- what a line claims that is a comment
-abbrev pub claim_of : List ℕ → Option ℕ
-claim_of line = option_and_then claim_behind (behind_word (codes ";") (behind_blanks line))
+abbrev pub claimed_by_line : List ℕ → Option ℕ
+claimed_by_line line = option_and_then claim_behind (behind_word (codes ";") (behind_blanks line))
 
 -- the first claim of these lines
 abbrev pub first_claim : List (List ℕ) → Option ℕ
 first_claim [] = None
-first_claim (line ∷ lines) = option_or (claim_of line) (first_claim lines)
+first_claim (line ∷ lines) = option_or (claimed_by_line line) (first_claim lines)
 
 -- the cost that a text claims, as the first comment `; cost = N` in a line of its own writes it
 unfoldable pub claimed_cost : List ℕ → Option ℕ
-claimed_cost text = first_claim (lines_of text)
+claimed_cost text = first_claim (text_lines text)

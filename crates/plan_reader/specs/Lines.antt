@@ -8,14 +8,14 @@ use Rattle.sexpr_text.specs.Tokens.{is_blank}
 -- ---- lines
 
 -- the lines of a text: what stands between its line feeds, before the first and behind the last
-abbrev pub lines_of : List ℕ → List (List ℕ)
-lines_of text = slice_split is_feed text
+abbrev pub text_lines : List ℕ → List (List ℕ)
+text_lines text = slice_split is_feed text
 
 -- The line is the first of the text, and the rest is what stands behind its line feed, of which there may be none.
-abbrev pub IsFirstLine : List ℕ → List ℕ → Option (Bor (List ℕ)) → Type 0
-IsFirstLine text line None = lines_of text ≡ line ∷ []
-IsFirstLine text line (Some rest) =
-    (lines_of text ≡ line ∷ lines_of rest.now) × (length text ≡ length line + 1 + length rest.now)
+abbrev pub IsFirstTextLine : List ℕ → List ℕ → Option (Bor (List ℕ)) → Type 0
+IsFirstTextLine text line None = text_lines text ≡ line ∷ []
+IsFirstTextLine text line (Some rest) =
+    (text_lines text ≡ line ∷ text_lines rest.now) × (length text ≡ length line + 1 + length rest.now)
 
 -- ---- what stands on a line
 

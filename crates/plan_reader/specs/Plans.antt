@@ -4,7 +4,7 @@ use Rattle.task_reader.specs.declared.refusal.FaultKind.{FaultKind}
 use Rattle.task_reader.specs.declared.refusal.InputRefusal.{InputRefusal}
 use Rattle.task_reader.specs.declared.refusal.InputRefusal.TheVariants as refusal
 use Rattle.transcript_model.specs.declared.entry.Call.{Call}
-use Rattle.plan_reader.specs.Lines.{lines_of}
+use Rattle.plan_reader.specs.Lines.{text_lines}
 use Rattle.plan_reader.specs.Steps.{said_by}
 use Rattle.plan_reader.specs.declared.fault.LineFault.{LineFault}
 use Rattle.plan_reader.specs.declared.fault.LineFault.TheVariants.{Wrong, Memory}
@@ -27,8 +27,8 @@ said_then place (Ok (Some call)) more = behind_calls (call ∷ []) more
 said_then place (Err kind) more = Err (record { kind = kind; place = place })
 
 -- behind these steps the line says what makes them those
-abbrev pub Adds : List Call → List ℕ → List Call → Type 0
-Adds calls line more_calls =
+abbrev pub AddsStep : List Call → List ℕ → List Call → Type 0
+AddsStep calls line more_calls =
     (place : ℕ) (more : Result (List Call) WrongLine)
     → behind_calls calls (said_then place (said_by line) more) ≡ behind_calls more_calls more
 
@@ -40,7 +40,7 @@ steps_of place (line ∷ lines) =
 
 -- the steps that the text spells, or its first line that is none
 unfoldable pub plan_of : List ℕ → Result (List Call) WrongLine
-plan_of text = steps_of 0 (lines_of text)
+plan_of text = steps_of 0 (text_lines text)
 
 -- the text is these steps
 abbrev pub SpellsPlan : List ℕ → List Call → Type 0

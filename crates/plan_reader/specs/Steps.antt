@@ -15,14 +15,14 @@ use Rattle.plan_reader.specs.declared.fault.LineFault.TheVariants.{Wrong, Memory
 -- ---- answers
 
 -- What failed so fails by the definition too. Want of memory says nothing.
-abbrev pub Fails : {Y : Type 0} → LineFault → Result Y FaultKind → Type 0
-Fails (Wrong kind) read = read ≡ Err kind
-Fails Memory read = ⊤
+abbrev pub LineFails : {Y : Type 0} → LineFault → Result Y FaultKind → Type 0
+LineFails (Wrong kind) read = read ≡ Err kind
+LineFails Memory read = ⊤
 
 -- what was answered is what the definition gives
-abbrev pub Gives : {X Y : Type 0} → (X → Y) → Result X LineFault → Result Y FaultKind → Type 0
-Gives view (Ok x) read = read ≡ Ok (view x)
-Gives view (Err fault) read = Fails fault read
+abbrev pub LineGives : {X Y : Type 0} → (X → Y) → Result X LineFault → Result Y FaultKind → Type 0
+LineGives view (Ok x) read = read ≡ Ok (view x)
+LineGives view (Err fault) read = LineFails fault read
 
 -- ---- steps
 
@@ -52,34 +52,34 @@ call_with name (Ok args) = Ok (record { name = name; args = args })
 call_with name (Err kind) = Err kind
 
 -- the step in a list: the name of an action, and those of objects
-abbrev pub call_in : List ℕ → Trees → Result Call FaultKind
-call_in bytes (word name place rest) = call_with name (words_in bytes rest)
-call_in bytes nothing = Err (Input input.Shape)
-call_in bytes (list items place rest) = Err (Input input.Shape)
+abbrev pub step_in : List ℕ → Trees → Result Call FaultKind
+step_in bytes (word name place rest) = call_with name (words_in bytes rest)
+step_in bytes nothing = Err (Input input.Shape)
+step_in bytes (list items place rest) = Err (Input input.Shape)
 
 -- the step that a tree is
-abbrev pub call_of : List ℕ → Trees → Result Call FaultKind
-call_of bytes (list items place rest) = call_in bytes items
-call_of bytes nothing = Err (Input input.Shape)
-call_of bytes (word text place rest) = Err (Input input.Shape)
+abbrev pub step_of_tree : List ℕ → Trees → Result Call FaultKind
+step_of_tree bytes (list items place rest) = step_in bytes items
+step_of_tree bytes nothing = Err (Input input.Shape)
+step_of_tree bytes (word text place rest) = Err (Input input.Shape)
 
 -- the kind of a fault; no bytes are refused for the last
-abbrev pub kind_of : TextFault → FaultKind
-kind_of (text.BadByte place) = BadByte
-kind_of (text.Unclosed place) = Unclosed
-kind_of (text.Extra place) = Extra
-kind_of (text.TooDeep place) = TooDeep
-kind_of text.Memory = Input input.Shape
+abbrev pub kind_of_text : TextFault → FaultKind
+kind_of_text (text.BadByte place) = BadByte
+kind_of_text (text.Unclosed place) = Unclosed
+kind_of_text (text.Extra place) = Extra
+kind_of_text (text.TooDeep place) = TooDeep
+kind_of_text text.Memory = Input input.Shape
 
 -- a line whose step has this fault is told so
 abbrev pub IsFaultFor : TextFault → LineFault → Type 0
 IsFaultFor text.Memory fault = fault ≡ Memory
-IsFaultFor why fault = fault ≡ Wrong (kind_of why)
+IsFaultFor why fault = fault ≡ Wrong (kind_of_text why)
 
 -- the step that was read as a tree
 abbrev pub call_read : List ℕ → Result Trees TextFault → Result Call FaultKind
-call_read bytes (Ok tree) = call_of bytes tree
-call_read bytes (Err fault) = Err (kind_of fault)
+call_read bytes (Ok tree) = step_of_tree bytes tree
+call_read bytes (Err fault) = Err (kind_of_text fault)
 
 -- the step that the bytes spell, or the kind of their fault
 abbrev pub call_spelled : List ℕ → Result Call FaultKind

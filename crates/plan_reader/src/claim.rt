@@ -66,7 +66,7 @@ fn claim_behind(bytes: &[u8]) -> Option<u64>
 
 /// What a line claims that is a comment.
 fn claim_of(line: &[u8]) -> Option<u64>
-    ensures { result ≡ specs.claim_of line.now }
+    ensures { result ≡ specs.claimed_by_line line.now }
 {
     let comment = behind_word(behind_blanks(line), b";")?;
     claim_behind(comment)

@@ -37,7 +37,7 @@ pub(crate) struct Cut<'a> {
 
 /// The first line of a text.
 pub(crate) fn cut_line(text: &[u8]) -> Cut<'_>
-    ensures { specs.IsFirstLine text.now result.line.now result.rest }
+    ensures { specs.IsFirstTextLine text.now result.line.now result.rest }
 {
     match place_of(text, b'\n') {
         Some(end) => Cut {

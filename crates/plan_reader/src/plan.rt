@@ -1,8 +1,8 @@
 //! Plans, from bytes.
 ghost use Rattle.std.specs.Prelude.{◌≡◌, ◌+◌, ◌≤◌, length, IfOk, IfErr, OnOk};
 ghost use Rattle.task_reader.specs.Refusals.{Refuses};
-ghost use Rattle.plan_reader.specs.Plans.{Adds, RefusesPlan, SpellsPlan, refusal_at};
-ghost use Rattle.plan_reader.specs.Steps.{Fails, said_by};
+ghost use Rattle.plan_reader.specs.Plans.{AddsStep, RefusesPlan, SpellsPlan, refusal_at};
+ghost use Rattle.plan_reader.specs.Steps.{LineFails, said_by};
 
 use crate::fault::LineFault;
 use crate::line::{Cut, cut_line};
@@ -27,9 +27,9 @@ fn refused(fault: LineFault, place: usize) -> InputRefusal
 /// Puts the step behind the others that the line says, if it says one. For want of memory the steps
 /// may be as they were.
 fn add_said(alloc: Global, calls: &mut Vec<Call>, line: &[u8]) -> Result<(), LineFault>
-    ensures added { OnOk result (Adds calls.old.items line.now calls.new.items) }
+    ensures added { OnOk result (AddsStep calls.old.items line.now calls.new.items) }
     ensures few { length calls.new.items ≤ length calls.old.items + 1 }
-    ensures wrong { IfErr result (λ fault. Fails fault (said_by line.now)) }
+    ensures wrong { IfErr result (λ fault. LineFails fault (said_by line.now)) }
 {
     if let Some(call) = said_by(alloc, line)? {
         calls.push(call)?;

@@ -2,7 +2,7 @@
 ghost use Rattle.std.specs.Prelude.{◌≡◌, drop, take};
 ghost use Rattle.sexpr_text.specs.Trees.{tree, trees};
 ghost use Rattle.plan_reader.specs.Steps as specs;
-ghost use Rattle.plan_reader.specs.Steps.{Fails, Gives};
+ghost use Rattle.plan_reader.specs.Steps.{LineFails, LineGives};
 
 use crate::fault::LineFault;
 use crate::line::{behind, first_bytes, is_idle, step_bytes};
@@ -38,7 +38,7 @@ fn word_as<'a>(bytes: &'a [u8], text: &'a [u8], place: usize) -> &'a [u8]
 
 /// The words of a row of nothing else, in these bytes.
 fn words_in(alloc: Global, bytes: &[u8], items: &[Tree]) -> Result<Vec<Name>, LineFault>
-    ensures { Gives (λ words. words.items) result (specs.words_in bytes.now (trees items.now)) }
+    ensures { LineGives (λ words. words.items) result (specs.words_in bytes.now (trees items.now)) }
 {
     let mut words = Vec::new(alloc);
     let mut left = items;
@@ -56,7 +56,7 @@ fn words_in(alloc: Global, bytes: &[u8], items: &[Tree]) -> Result<Vec<Name>, Li
 
 /// The step in a list: the name of an action, and those of objects.
 fn call_in(alloc: Global, bytes: &[u8], items: &[Tree]) -> Result<Call, LineFault>
-    ensures { Gives (λ call. call) result (specs.call_in bytes.now (trees items.now)) }
+    ensures { LineGives (λ call. call) result (specs.step_in bytes.now (trees items.now)) }
 {
     let Front::Word { text, rest, .. } = front_of(items) else {
         return Err(MISSHAPED);
@@ -71,7 +71,7 @@ fn call_in(alloc: Global, bytes: &[u8], items: &[Tree]) -> Result<Call, LineFaul
 
 /// The step that a tree is.
 fn call_of(alloc: Global, bytes: &[u8], whole: &Tree) -> Result<Call, LineFault>
-    ensures { Gives (λ call. call) result (specs.call_of bytes.now (tree whole.now)) }
+    ensures { LineGives (λ call. call) result (specs.step_of_tree bytes.now (tree whole.now)) }
 {
     match alone(whole) {
         Front::List { items, .. } => call_in(alloc, bytes, items),
@@ -94,7 +94,7 @@ fn line_fault(fault: TextFault) -> LineFault
 
 /// The step that the bytes spell.
 fn call_spelled(alloc: Global, bytes: &[u8]) -> Result<Call, LineFault>
-    ensures { Gives (λ call. call) result (specs.call_spelled bytes.now) }
+    ensures { LineGives (λ call. call) result (specs.call_spelled bytes.now) }
 {
     match read_tree(alloc, bytes) {
         Ok(tree) => call_of(alloc, bytes, &tree),
@@ -104,7 +104,7 @@ fn call_spelled(alloc: Global, bytes: &[u8]) -> Result<Call, LineFault>
 
 /// What a line says: nothing, or a step.
 pub(crate) fn said_by(alloc: Global, line: &[u8]) -> Result<Option<Call>, LineFault>
-    ensures { Gives (λ said. said) result (specs.said_by line.now) }
+    ensures { LineGives (λ said. said) result (specs.said_by line.now) }
 {
     if is_idle(line) {
         return Ok(None);

@@ -11,7 +11,7 @@ use Rattle.lemmas.proofs.ListTests.{all_at, any_found}
 use Rattle.lemmas.proofs.Members.{get_append, member_at, place_of}
 use Rattle.play_laws.proofs.FoundLemmas.{any_from, any_mapped, atom_is, atom_itself, is_there, meets_swap}
 use Rattle.play_laws.specs.GridTasks.{grid_domain, grid_streams}
-use Rattle.play_laws.specs.Problems.{all_apart, are_apart, are_home, block_tells, fact_tells, first_is, sorts_in, is_at_of, is_block, is_declared, is_small, tells_grid}
+use Rattle.play_laws.specs.Problems.{all_apart, are_blocks_apart, are_home, block_tells, fact_tells, first_is, sorts_in, is_at_of, is_block, is_declared, is_small, tells_grid}
 use Rattle.std.proofs.Common.{◌≡◌, ◌≢◌, ℕ, zero, suc, ◌+◌, ◌<◌, ◌≤◌, ◌⊎◌, inl, inr, Bool, true, false, not, ◌&&◌, ◌||◌, ◌==◌, cond, nat_lt, nat_le, List, [], ◌∷◌, ◌++◌, codes, filter, length, refl, sym, subst, ap, ◌∙◌, arith, Option, Some, None, Contains, slice_get, option_map, unwrap_or}
 use Rattle.std.proofs.lemmas.Bool.{cases_order, eqb-true, leb-true}
 use Rattle.std.proofs.lemmas.List.Elements.{Contains-append_left, Contains-append_right}
@@ -132,18 +132,18 @@ module _ (problem : Problem) (grid : GridFile) (tells : tells_grid (made problem
       )
 
   apart_at : (xs : List Block) → all_apart xs ≡ true → (i j : ℕ) (a b : Block) → i < j → slice_get xs i ≡ Some a
-      → slice_get xs j ≡ Some b → are_apart a b ≡ true
+      → slice_get xs j ≡ Some b → are_blocks_apart a b ≡ true
   apart_at [] e i j a b lt here there = absurd (cc)
   apart_at (x ∷ xs) e zero zero a b lt here there = absurd (omega (arith, lt))
   apart_at (x ∷ xs) e zero (suc j) a b lt here there =
       let same : x ≡ a = cc in
-      subst (λ (z : Block). are_apart z b ≡ true) same
-      (all_at (are_apart x) xs j b (first_so (list_all (are_apart x) xs) (all_apart xs) e) there)
+      subst (λ (z : Block). are_blocks_apart z b ≡ true) same
+      (all_at (are_blocks_apart x) xs j b (first_so (list_all (are_blocks_apart x) xs) (all_apart xs) e) there)
   apart_at (x ∷ xs) e (suc i) zero a b lt here there = absurd (omega (arith, lt))
   apart_at (x ∷ xs) e (suc i) (suc j) a b lt here there =
-      apart_at xs (second_so (list_all (are_apart x) xs) (all_apart xs) e) i j a b (omega (arith, lt)) here there
+      apart_at xs (second_so (list_all (are_blocks_apart x) xs) (all_apart xs) e) i j a b (omega (arith, lt)) here there
 
-  other_name : (a b : Block) → are_apart a b ≡ true → a.name ≢ b.name
+  other_name : (a b : Block) → are_blocks_apart a b ≡ true → a.name ≢ b.name
   other_name a b e same =
       let apart = first_so (not (bytes_eq a.name b.name)) (not (meets (rect_at a (home_corner a)) (rect_at b (home_corner b)))) e in
       let equal = (bytes_eq-Decides a.name b.name).1 same in
@@ -161,7 +161,7 @@ module _ (problem : Problem) (grid : GridFile) (tells : tells_grid (made problem
         ]
       ]
 
-  no_meeting : (a b : Block) → are_apart a b ≡ true
+  no_meeting : (a b : Block) → are_blocks_apart a b ≡ true
       → meets (rect_at a (home_corner a)) (rect_at b (home_corner b)) ≡ false
   no_meeting a b e =
       (and_not_parts (not (bytes_eq a.name b.name)) (meets (rect_at a (home_corner a)) (rect_at b (home_corner b))) e).1

@@ -1,7 +1,7 @@
 -- A plan whose state and world keep saying the same has no fault.
 use Rattle.std.proofs.Common.{◌≡◌, ℕ, zero, suc, ◌+◌, ◌<◌, inl, inr, true, List, [], ◌∷◌, length, map, refl, take, sym, subst, ap, ◌∙◌, arith, Option, Some, None, slice_get}
 use Rattle.std.specs.Option.{option_and_then}
-use Rattle.grid_play.specs.Faults.{HasFault, IsPlayVerdict, share}
+use Rattle.grid_play.specs.Faults.{HasPlayFault, IsPlayVerdict, share}
 use Rattle.grid_play.specs.Worlds.{World, home_world, step_world, world_after}
 use Rattle.grid_play.specs.declared.play.PlayVerdict.{PlayVerdict}
 use Rattle.grid_play.specs.declared.play.PlayVerdict.TheVariants.{Safe, Strange, Outside, Obstacle, Clash}
@@ -68,7 +68,7 @@ some_none : {A : Type 0} (o : Option A) (x : A) → o ≡ Some x → o ≡ None 
 some_none o x some none = absurd (cc)
 
 no_fault : (grid : GridFile) (calls : List Call) → Fine grid (home_world grid) calls → (v : PlayVerdict)
-    → ¬ (HasFault grid calls v)
+    → ¬ (HasPlayFault grid calls v)
 no_fault grid calls fine Safe has = has
 no_fault grid calls fine (Strange i) has =
     let here = fine_at grid calls (home_world grid) fine has.2.place has.0 has.1 has.2.is has.2.before in
@@ -107,7 +107,7 @@ module _ (problem : Problem) (grid : GridFile) (entries : List Entry) (tells : t
   safe_made : (steps : List GroundAction) (end : Atoms) (cost : ℕ)
       → Executes (made problem) (known_of (made problem) entries) (initial_state (made problem)) steps end cost
       → (v : PlayVerdict)
-      → ¬ (HasFault grid (map (call_of_step (made problem) (names_of (made problem) entries)) steps) v)
+      → ¬ (HasPlayFault grid (map (call_of_step (made problem) (names_of (made problem) entries)) steps) v)
   safe_made steps end cost run =
       no_fault grid (map (call_of_step (made problem) (names_of (made problem) entries)) steps)
       (fine_run steps (initial_state (made problem)) end cost (home_world grid)
@@ -118,7 +118,7 @@ IsSafeOf task =
     (version : ℕ) (grid : GridFile) (entries : List Entry) (steps : List GroundAction) (end : Atoms) (cost : ℕ)
     → IsFit task → tells_grid task grid ≡ true → IsLegal version task entries → AreTrueYields grid entries
     → Executes task (known_of task entries) (initial_state task) steps end cost
-    → (v : PlayVerdict) → ¬ (HasFault grid (map (call_of_step task (names_of task entries)) steps) v)
+    → (v : PlayVerdict) → ¬ (HasPlayFault grid (map (call_of_step task (names_of task entries)) steps) v)
 
 pub true_plans_are_safe : TruePlansAreSafe
 true_plans_are_safe version task grid entries steps end cost fit is legal yielded run =
@@ -132,7 +132,7 @@ true_plans_are_safe version task grid entries steps end cost fit is legal yielde
 
 -- where there is no fault, what is told is that
 safe_told : (grid : GridFile) (calls : List Call) (v : PlayVerdict) → IsPlayVerdict grid calls v
-    → ((w : PlayVerdict) → ¬ (HasFault grid calls w)) → v ≡ Safe
+    → ((w : PlayVerdict) → ¬ (HasPlayFault grid calls w)) → v ≡ Safe
 safe_told grid calls Safe told none = refl
 safe_told grid calls (Strange i) told none = absurd (none (Strange i) told.has)
 safe_told grid calls (Outside i name) told none = absurd (none (Outside i name) told.has)
@@ -143,4 +143,4 @@ pub true_reports_play_safely : TrueReportsPlaySafely
 true_reports_play_safely version task grid entries calls cost from play fit is legal yielded plan played =
     safe_told grid calls play.verdict played.verdict (λ w fault.
     true_plans_are_safe version task grid entries plan.steps plan.valid.0 cost fit is legal yielded plan.valid.1 w
-    (subst (λ cs. HasFault grid cs w) plan.shown fault))
+    (subst (λ cs. HasPlayFault grid cs w) plan.shown fault))

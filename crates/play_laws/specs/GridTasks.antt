@@ -179,17 +179,17 @@ grid_task_of n =
 
 -- ---- grids
 
-abbrev pub block_of : ℕ → Block
-block_of i = record { name = codes "b" ++ decimal i; w = 1; h = 1; x = 2 * i - 2; y = 1 }
+abbrev pub made_block : ℕ → Block
+made_block i = record { name = codes "b" ++ decimal i; w = 1; h = 1; x = 2 * i - 2; y = 1 }
 
-abbrev pub region_of : ℕ → NamedRect
-region_of i = record {
+abbrev pub made_region : ℕ → NamedRect
+made_region i = record {
   name = codes "r" ++ decimal i;
   rect = record { x = 2 * i - 2; y = 4; w = 2; h = 1 };
 }
 
-abbrev pub obstacle_of : ℕ → Rect
-obstacle_of i = record { x = 2 * i - 2; y = 4; w = 1; h = 1 }
+abbrev pub made_obstacle : ℕ → Rect
+made_obstacle i = record { x = 2 * i - 2; y = 4; w = 1; h = 1 }
 
 -- the grid of a number: blocks one cell below the top, two cells apart, and regions of two cells three cells further
 -- down, with an obstacle on the first of the two
@@ -197,7 +197,7 @@ abbrev pub grid_file_of : ℕ → GridFile
 grid_file_of n = record {
   width = 2 * n;
   height = 6;
-  blocks = map block_of (numbers_from 1 n);
-  regions = map region_of (numbers_from 1 n);
-  obstacles = map obstacle_of (numbers_from 1 n);
+  blocks = map made_block (numbers_from 1 n);
+  regions = map made_region (numbers_from 1 n);
+  obstacles = map made_obstacle (numbers_from 1 n);
 }

@@ -1,7 +1,7 @@
 -- Laws of plans that are acted out on the grid. Each is the contract of a public function of `laws.rt`, and so is
 -- proved.
 use Rattle.std.specs.Prelude.{◌≡◌, ℕ, ◌≤◌, List, map}
-use Rattle.grid_play.specs.Faults.{HasFault, IsPlayed}
+use Rattle.grid_play.specs.Faults.{HasPlayFault, IsActedOut}
 use Rattle.grid_play.specs.declared.play.Play.{Play}
 use Rattle.grid_play.specs.declared.play.PlayVerdict.{PlayVerdict}
 use Rattle.grid_play.specs.declared.play.PlayVerdict.TheVariants.{Safe}
@@ -29,14 +29,14 @@ TruePlansAreSafe =
     (version : ℕ) (task : Task) (grid : GridFile) (entries : List Entry) (steps : List GroundAction) (end : Atoms)
     (cost : ℕ) → IsFit task → IsGridProblem task grid → IsLegal version task entries → AreTrueYields grid entries
     → Executes task (known_of task entries) (initial_state task) steps end cost
-    → (v : PlayVerdict) → ¬ (HasFault grid (map (call_of_step task (names_of task entries)) steps) v)
+    → (v : PlayVerdict) → ¬ (HasPlayFault grid (map (call_of_step task (names_of task entries)) steps) v)
 
 -- So the plan of a valid report, with the grid's own answers on such a problem, is acted out safely.
 abbrev pub TrueReportsPlaySafely : Type 0
 TrueReportsPlaySafely =
     (version : ℕ) (task : Task) (grid : GridFile) (entries : List Entry) (calls : List Call) (cost : ℕ)
     (from : List Origin) (play : Play) → IsFit task → IsGridProblem task grid → IsLegal version task entries
-    → AreTrueYields grid entries → IsTruePlan version task entries calls cost from → IsPlayed grid calls play
+    → AreTrueYields grid entries → IsTruePlan version task entries calls cost from → IsActedOut grid calls play
     → play.verdict ≡ Safe
 
 -- The tasks that are made for numbers are such problems of their grids.

@@ -66,13 +66,13 @@ block_tells task grid block =
     list_any (is_at_of task block) task.problem.init && not (is_blocked grid (rect_at block (home_corner block)))
 
 -- two blocks have other names, and share no cell at first
-abbrev pub are_apart : Block → Block → Bool
-are_apart a b =
+abbrev pub are_blocks_apart : Block → Block → Bool
+are_blocks_apart a b =
     not (bytes_eq a.name b.name) && not (meets (rect_at a (home_corner a)) (rect_at b (home_corner b)))
 
 abbrev pub all_apart : List Block → Bool
 all_apart [] = true
-all_apart (block ∷ blocks) = list_all (are_apart block) blocks && all_apart blocks
+all_apart (block ∷ blocks) = list_all (are_blocks_apart block) blocks && all_apart blocks
 
 -- ---- true problems
 

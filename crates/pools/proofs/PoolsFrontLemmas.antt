@@ -2,7 +2,7 @@
 use Rattle.std.proofs.Common.{◌≡◌, ℕ, zero, suc, ◌+◌, ◌<◌, true, false, List, [], ◌∷◌, ◌++◌, length, take, drop, sym, ap, subst, ◌∙◌, arith, append_assoc, add-one}
 use Rattle.std.proofs.lemmas.Bool.{true≢false}
 use Rattle.std.proofs.lemmas.List.{append-nil, length-map, take-map}
-use Rattle.instance_queue.specs.Level.{instances_of}
+use Rattle.instance_queue.specs.Level.{due_instances}
 use Rattle.instance_queue.specs.declared.due.Due.{Due}
 use Rattle.task_model.specs.declared.stream.Instance.{Instance}
 use Rattle.transcript_model.specs.Rounds.{IsFull, Share, fits}
@@ -31,16 +31,16 @@ some_front pools (i ∷ is) (suc k) stuck workers lt = omega arith
 
 -- a front that fits, where with the next one it doesn't
 pub longest : (pools : List Share) (dues : List Due) (count : ℕ) → count < length dues
-    → fits pools (instances_of (take count dues)) ≡ true → fits pools (instances_of (take (count + 1) dues)) ≡ false
-    → IsLongestFront pools (instances_of dues) count
+    → fits pools (due_instances (take count dues)) ≡ true → fits pools (due_instances (take (count + 1) dues)) ≡ false
+    → IsLongestFront pools (due_instances dues) count
 longest pools dues count lt fit stuck =
     let name = λ (d : Due). d.instance in
-    let more : fits pools (take (suc count) (instances_of dues)) ≡ false =
-    ap (λ n. fits pools (take n (instances_of dues))) (sym (add-one count)) ∙ ap (fits pools) (take-map name (count + 1) dues)
+    let more : fits pools (take (suc count) (due_instances dues)) ≡ false =
+    ap (λ n. fits pools (take n (due_instances dues))) (sym (add-one count)) ∙ ap (fits pools) (take-map name (count + 1) dues)
     ∙ stuck in
     record {
       within = omega (arith, lt, length-map dues (λ (d : Due). d.instance));
       fit = ap (fits pools) (take-map name count dues) ∙ fit;
-      full = full_from pools [] (instances_of dues) count (λ within. more);
-      some = some_front pools (instances_of dues) count more;
+      full = full_from pools [] (due_instances dues) count (λ within. more);
+      some = some_front pools (due_instances dues) count more;
     }

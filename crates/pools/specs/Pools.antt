@@ -20,11 +20,11 @@ abbrev pub workers_of : pools.Pool → Workers
 workers_of pool = record { first = pool.first; workers = pool.workers; streams = pool.streams }
 
 -- so many workers for these streams
-abbrev pub share_of : Workers → Share
-share_of pool = record { workers = pool.workers; streams = pool.streams }
+abbrev pub share_of_workers : Workers → Share
+share_of_workers pool = record { workers = pool.workers; streams = pool.streams }
 
 abbrev pub shares_of : List Workers → List Share
-shares_of = map share_of
+shares_of = map share_of_workers
 
 -- ---- which child is asked
 
@@ -38,8 +38,8 @@ server [] stream = None
 server (pool ∷ pools) stream = if has_stream pool stream then Some pool else server pools stream
 
 -- the streams of these asks
-abbrev pub streams_of : List Due → List ℕ
-streams_of = map (λ (d : Due). d.instance.stream)
+abbrev pub asked_streams : List Due → List ℕ
+asked_streams = map (λ (d : Due). d.instance.stream)
 
 -- the child for an ask of this stream, after asks of these in the same round
 abbrev pub child_for : List Workers → List ℕ → ℕ → ℕ

@@ -1,6 +1,6 @@
 //! How many asks make a round.
 ghost use Rattle.std.specs.Prelude.{◌≡◌};
-ghost use Rattle.instance_queue.specs.Level.{instances_of};
+ghost use Rattle.instance_queue.specs.Level.{due_instances};
 ghost use Rattle.pools.specs.Pools.{IsLongestFront, shares_of};
 ghost use Rattle.transcript_model.specs.Rounds.{fits as fits_all};
 
@@ -9,7 +9,7 @@ use instance_queue::Due;
 
 /// Whether no pool has more of these asks than workers.
 fn fits(pools: &[Workers], dues: &[Due]) -> bool
-    ensures { result ≡ fits_all (shares_of pools.now) (instances_of dues.now) }
+    ensures { result ≡ fits_all (shares_of pools.now) (due_instances dues.now) }
 {
     for pool in pools {
         if pool.served(dues) > pool.count() as usize {
@@ -23,7 +23,7 @@ fn fits(pools: &[Workers], dues: &[Due]) -> bool
 /// has more of them than workers. Where each pool has a worker and there is an ask, there is one at
 /// least.
 pub fn longest_front(pools: &[Workers], dues: &[Due]) -> usize
-    ensures { IsLongestFront (shares_of pools.now) (instances_of dues.now) result }
+    ensures { IsLongestFront (shares_of pools.now) (due_instances dues.now) result }
 {
     for count in 0..dues.len() {
         if !fits(pools, &dues[..count + 1]) {

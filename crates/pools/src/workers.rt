@@ -1,9 +1,9 @@
 //! The workers of pools, and which of their children is asked.
 ghost use Rattle.std.specs.Prelude.{◌≡◌, ◌≤◌, ◌==◌, ℕ, List, [], ◌∷◌, ◌++◌, IfOk, length, option_copied, count_by, map};
 ghost use Rattle.std.specs.List.{list_any};
-ghost use Rattle.instance_queue.specs.Level.{instances_of};
+ghost use Rattle.instance_queue.specs.Level.{due_instances};
 ghost use Rattle.pools.specs.Served.{AreStreamsMarked};
-ghost use Rattle.pools.specs.Pools.{workers_of, server as server_of, child_for, streams_of};
+ghost use Rattle.pools.specs.Pools.{workers_of, server as server_of, child_for, asked_streams};
 
 use instance_queue::Due;
 use std::alloc::{AllocError, Global};
@@ -33,7 +33,7 @@ impl Model for Workers {
 }
 
 impl Workers {
-    ghost use Rattle.pools.specs.Pools.{has_stream, share_of};
+    ghost use Rattle.pools.specs.Pools.{has_stream, share_of_workers};
     ghost use Rattle.transcript_model.specs.Rounds.{serves as serves_instance};
 
     /// A pool: the number of its first child, how many workers it has, 1 to 16, which have the
@@ -77,8 +77,8 @@ impl Workers {
 
     /// How many of these asks the pool answers.
     pub(crate) fn served(&self, dues: &[Due]) -> usize
-        ensures count { result ≡ count_by (serves_instance (share_of self.now))
-            (instances_of dues.now) }
+        ensures count { result ≡ count_by (serves_instance (share_of_workers self.now))
+            (due_instances dues.now) }
         ensures few { result ≤ length dues.now }
     {
         dues.iter()
@@ -145,8 +145,8 @@ fn server(pools: &[Workers], stream: u32) -> Option<&Workers>
 /// round: of the pool that answers for the stream, the first child that has none of them. It is 0
 /// where no pool does.
 pub fn child_of(pools: &[Workers], before: &[Due], stream: u32) -> u8
-    requires { child_for pools.now (streams_of before.now) stream ≤ 16 }
-    ensures { result ≡ child_for pools.now (streams_of before.now) stream }
+    requires { child_for pools.now (asked_streams before.now) stream ≤ 16 }
+    ensures { result ≡ child_for pools.now (asked_streams before.now) stream }
 {
     match server(pools, stream) {
         Some(pool) => pool.first + pool.served(before) as u8,

@@ -13,7 +13,7 @@ use Rattle.pddlstream_app.specs.Works.{Work, command_for, files_of, making, solv
 use Rattle.table_runs.specs.Asking.{SpeaksBy}
 use Rattle.task_model.specs.declared.task.Task.{Task}
 use Rattle.task_reader.proofs.SpelledLemmas.{one_task}
-use Rattle.task_reader.specs.Tasks.{Spells}
+use Rattle.task_reader.specs.Tasks.{SpellsTask}
 use Rattle.transcript_model.specs.Legal.{asks_of}
 use Rattle.transcript_model.specs.Tables.{IsBounded}
 use Rattle.transcript_model.specs.declared.head.Mode.TheVariants.{Incremental}
@@ -70,9 +70,9 @@ module _ (task : Task) (of : IsTaskOf (Some cup_files) cup_asked.files task) whe
   only_task : task ≡ fetch
   only_task =
       one_task fetch_domain_text fetch_problem_text fetch_streams_text task fetch
-      (subst (λ d. Spells d fetch_problem_text fetch_streams_text task) domain_is
-      (subst (λ p. Spells of.domain p fetch_streams_text task) problem_is
-      (subst (λ s. Spells of.domain of.problem s task) streams_is of.spelled)))
+      (subst (λ d. SpellsTask d fetch_problem_text fetch_streams_text task) domain_is
+      (subst (λ p. SpellsTask of.domain p fetch_streams_text task) problem_is
+      (subst (λ s. SpellsTask of.domain of.problem s task) streams_is of.spelled)))
       first_task_spelled
 
 abbrev CupRun : Type 0

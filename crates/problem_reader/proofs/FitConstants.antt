@@ -15,7 +15,7 @@ use Rattle.form_reader.specs.Rows.{groups_faults, head_of, tail_of}
 use Rattle.form_reader.specs.Texts.{form_faults}
 use Rattle.name_tables.specs.Declarations.{Typed, declare, declare_each, declared_by, declared_list, put_number, no_typed}
 use Rattle.name_tables.specs.Graphs.{ascending_with}
-use Rattle.name_tables.specs.Names.{place_of}
+use Rattle.name_tables.specs.Names.{table_place}
 use Rattle.name_tables.specs.Variables.{named_sorts, named_words}
 use Rattle.name_tables.proofs.TextsLemmas.{body_less}
 use Rattle.name_tables.proofs.TitleLemmas.{titled}
@@ -65,7 +65,7 @@ some_each : (t : Typed) (ns : List (List ℕ)) (ss : List ℕ) → AllSome t.sor
 some_each t [] ss s = s
 some_each t (n ∷ ns) [] s = s
 some_each t (n ∷ ns) (k ∷ ks) s =
-    some_each (declare t n k) ns ks (some_declared t n k (place_of n t.names) s)
+    some_each (declare t n k) ns ks (some_declared t n k (table_place n t.names) s)
 
 abbrev declared_here : List (List ℕ) → Typed → Trees → Typed
 declared_here sorts t rest =

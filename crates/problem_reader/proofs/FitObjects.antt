@@ -17,7 +17,7 @@ use Rattle.form_reader.specs.declared.words.WordSort.TheVariants.{Name}
 use Rattle.form_reader.specs.Items.{body_faults, item_faults, item_of, items_faults}
 use Rattle.form_reader.specs.Rows.{groups_faults, head_of, tail_of}
 use Rattle.name_tables.specs.Declarations.{Typed, declare, declare_each, declared_list, no_typed}
-use Rattle.name_tables.specs.Names.{has_name, with_name}
+use Rattle.name_tables.specs.Names.{has_name, with_table_name}
 use Rattle.name_tables.specs.Variables.{named_sorts, named_words, seen_after, types_names}
 use Rattle.name_tables.specs.Vocabulary.{put_constants}
 use Rattle.name_tables.specs.declared.vocabulary.Vocabulary.{Vocabulary}
@@ -47,7 +47,7 @@ again t n (s ∷ ss) e =
     again (declare t n s) n ss (ap (has_name n) same ∙ e) ∙ same
 
 once_named : (t : Typed) (n : List ℕ) (ss : List ℕ) → 0 < length ss
-    → (declare_all t n ss).names ≡ with_name t.names n
+    → (declare_all t n ss).names ≡ with_table_name t.names n
 once_named t n [] h = absurd (omega arith)
 once_named t n (s ∷ ss) h =
     again (declare t n s) n ss (ap (has_name n) (names_declared t n s) ∙ has_with t.names n)

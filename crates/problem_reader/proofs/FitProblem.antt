@@ -13,7 +13,7 @@ use Rattle.form_reader.specs.declared.fault.InputFault.{InputFault}
 use Rattle.form_reader.specs.declared.items.TextKind.TheVariants as text
 use Rattle.form_reader.specs.Items.{items_faults}
 use Rattle.form_reader.specs.Texts.{form_faults}
-use Rattle.name_tables.specs.Sizes.{IsBounded}
+use Rattle.name_tables.specs.Sizes.{IsBoundedTree}
 use Rattle.name_tables.proofs.TextsLemmas.{body_less, body_shallow}
 use Rattle.name_tables.specs.declared.vocabulary.Vocabulary.{Vocabulary}
 use Rattle.name_tables.proofs.OneTreeLemmas.{tree_there}
@@ -48,7 +48,7 @@ formed (list items at rest) some e =
 
 -- ---- the problem
 
-module _ (d : Domain) (t : Trees) (over : IsFitRead d) (bounded : IsBounded t) (some : ¬ (t ≡ nothing))
+module _ (d : Domain) (t : Trees) (over : IsFitRead d) (bounded : IsBoundedTree t) (some : ¬ (t ≡ nothing))
     (p : Problem) (read : IsProblemRead d t p) (streams : List Stream) where
   abbrev body : Trees
   body = body_of t
@@ -121,7 +121,7 @@ module _ (d : Domain) (t : Trees) (over : IsFitRead d) (bounded : IsBounded t) (
   }
 
 -- over a fit domain that was read
-pub read_problems_fit : (d : Domain) (t : Trees) (p : Problem) → IsFitRead d → IsBounded t
+pub read_problems_fit : (d : Domain) (t : Trees) (p : Problem) → IsFitRead d → IsBoundedTree t
     → ¬ (t ≡ nothing) → IsProblemRead d t p → IsFitOver d p
 read_problems_fit d t p over bounded some read streams =
     subst (λ (q : Problem). IsFitProblem (record { domain = d; problem = q; streams = streams }))
@@ -130,7 +130,7 @@ read_problems_fit d t p over bounded some read streams =
 -- where it was read
 pub fit_if_read : (d : Domain) (t : Tree) (result : Result Problem InputFault)
     → ProblemReads d (tree t) result
-    → IfOk result (λ p. IsFitRead d → IsBounded (tree t) → IsFitOver d p)
+    → IfOk result (λ p. IsFitRead d → IsBoundedTree (tree t) → IsFitOver d p)
 fit_if_read d t (Ok p) read =
     λ over bounded. read_problems_fit d (tree t) p over bounded (tree_there t) read
 fit_if_read d t (Err fault) read = tt

@@ -15,8 +15,8 @@ use Rattle.name_tables.specs.Terms.{declared_place}
 use Rattle.name_tables.specs.declared.vocabulary.Vocabulary.{Vocabulary}
 use Rattle.name_tables.proofs.VocabularyLemmas.{AreNamesOf}
 use Rattle.problem_reader.specs.Names.{atom_names, fact_names, facts_names, is_worth, worth_names}
-use Rattle.problem_reader.specs.Problems.{spelled_fact, facts_of, places_of, valued_of, valueds_of}
-use Rattle.problem_reader.specs.Values.{Given, row_names, spelled, term_in, value_in, problem_value_names, value_of_term, value_put}
+use Rattle.problem_reader.specs.Problems.{spelled_fact, facts_of, places_in_row, valued_of, valueds_of}
+use Rattle.problem_reader.specs.Values.{Given, row_names, spelled_term, term_in, value_in, problem_value_names, value_of_term, value_put}
 use Rattle.problem_reader.proofs.FitFacts.{fact_fit}
 use Rattle.problem_reader.proofs.FitValues.{IsTerm, term_same, value_good}
 use Rattle.problem_reader.proofs.ValuesLemmas.{IsEven, differs_not, even_put, gets, kept, value_clean}
@@ -104,20 +104,20 @@ module _ (d : Domain) (n : ℕ) (v : Vocabulary) (fit : IsFitDomain d) (named : 
   -- what a later list says of a term whose value was given
   abbrev Agrees : Trees → ℕ → Valued → Type 0
   Agrees t x w =
-      declared_place v.functions (head_of t) ≡ w.func → places_of v.objects (tail_of t) ≡ w.args
+      declared_place v.functions (head_of t) ≡ w.func → places_in_row v.objects (tail_of t) ≡ w.args
       → x ≡ w.value
 
   here_agrees : (g : Given) (place : ℕ) (items t : Trees) (x : ℕ) → IsTerm v t
-      → value_of_term g (spelled t) ≡ Some x → is_worth items ≡ true → fact_faults place items ≡ []
+      → value_of_term g (spelled_term t) ≡ Some x → is_worth items ≡ true → fact_faults place items ≡ []
       → fact_names v d.roles place items ≡ [] → problem_value_names g place items ≡ []
       → Agrees t x (valued_of v items)
   here_agrees g place items t x term given is e f h func args =
       let good = value_good d n v named d.roles place items is e f in
-      let same : spelled t ≡ spelled (term_in items) = term_same v t (term_in items) term good.term func args in
-      differs_not g (spelled (term_in items)) x (value_in items) (ap (value_of_term g) (sym same) ∙ given) (value_clean g place items is h)
+      let same : spelled_term t ≡ spelled_term (term_in items) = term_same v t (term_in items) term good.term func args in
+      differs_not g (spelled_term (term_in items)) x (value_in items) (ap (value_of_term g) (sym same) ∙ given) (value_clean g place items is h)
 
   step_agrees : (b : Bool) (g : Given) (place : ℕ) (items t : Trees) (x : ℕ) (values : List Valued)
-      → IsTerm v t → value_of_term g (spelled t) ≡ Some x → is_worth items ≡ b
+      → IsTerm v t → value_of_term g (spelled_term t) ≡ Some x → is_worth items ≡ b
       → fact_faults place items ≡ [] → fact_names v d.roles place items ≡ []
       → problem_value_names g place items ≡ []
       → ((j : ℕ) (w : Valued) → slice_get values j ≡ Some w → Agrees t x w) → (j : ℕ) (w : Valued)
@@ -130,7 +130,7 @@ module _ (d : Domain) (n : ℕ) (v : Vocabulary) (fit : IsFitDomain d) (named : 
       (func ∙ ap (λ (u : Valued). u.func) (sym same)) (args ∙ ap (λ (u : Valued). u.args) (sym same))
       ∙ ap (λ (u : Valued). u.value) same
 
-  later_agrees : (g : Given) (row t : Trees) (x : ℕ) → IsTerm v t → value_of_term g (spelled t) ≡ Some x
+  later_agrees : (g : Given) (row t : Trees) (x : ℕ) → IsTerm v t → value_of_term g (spelled_term t) ≡ Some x
       → facts_faults row ≡ [] → facts_names v d.roles row ≡ [] → row_names g row ≡ []
       → (j : ℕ) (w : Valued) → slice_get (valueds_of v row) j ≡ Some w → Agrees t x w
   later_agrees g nothing t x term given e f h = λ j w at. absurd (cc)
@@ -140,7 +140,7 @@ module _ (d : Domain) (n : ℕ) (v : Vocabulary) (fit : IsFitDomain d) (named : 
       let names = none_both (fact_names v d.roles place items) (facts_names v d.roles rest) f in
       let values = none_both (problem_value_names g place items) (row_names (value_put g items) rest) h in
       step_agrees (is_worth items) g place items t x (valueds_of v rest) term given refl forms.0 names.0 values.0
-      (later_agrees (value_put g items) rest t x term (kept g items (spelled t) x given) forms.1 names.1 values.1)
+      (later_agrees (value_put g items) rest t x term (kept g items (spelled_term t) x given) forms.1 names.1 values.1)
 
   abbrev HaveOne : List Valued → Type 0
   HaveOne values =

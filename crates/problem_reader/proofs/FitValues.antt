@@ -15,7 +15,7 @@ use Rattle.form_reader.specs.Rows.{application_faults, head_of, row_faults, tail
 use Rattle.task_model.specs.Numbers.{is_number}
 use Rattle.task_model.proofs.NumbersLemmas.{number_few}
 use Rattle.form_reader.specs.Words.{is_of}
-use Rattle.name_tables.specs.Names.{has_name, place_of}
+use Rattle.name_tables.specs.Names.{has_name, table_place}
 use Rattle.name_tables.specs.Terms.{application_names, declared_place, terms_names, use_names, width}
 use Rattle.name_tables.specs.Variables.{unless}
 use Rattle.name_tables.specs.Vocabulary.{arity_of}
@@ -24,8 +24,8 @@ use Rattle.name_tables.proofs.NoFaultLemmas.{chosen, met}
 use Rattle.name_tables.proofs.NamesUseLemmas.{place_holds, usable}
 use Rattle.name_tables.proofs.VocabularyLemmas.{AreNamesOf, used_arity}
 use Rattle.problem_reader.specs.Names.{atom_names, fact_names, is_worth, worth_names}
-use Rattle.problem_reader.specs.Problems.{places_of, valued_of}
-use Rattle.problem_reader.specs.Values.{number_in, spelled, term_in}
+use Rattle.problem_reader.specs.Problems.{places_in_row, valued_of}
+use Rattle.problem_reader.specs.Values.{number_in, spelled_term, term_in}
 use Rattle.problem_reader.proofs.FitFacts.{objects_there}
 
 -- ---- numbers
@@ -45,18 +45,18 @@ pub record IsTerm (v : Vocabulary) (term : Trees) : Type 0 where
   pub there : has_name (head_of term) v.functions.names ≡ true
   pub words : row_faults Name (tail_of term) ≡ []
   pub known : terms_names v.objects [] (tail_of term) ≡ []
-  pub headed : spelled term ≡ head_of term ++ 32 ∷ spelled (tail_of term)
+  pub headed : spelled_term term ≡ head_of term ++ 32 ∷ spelled_term (tail_of term)
 
 -- words at the same places are the same
 same_word : (ns : List (List ℕ)) (a b : List ℕ) → has_name a ns ≡ true → has_name b ns ≡ true
-    → unwrap_or (place_of a ns) 0 ≡ unwrap_or (place_of b ns) 0 → a ≡ b
+    → unwrap_or (table_place a ns) 0 ≡ unwrap_or (table_place b ns) 0 → a ≡ b
 same_word ns a b p q e =
     let one : Some a ≡ Some b = sym (place_holds a ns p) ∙ ap (slice_get ns) e ∙ place_holds b ns q in
     cc
 
 row_same : (objects : List (List ℕ)) (ts us : Trees) → row_faults Name ts ≡ []
     → row_faults Name us ≡ [] → terms_names objects [] ts ≡ [] → terms_names objects [] us ≡ []
-    → places_of objects ts ≡ places_of objects us → spelled ts ≡ spelled us
+    → places_in_row objects ts ≡ places_in_row objects us → spelled_term ts ≡ spelled_term us
 row_same objects (list items at rest) us p q e f same = absurd (cc)
 row_same objects nothing (list items at rest) p q e f same = absurd (cc)
 row_same objects (word a at rest) (list items at' rest') p q e f same = absurd (cc)
@@ -66,8 +66,8 @@ row_same objects (word a at rest) nothing p q e f same = absurd (cc)
 row_same objects (word a at rest) (word b at' rest') p q e f same =
     let first = none_both (unless (has_name a [] || has_name a objects) Unknown at) (terms_names objects [] rest) e in
     let second = none_both (unless (has_name b [] || has_name b objects) Unknown at') (terms_names objects [] rest') f in
-    let heads : unwrap_or (place_of a objects) 0 ≡ unwrap_or (place_of b objects) 0 = cc in
-    let tails : places_of objects rest ≡ places_of objects rest' = cc in
+    let heads : unwrap_or (table_place a objects) 0 ≡ unwrap_or (table_place b objects) 0 = cc in
+    let tails : places_in_row objects rest ≡ places_in_row objects rest' = cc in
     let one : a ≡ b =
     same_word objects a b (met (has_name a objects) Unknown at first.0) (met (has_name b objects) Unknown at' second.0) heads in
     let more = row_same objects rest rest' ((chosen (is_of Name a) (row_faults Name rest) (shape at) [] p).1)
@@ -77,7 +77,7 @@ row_same objects (word a at rest) (word b at' rest') p q e f same =
 -- terms of the same function and objects are written the same
 pub term_same : (v : Vocabulary) (t u : Trees) → IsTerm v t → IsTerm v u
     → declared_place v.functions (head_of t) ≡ declared_place v.functions (head_of u)
-    → places_of v.objects (tail_of t) ≡ places_of v.objects (tail_of u) → spelled t ≡ spelled u
+    → places_in_row v.objects (tail_of t) ≡ places_in_row v.objects (tail_of u) → spelled_term t ≡ spelled_term u
 term_same v t u p q f a =
     let heads = same_word v.functions.names (head_of t) (head_of u) p.there q.there f in
     let tails = row_same v.objects (tail_of t) (tail_of u) p.words q.words p.known q.known a in
@@ -103,7 +103,7 @@ module _ (d : Domain) (n : ℕ) (v : Vocabulary) (named : AreNamesOf d n v) (rol
       let words = (chosen (is_of Name g) (row_faults Name args) (shape at'') [] e).1 in
       let are = objects_there v.objects args words uses.1 in
       let func : ℕ = declared_place v.functions g in
-      let arity : has_arity d.functions func (length (places_of v.objects args)) ≡ true =
+      let arity : has_arity d.functions func (length (places_in_row v.objects args)) ≡ true =
       ap (has_arity d.functions func) are.count ∙ used_arity d.functions v.functions g (width args) named.functions used in
       record {
         term = record { there = used.there; words = words; known = uses.1; headed = refl };

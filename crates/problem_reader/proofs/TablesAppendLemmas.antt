@@ -8,7 +8,7 @@ use Rattle.form_reader.specs.declared.groups.Spot.TheVariants.{Start}
 use Rattle.form_reader.specs.declared.words.WordSort.TheVariants.{Name}
 use Rattle.form_reader.specs.Rows.{groups_faults}
 use Rattle.name_tables.specs.Declarations.{Typed, declare, declare_each}
-use Rattle.name_tables.specs.Names.{has_name, with_name}
+use Rattle.name_tables.specs.Names.{has_name, with_table_name}
 use Rattle.name_tables.specs.Variables.{named_sorts, named_words}
 use Rattle.name_tables.proofs.FitDeclared.{groups_declared}
 use Rattle.name_tables.proofs.VariablesWidthLemmas.{words_length}
@@ -30,7 +30,7 @@ pub begins_twice : (ns ms ks : List (List ℕ)) → BeginsWith ns ms → BeginsW
 begins_twice ns ms ks p q = record
     { more = p.more ++ q.more; split = q.split ∙ ap (λ xs. xs ++ q.more) p.split ∙ append_assoc ns p.more q.more }
 
-pub begins_with : (ns : List (List ℕ)) (n : List ℕ) → BeginsWith ns (with_name ns n)
+pub begins_with : (ns : List (List ℕ)) (n : List ℕ) → BeginsWith ns (with_table_name ns n)
 begins_with ns n =
     cond_both (has_name n ns) ns (ns ++ n ∷ []) (BeginsWith ns) (λ known. begins_itself ns) (λ no. record { more = n ∷ []; split = refl })
 

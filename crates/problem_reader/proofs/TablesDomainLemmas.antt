@@ -11,7 +11,7 @@ use Rattle.form_reader.specs.Items.{item_of}
 use Rattle.form_reader.specs.Rows.{head_of, tail_of}
 use Rattle.name_tables.proofs.FitGroups.{sorts_long}
 use Rattle.name_tables.specs.Declarations.{Typed, declare_each, no_typed}
-use Rattle.name_tables.specs.Names.{with_name}
+use Rattle.name_tables.specs.Names.{with_table_name}
 use Rattle.name_tables.specs.Variables.{named_sorts, named_words, seen_after}
 use Rattle.name_tables.specs.Vocabulary.{nothing_signed, put_constants, put_signatures, put_sorts}
 use Rattle.name_tables.specs.declared.vocabulary.Vocabulary.{Vocabulary}
@@ -32,7 +32,7 @@ sorts_put names edges k [] [] no_sorts = refl
 sorts_put names edges k [] (s ∷ ss) x = elim x [ ]
 sorts_put names edges k (n ∷ ns) [] x = elim x [ ]
 sorts_put names edges k (n ∷ ns) (s ∷ ss) (more_sorts above more) =
-    sorts_put (with_name names n) edges (k + 1) ns ss more
+    sorts_put (with_table_name names n) edges (k + 1) ns ss more
 
 -- ---- constants
 

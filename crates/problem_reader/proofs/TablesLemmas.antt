@@ -11,7 +11,7 @@ use Rattle.form_reader.specs.declared.groups.Spot.TheVariants.{Start}
 use Rattle.form_reader.specs.Items.{item_of}
 use Rattle.form_reader.specs.Rows.{after_word, head_of, is_dash, tail_of}
 use Rattle.name_tables.specs.Declarations.{signature_list}
-use Rattle.name_tables.specs.Names.{Signed, has_name, with_name, with_signature}
+use Rattle.name_tables.specs.Names.{Signed, has_name, with_table_name, with_signature}
 use Rattle.name_tables.specs.Variables.{is_named, named_words, seen_after, seen_with}
 use Rattle.name_tables.specs.Vocabulary.{nothing_signed, put_signatures, with_total_cost}
 use Rattle.name_tables.specs.declared.vocabulary.Vocabulary.{Vocabulary}
@@ -20,11 +20,11 @@ use Rattle.domain_reader.specs.Tables.{declared_arity, functions_in, no_names, p
 -- names behind those so far, each once
 abbrev pub put : List (List ℕ) → List (List ℕ) → List (List ℕ)
 put names [] = names
-put names (n ∷ ns) = put (with_name names n) ns
+put names (n ∷ ns) = put (with_table_name names n) ns
 
 pub put_append : (names ns ms : List (List ℕ)) → put names (ns ++ ms) ≡ put (put names ns) ms
 put_append names [] ms = refl
-put_append names (n ∷ ns) ms = put_append (with_name names n) ns ms
+put_append names (n ∷ ns) ms = put_append (with_table_name names n) ns ms
 
 -- a table is what its own names make
 abbrev pub IsTable : List (List ℕ) → Type 0
@@ -34,9 +34,9 @@ grown : (ns : List (List ℕ)) (n : List ℕ) (b : Bool) → has_name n ns ≡ b
     → put [] (cond b ns (ns ++ n ∷ [])) ≡ cond b ns (ns ++ n ∷ [])
 grown ns n true e t = t
 grown ns n false e t =
-    put_append [] ns (n ∷ []) ∙ ap (λ ms. with_name ms n) t ∙ ap (λ b. cond b ns (ns ++ n ∷ [])) e
+    put_append [] ns (n ∷ []) ∙ ap (λ ms. with_table_name ms n) t ∙ ap (λ b. cond b ns (ns ++ n ∷ [])) e
 
-pub table_grows : (ns : List (List ℕ)) (n : List ℕ) → IsTable ns → IsTable (with_name ns n)
+pub table_grows : (ns : List (List ℕ)) (n : List ℕ) → IsTable ns → IsTable (with_table_name ns n)
 table_grows ns n t = grown ns n (has_name n ns) refl t
 
 pub table_if : (b : Bool) (xs ys : List (List ℕ)) → IsTable xs → IsTable ys → IsTable (cond b xs ys)
@@ -47,13 +47,13 @@ pub table_seen : (ns : List (List ℕ)) (spot : Spot) (ts : Trees) → IsTable n
     → IsTable (seen_after ns spot ts)
 table_seen ns spot nothing t = t
 table_seen ns spot (word w at rest) t =
-    table_seen (seen_with ns spot w) (after_word spot w) rest (table_if (is_named spot w) (with_name ns w) ns (table_grows ns w t) t)
+    table_seen (seen_with ns spot w) (after_word spot w) rest (table_if (is_named spot w) (with_table_name ns w) ns (table_grows ns w t) t)
 table_seen ns spot (list items at rest) t = t
 
 pub table_types : (ns : List (List ℕ)) (ts : Trees) → IsTable ns → IsTable (types_in ns ts)
 table_types ns nothing t = t
 table_types ns (word w at rest) t =
-    table_types (cond (is_dash w) ns (with_name ns w)) rest (table_if (is_dash w) ns (with_name ns w) t (table_grows ns w t))
+    table_types (cond (is_dash w) ns (with_table_name ns w)) rest (table_if (is_dash w) ns (with_table_name ns w) t (table_grows ns w t))
 table_types ns (list items at rest) t = table_types ns rest t
 
 -- ---- declared names with their numbers of arguments

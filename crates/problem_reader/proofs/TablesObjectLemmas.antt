@@ -10,7 +10,7 @@ use Rattle.form_reader.specs.declared.groups.Spot.TheVariants.{Named, Typed as T
 use Rattle.form_reader.specs.Rows.{after_word}
 use Rattle.name_tables.specs.Declarations.{Typed, declare, declare_each, declared_by, declared_list, put_number}
 use Rattle.name_tables.specs.Graphs.{ascending_with}
-use Rattle.name_tables.specs.Names.{has_name, place_of, with_name}
+use Rattle.name_tables.specs.Names.{has_name, table_place, with_table_name}
 use Rattle.name_tables.specs.Variables.{is_named, named_sorts, named_words, seen_after}
 use Rattle.name_tables.specs.Vocabulary.{put_constants}
 use Rattle.problem_reader.proofs.TablesLemmas.{put}
@@ -18,7 +18,7 @@ use Rattle.problem_reader.proofs.TablesLemmas.{put}
 -- ---- a name has a place exactly where it is there
 
 placed : (n : List ℕ) (ns : List (List ℕ))
-    → place_of n ns ≡ cond (has_name n ns) (Some (position_or_len (bytes_eq n) ns)) None
+    → table_place n ns ≡ cond (has_name n ns) (Some (position_or_len (bytes_eq n) ns)) None
 placed n ns = ap (λ b. cond b (Some (position_or_len (bytes_eq n) ns)) None) (sym (any_within (bytes_eq n) ns))
 
 -- ---- the names of what is declared
@@ -28,7 +28,7 @@ named_by : (t : Typed) (n : List ℕ) (s k : ℕ) (b : Bool) → has_name n t.na
 named_by t n s k true e = refl
 named_by t n s k false e = ap (λ b. cond b t.names (t.names ++ n ∷ [])) e
 
-pub names_declared : (t : Typed) (n : List ℕ) (s : ℕ) → (declare t n s).names ≡ with_name t.names n
+pub names_declared : (t : Typed) (n : List ℕ) (s : ℕ) → (declare t n s).names ≡ with_table_name t.names n
 names_declared t n s =
     ap (λ o. (declared_by t n s o).names) (placed n t.names)
     ∙ named_by t n s (position_or_len (bytes_eq n) t.names) (has_name n t.names) refl
@@ -70,7 +70,7 @@ even_each t (n ∷ ns) (s ∷ ss) h = even_each (declare t n s) ns ss (even_decl
 -- ---- groups
 
 seen_by : (names : List (List ℕ)) (w : List ℕ) (ws : List (List ℕ)) (b : Bool)
-    → put (cond b (with_name names w) names) ws ≡ put names (cond b (w ∷ ws) ws)
+    → put (cond b (with_table_name names w) names) ws ≡ put names (cond b (w ∷ ws) ws)
 seen_by names w ws true = refl
 seen_by names w ws false = refl
 
@@ -78,7 +78,7 @@ pub seen_put : (names : List (List ℕ)) (spot : Spot) (ts : Trees)
     → seen_after names spot ts ≡ put names (named_words spot ts)
 seen_put names spot nothing = refl
 seen_put names spot (word w at rest) =
-    seen_put (cond (is_named spot w) (with_name names w) names) (after_word spot w) rest
+    seen_put (cond (is_named spot w) (with_table_name names w) names) (after_word spot w) rest
     ∙ seen_by names w (named_words (after_word spot w) rest) (is_named spot w)
 seen_put names spot (list items at rest) = refl
 
@@ -100,4 +100,4 @@ pub constants_put : (names ns ss : List (List ℕ)) → length ns ≡ length ss
     → put_constants names (declared_list ns ss) ≡ put names ns
 constants_put names [] ss e = refl
 constants_put names (n ∷ ns) [] e = absurd (omega arith)
-constants_put names (n ∷ ns) (s ∷ ss) e = constants_put (with_name names n) ns ss (omega arith)
+constants_put names (n ∷ ns) (s ∷ ss) e = constants_put (with_table_name names n) ns ss (omega arith)

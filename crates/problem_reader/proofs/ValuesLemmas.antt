@@ -6,7 +6,7 @@ use Rattle.std.proofs.lemmas.Slice.Eq.{bytes_eq-Decides}
 use Rattle.lemmas.proofs.Members.{push_cases, get_append}
 use Rattle.sexpr_text.specs.Trees.{Trees}
 use Rattle.form_reader.specs.declared.fault.InputKind.TheVariants.{Duplicate}
-use Rattle.name_tables.specs.Names.{has_name, place_of}
+use Rattle.name_tables.specs.Names.{has_name, table_place}
 use Rattle.name_tables.specs.Variables.{unless}
 use Rattle.name_tables.proofs.NoFaultLemmas.{met}
 use Rattle.name_tables.proofs.NamesFreshLemmas.{get_middle}
@@ -14,7 +14,7 @@ use Rattle.std.proofs.lemmas.Option.{slice_get_within}
 use Rattle.std.proofs.lemmas.Map.Keys.{any_passes_from_place}
 use Rattle.name_tables.proofs.NamesUseLemmas.{place_holds, place_none, place_push, place_some}
 use Rattle.problem_reader.specs.Names.{is_worth}
-use Rattle.problem_reader.specs.Values.{Given, differs, spelled, term_in, given_value, value_in, problem_value_names, value_of_term, value_put, with_term_value}
+use Rattle.problem_reader.specs.Values.{Given, differs, spelled_term, term_in, given_value, value_in, problem_value_names, value_of_term, value_put, with_term_value}
 
 -- as many terms as values
 abbrev pub IsEven : Given → Type 0
@@ -40,7 +40,7 @@ pushed g t x = record { terms = g.terms ++ t ∷ []; values = g.values ++ x ∷ 
 kept_pushed : (g : Given) (k t : List ℕ) (x n : ℕ) → value_of_term g k ≡ Some n
     → value_of_term (pushed g t x) k ≡ Some n
 kept_pushed g k t x n e =
-    let at = value_by g k (place_of k g.terms) n e in
+    let at = value_by g k (table_place k g.terms) n e in
     ap (given_value (pushed g t x)) (place_push k t g.terms (known_name g k n e) ∙ at.1) ∙ get_append g.values (x ∷ []) at.0 n at.2
 
 kept_if : (b : Bool) (g h : Given) (k : List ℕ) (n : ℕ) → value_of_term g k ≡ Some n
@@ -57,8 +57,8 @@ kept_with g k t x n e =
 pub kept : (g : Given) (items : Trees) (k : List ℕ) (n : ℕ) → value_of_term g k ≡ Some n
     → value_of_term (value_put g items) k ≡ Some n
 kept g items k n e =
-    kept_if (is_worth items) (with_term_value g (spelled (term_in items)) (value_in items)) g k n
-    (kept_with g k (spelled (term_in items)) (value_in items) n e) e
+    kept_if (is_worth items) (with_term_value g (spelled_term (term_in items)) (value_in items)) g k n
+    (kept_with g k (spelled_term (term_in items)) (value_in items) n e) e
 
 even_if : (b : Bool) (g h : Given) → IsEven g → IsEven h → IsEven (cond b g h)
 even_if true g h e f = e
@@ -70,9 +70,9 @@ even_pushed g t x e =
 
 pub even_put : (g : Given) (items : Trees) → IsEven g → IsEven (value_put g items)
 even_put g items e =
-    even_if (is_worth items) (with_term_value g (spelled (term_in items)) (value_in items)) g
-    (even_if (has_name (spelled (term_in items)) g.terms) g
-    (pushed g (spelled (term_in items)) (value_in items)) e (even_pushed g (spelled (term_in items)) (value_in items) e)) e
+    even_if (is_worth items) (with_term_value g (spelled_term (term_in items)) (value_in items)) g
+    (even_if (has_name (spelled_term (term_in items)) g.terms) g
+    (pushed g (spelled_term (term_in items)) (value_in items)) e (even_pushed g (spelled_term (term_in items)) (value_in items) e)) e
 
 -- ---- a new value
 
@@ -83,7 +83,7 @@ pushed_value g t x even none =
     let there : has_name t (g.terms ++ t ∷ []) ≡ true =
     any_passes_from_place (bytes_eq t) (g.terms ++ t ∷ []) (length g.terms) t (get_middle g.terms t [])
     ((bytes_eq-Decides t t).1 refl) in
-    let q : ℕ = unwrap_or (place_of t (g.terms ++ t ∷ [])) 0 in
+    let q : ℕ = unwrap_or (table_place t (g.terms ++ t ∷ [])) 0 in
     let at_end : q ≡ length g.terms =
     elim (push_cases g.terms t q t (place_holds t (g.terms ++ t ∷ []) there)) [
       | inl h ↦ absurd
@@ -107,7 +107,7 @@ differs_not g k n x e f =
 there_value : (g : Given) (k : List ℕ) → IsEven g → has_name k g.terms ≡ true
     → (n : ℕ) × (value_of_term g k ≡ Some n)
 there_value g k even known =
-    let p : ℕ = unwrap_or (place_of k g.terms) 0 in
+    let p : ℕ = unwrap_or (table_place k g.terms) 0 in
     let inside : p < length g.terms = slice_get_within g.terms p k (place_holds k g.terms known) in
     let found = at g.values p (omega (arith, inside, even)) in
     (found.0, ap (given_value g) (place_some k g.terms known) ∙ found.1)
@@ -130,18 +130,18 @@ gets_with g t x even fine =
 
 -- behind a list that gives a value, without faults, it is the term's value
 pub gets : (g : Given) (place : ℕ) (items : Trees) → IsEven g → is_worth items ≡ true
-    → not (differs (value_of_term g (spelled (term_in items))) (value_in items)) ≡ true
-    → value_of_term (value_put g items) (spelled (term_in items)) ≡ Some (value_in items)
+    → not (differs (value_of_term g (spelled_term (term_in items))) (value_in items)) ≡ true
+    → value_of_term (value_put g items) (spelled_term (term_in items)) ≡ Some (value_in items)
 gets g place items even is fine =
-    ap (λ h. value_of_term h (spelled (term_in items)))
-    (cond-true (is_worth items) (with_term_value g (spelled (term_in items)) (value_in items)) g is)
-    ∙ gets_with g (spelled (term_in items)) (value_in items) even fine
+    ap (λ h. value_of_term h (spelled_term (term_in items)))
+    (cond-true (is_worth items) (with_term_value g (spelled_term (term_in items)) (value_in items)) g is)
+    ∙ gets_with g (spelled_term (term_in items)) (value_in items) even fine
 
 -- the test that a list without faults passes
 pub value_clean : (g : Given) (place : ℕ) (items : Trees) → is_worth items ≡ true
     → problem_value_names g place items ≡ []
-    → not (differs (value_of_term g (spelled (term_in items))) (value_in items)) ≡ true
+    → not (differs (value_of_term g (spelled_term (term_in items))) (value_in items)) ≡ true
 value_clean g place items is e =
-    let fault = unless (not (differs (value_of_term g (spelled (term_in items))) (value_in items))) Duplicate place in
-    met (not (differs (value_of_term g (spelled (term_in items))) (value_in items))) Duplicate place
+    let fault = unless (not (differs (value_of_term g (spelled_term (term_in items))) (value_in items))) Duplicate place in
+    met (not (differs (value_of_term g (spelled_term (term_in items))) (value_in items))) Duplicate place
     (sym (cond-true (is_worth items) fault [] is) ∙ e)

@@ -5,7 +5,7 @@ use Rattle.task_model.specs.Fit.{IsFitDomain, IsFitProblem}
 use Rattle.task_model.specs.declared.domain.Domain.{Domain}
 use Rattle.task_model.specs.declared.stream.Stream.{Stream}
 use Rattle.task_model.specs.declared.task.Problem.{Problem}
-use Rattle.name_tables.specs.Sizes.{IsBounded}
+use Rattle.name_tables.specs.Sizes.{IsBoundedTree}
 use Rattle.domain_reader.specs.Domains as domains
 
 -- The problem is fit for tasks of this domain, whatever their streams are.
@@ -16,6 +16,6 @@ IsFitOver d p =
 -- The domain is fit, and was read from a tree as texts of at most 2^22 bytes give it.
 pub record IsFitRead (d : Domain) : Type 0 where
   pub text : Trees
-  pub bounded : IsBounded text
+  pub bounded : IsBoundedTree text
   pub read : domains.IsDomainRead text d
   pub fit : IsFitDomain d

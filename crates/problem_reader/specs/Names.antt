@@ -14,7 +14,7 @@ use Rattle.form_reader.specs.declared.items.TextKind.TheVariants as text
 use Rattle.form_reader.specs.Items.{item_of}
 use Rattle.form_reader.specs.Rows.{head_of, tail_of}
 use Rattle.name_tables.specs.Conditions.{conditions_names}
-use Rattle.name_tables.specs.Names.{place_of}
+use Rattle.name_tables.specs.Names.{table_place}
 use Rattle.name_tables.specs.Terms.{application_names}
 use Rattle.name_tables.specs.Variables.{types_names, unless}
 use Rattle.name_tables.specs.declared.vocabulary.Vocabulary.{Vocabulary}
@@ -43,7 +43,7 @@ is_derived_at roles (Some place) = is (slice_get roles place)
 abbrev pub atom_names : Vocabulary → List Role → ℕ → Trees → List Fault
 atom_names v roles place items =
     application_names v.predicates v.objects [] place items
-    ++ unless (not (is_derived_at roles (place_of (head_of items) v.predicates.names))) EffectOnStatic place
+    ++ unless (not (is_derived_at roles (table_place (head_of items) v.predicates.names))) EffectOnStatic place
 
 -- the function term that stands first in a row
 abbrev pub worth_names : Vocabulary → Trees → List Fault

@@ -21,7 +21,7 @@ use Rattle.form_reader.specs.Rows.{head_of, tail_of}
 use Rattle.form_reader.specs.Texts.{form_faults}
 use Rattle.name_tables.specs.Conditions.{single_of}
 use Rattle.name_tables.specs.Declarations.{Typed, declare, declare_each, declared_list, no_typed}
-use Rattle.name_tables.specs.Names.{place_of}
+use Rattle.name_tables.specs.Names.{table_place}
 use Rattle.name_tables.specs.Terms.{declared_place}
 use Rattle.name_tables.specs.Variables.{named_sorts, named_words}
 use Rattle.name_tables.specs.declared.vocabulary.Vocabulary.{Vocabulary}
@@ -73,22 +73,22 @@ declared_objects d sorts body =
 -- ---- facts and values, in the order of the text
 
 -- the objects that the words of a row name
-abbrev pub places_of : List (List ℕ) → Trees → List ℕ
-places_of objects nothing = []
-places_of objects (word w at rest) = unwrap_or (place_of w objects) 0 ∷ places_of objects rest
-places_of objects (list items at rest) = places_of objects rest
+abbrev pub places_in_row : List (List ℕ) → Trees → List ℕ
+places_in_row objects nothing = []
+places_in_row objects (word w at rest) = unwrap_or (table_place w objects) 0 ∷ places_in_row objects rest
+places_in_row objects (list items at rest) = places_in_row objects rest
 
 -- (NAME NAME*)
 abbrev pub spelled_fact : Vocabulary → Trees → Fact
 spelled_fact v items = record
-    { kind = Predicate; name = declared_place v.predicates (head_of items); args = places_of v.objects (tail_of items) }
+    { kind = Predicate; name = declared_place v.predicates (head_of items); args = places_in_row v.objects (tail_of items) }
 
 -- (= (NAME NAME*) NUMBER)
 abbrev pub valued_of : Vocabulary → Trees → Valued
 valued_of v items =
     record {
       func = declared_place v.functions (head_of (term_in items));
-      args = places_of v.objects (tail_of (term_in items));
+      args = places_in_row v.objects (tail_of (term_in items));
       value = value_in items;
     }
 

@@ -10,7 +10,7 @@ use Rattle.form_reader.specs.declared.items.TextKind.TheVariants as text
 use Rattle.form_reader.specs.Items.{item_of}
 use Rattle.form_reader.specs.Rows.{head_of, inner_of, tail_of}
 use Rattle.task_model.specs.Numbers.{is_number}
-use Rattle.name_tables.specs.Names.{has_name, place_of}
+use Rattle.name_tables.specs.Names.{has_name, table_place}
 use Rattle.name_tables.specs.Variables.{unless}
 use Rattle.problem_reader.specs.Names.{is_worth}
 
@@ -33,10 +33,10 @@ value_in items = number_in (head_of (tail_of (tail_of items)))
 
 -- How a term is written, with one space behind each word. No word has a space, so that terms are the same exactly where
 -- this is.
-abbrev pub spelled : Trees → List ℕ
-spelled nothing = []
-spelled (word w at rest) = w ++ 32 ∷ spelled rest
-spelled (list items at rest) = spelled rest
+abbrev pub spelled_term : Trees → List ℕ
+spelled_term nothing = []
+spelled_term (word w at rest) = w ++ 32 ∷ spelled_term rest
+spelled_term (list items at rest) = spelled_term rest
 
 -- ---- values that were given so far
 
@@ -53,7 +53,7 @@ given_value g None = None
 given_value g (Some place) = slice_get g.values place
 
 abbrev pub value_of_term : Given → List ℕ → Option ℕ
-value_of_term g term = given_value g (place_of term g.terms)
+value_of_term g term = given_value g (table_place term g.terms)
 
 -- the first value of a term stays
 abbrev pub with_term_value : Given → List ℕ → ℕ → Given
@@ -71,11 +71,11 @@ differs (Some before) value = not (before == value)
 abbrev pub problem_value_names : Given → ℕ → Trees → List Fault
 problem_value_names g place items =
     if is_worth items
-    then unless (not (differs (value_of_term g (spelled (term_in items))) (value_in items))) Duplicate place else []
+    then unless (not (differs (value_of_term g (spelled_term (term_in items))) (value_in items))) Duplicate place else []
 
 abbrev pub value_put : Given → Trees → Given
 value_put g items =
-    if is_worth items then with_term_value g (spelled (term_in items)) (value_in items) else g
+    if is_worth items then with_term_value g (spelled_term (term_in items)) (value_in items) else g
 
 -- of facts in a row
 abbrev pub row_names : Given → Trees → List Fault

@@ -13,7 +13,7 @@ use task_model::{Fact, Kind, Obj, Row, Valued};
 
 /// The objects that the words of a row name.
 fn places_of(alloc: Global, objects: &NameTable, items: &[Tree]) -> Result<Row, AllocError>
-    ensures { IfOk result (λ row. row ≡ specs.places_of objects.now (trees items.now)) }
+    ensures { IfOk result (λ row. row ≡ specs.places_in_row objects.now (trees items.now)) }
 {
     let mut row = Row::empty(alloc);
     let mut left = items;

@@ -2,7 +2,7 @@
 ghost use Rattle.std.specs.Prelude.{◌≡◌, IfOk};
 ghost use Rattle.sexpr_text.specs.Trees.{tree, trees};
 ghost use Rattle.form_reader.specs.Faults.{least_fault};
-ghost use Rattle.name_tables.specs.Sizes.{IsBounded};
+ghost use Rattle.name_tables.specs.Sizes.{IsBoundedTree};
 ghost use Rattle.problem_reader.specs.Fitness.{IsFitOver, IsFitRead};
 ghost use Rattle.problem_reader.specs.Problems as specs;
 
@@ -81,7 +81,7 @@ pub fn read_problem(alloc: Global, text: &Tree, domain: &Domain) -> Result<Probl
     ensures reads { specs.ProblemReads domain.now (tree text.now) result }
     // Over a fit domain that was read, the problem of a tree as texts of at most 4 MiB give it is
     // fit.
-    ensures fit { IfOk result (λ p. IsFitRead domain.now → IsBounded (tree text.now)
+    ensures fit { IfOk result (λ p. IsFitRead domain.now → IsBoundedTree (tree text.now)
         → IsFitOver domain.now p) }
 {
     read(alloc, text, domain)

@@ -37,7 +37,7 @@ pub(crate) fn value_in(items: &[Tree]) -> u32
 
 /// How a term is written, with one space behind each word.
 fn spelled(alloc: Global, items: &[Tree]) -> Result<Vec<u8>, AllocError>
-    ensures { IfOk result (λ letters. letters.items ≡ specs.spelled (trees items.now)) }
+    ensures { IfOk result (λ letters. letters.items ≡ specs.spelled_term (trees items.now)) }
 {
     let mut letters = Vec::new(alloc);
     let mut left = items;

@@ -4,7 +4,7 @@ use Rattle.std.proofs.lemmas.Bool.{ne_eqb, true≢false}
 use Rattle.std.proofs.lemmas.List.{length-map}
 use Rattle.best_first.specs.Answer.{IsSolvableWithin}
 use Rattle.lemmas.proofs.Pigeonhole.{pigeons}
-use Rattle.instance_queue.specs.Level.{AreDueInTurn, instances_of}
+use Rattle.instance_queue.specs.Level.{AreDueInTurn, due_instances}
 use Rattle.instance_queue.specs.declared.due.Due.{Due}
 use Rattle.task_model.proofs.StreamsLemmas.{nothing_due}
 use Rattle.task_model.specs.Known.{Known}
@@ -31,18 +31,18 @@ module _ (version : ℕ) (task : Task) (entries : List Entry) (l : Ledger) (h : 
 
   -- what is due after the entries
   pub all_due : (dues : List Due) → AreDueInTurn task l.facts.known l.queue dues
-      → AreDue task (known_of task entries) (notes_of task entries) (instances_of dues)
+      → AreDue task (known_of task entries) (notes_of task entries) (due_instances dues)
   all_due dues turn =
-      subst (λ k. AreDue task k (notes_of task entries) (instances_of dues)) h.known
-      (subst (λ notes. AreDue task l.facts.known notes (instances_of dues)) h.notes turn.due)
+      subst (λ k. AreDue task k (notes_of task entries) (due_instances dues)) h.known
+      (subst (λ notes. AreDue task l.facts.known notes (due_instances dues)) h.notes turn.due)
 
   -- not too much is due
   pub few_due : (dues : List Due) → AreDueInTurn task l.facts.known l.queue dues
       → MoreAreDue 1000000 task (known_of task entries) (notes_of task entries) → ⊥
   few_due dues turn more =
       let due = all_due dues turn in
-      let le = pigeons more.0 (instances_of dues) more.2 (λ i m. (due.each i).1 (more.3 i m)) in
-      let same : length (instances_of dues) ≡ length dues = length-map dues (λ (d : Due). d.instance) in
+      let le = pigeons more.0 (due_instances dues) more.2 (λ i m. (due.each i).1 (more.3 i m)) in
+      let same : length (due_instances dues) ≡ length dues = length-map dues (λ (d : Due). d.instance) in
       let few = turn.few in
       let many = more.1 in
       omega (arith, le, same, few, many)
@@ -61,7 +61,7 @@ module _ (version : ℕ) (task : Task) (entries : List Entry) (l : Ledger) (h : 
   pub none_due : (dues : List Due) → AreDueInTurn task l.facts.known l.queue dues → dues ≡ []
       → NothingIsDue task (known_of task entries) (notes_of task entries)
   none_due dues turn is =
-      nothing_due task (known_of task entries) (notes_of task entries) (instances_of dues) (all_due dues turn) (ap instances_of is)
+      nothing_due task (known_of task entries) (notes_of task entries) (due_instances dues) (all_due dues turn) (ap due_instances is)
 
   -- where something is due, it isn't so that nothing is
   pub not_none_due : (dues : List Due) (d : Due) (more : List Due)

@@ -2,7 +2,7 @@
 use Rattle.std.proofs.Common.{◌≡◌, ◌∙◌, ◌↔◌, ◌&&◌, ◌<◌, ℕ, List, length, refl, sym, ap, arith, Bool, true, false, not, Option, Some, None, IfSome, IfNone, IsTrue, is_some}
 use Rattle.std.proofs.lemmas.Bool.{true≢false}
 use Rattle.std.proofs.lemmas.List.{length-map}
-use Rattle.instance_queue.specs.Level.{AreDueInTurn, instances_of}
+use Rattle.instance_queue.specs.Level.{AreDueInTurn, due_instances}
 use Rattle.instance_queue.specs.declared.due.Due.{Due}
 use Rattle.std.specs.List.{list_all}
 use Rattle.lemmas.proofs.ListTests.{all_at}
@@ -52,7 +52,7 @@ none_where skeletons None some none false is = absurd (cc)
 module _ (limits : Limits) (task : Task) (entries : List Entry) (l : Ledger) (a : ModeAgenda)
     (s : StandsBehind limits task entries l a) where
   module _ (dues : List Due) (turn : AreDueInTurn task l.facts.known l.queue dues) where
-    long : length (instances_of dues) ≡ length dues
+    long : length (due_instances dues) ≡ length dues
     long = length-map dues (λ (d : Due). d.instance)
 
     -- something is due, but not too much, and a call is left
@@ -61,7 +61,7 @@ module _ (limits : Limits) (task : Task) (entries : List Entry) (l : Ledger) (a 
         let few = turn.few in
         let count = long in (
           record {
-            list = instances_of dues;
+            list = due_instances dues;
             due = all_due limits.version task entries l s.ledger dues turn;
             some = omega (arith, some, count);
             few = omega (arith, few, count);
@@ -74,8 +74,8 @@ module _ (limits : Limits) (task : Task) (entries : List Entry) (l : Ledger) (a 
     pub none_begins : length dues ≡ 0 → ¬ (MayBegin limits task entries)
     none_begins none may =
         let due = all_due limits.version task entries l s.ledger dues turn in
-        let same : instances_of dues ≡ may.list =
-        due_once task (known_of task entries) (notes_of task entries) (instances_of dues) may.list due may.due in
+        let same : due_instances dues ≡ may.list =
+        due_once task (known_of task entries) (notes_of task entries) (due_instances dues) may.list due may.due in
         let lists = ap length same in
         let some = may.some in
         let count = long in

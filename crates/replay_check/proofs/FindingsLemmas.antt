@@ -15,7 +15,7 @@ use Rattle.transcript_model.specs.declared.outcome.Outcome.TheVariants as outcom
 use Rattle.replay_check.proofs.OriginsLemmas.{origins_once}
 use Rattle.replay_check.specs.Breaches.{BreaksClaim, BreaksOutcome, BreaksPlan, BreaksSaid, BreaksStep, HasPlace}
 use Rattle.replay_check.specs.Claims.{IsJudged}
-use Rattle.replay_check.specs.Findings.{IsClaim, IsRightFinding, IsPlaced}
+use Rattle.replay_check.specs.Findings.{IsClaim, IsRightFinding, IsEndPlaced}
 use Rattle.replay_check.specs.Kinds.{breach_number}
 use Rattle.replay_check.specs.Lines.{Precedes}
 use Rattle.shown_steps.proofs.PlansLemmas.{front_can, plan_can}
@@ -60,7 +60,7 @@ module _ (task : Task) (entries : List Entry) where
 -- ---- plans
 
 module _ (limits : Limits) (limit : ℕ) (task : Task) (entries : List Entry) (calls : List Call) (cost : ℕ) (from : List Origin)
-    (legal : IsLegal limits.version task entries) (placed : IsPlaced limits limit task entries (outcome.Plan calls cost from)) where
+    (legal : IsLegal limits.version task entries) (placed : IsEndPlaced limits limit task entries (outcome.Plan calls cost from)) where
   -- of a plan that stands in its place only the plan can be wrong
   said : (offset : ℕ) (k : BreachKind)
       → BreaksOutcome limits task entries (outcome.Plan calls cost from) offset k
@@ -223,7 +223,7 @@ module _ (limits : Limits) (limit : ℕ) (task : Task) (entries : List Entry) wh
   as_said (outcome.Limit which) offset k is wrong = wrong
 
   -- what is wrong with a claim in its place is what it says
-  only_said : (o : Outcome) (offset : ℕ) (k : BreachKind) → IsPlaced limits limit task entries o
+  only_said : (o : Outcome) (offset : ℕ) (k : BreachKind) → IsEndPlaced limits limit task entries o
       → BreaksOutcome limits task entries o offset k → BreaksSaid limits task entries o offset k
   only_said o offset kind.Order placed wrong = absurd (wrong.1 placed.place)
   only_said o offset kind.Text placed wrong = wrong
@@ -251,7 +251,7 @@ module _ (limits : Limits) (limit : ℕ) (task : Task) (entries : List Entry) wh
   last_of_all o offset kind.Cost wrong before = wrong
   last_of_all o offset kind.From wrong before = wrong
 
-  module _ (o : Outcome) (is : IsClaim o) (placed : IsPlaced limits limit task entries o) where
+  module _ (o : Outcome) (is : IsClaim o) (placed : IsEndPlaced limits limit task entries o) where
     none_earlier : (other : ℕ) (than : BreachKind) → BreaksOutcome limits task entries o other than
         → ¬ (Precedes other than 0 kind.Outcome)
     none_earlier other than wrong =
@@ -276,7 +276,7 @@ module _ (limits : Limits) (limit : ℕ) (task : Task) (entries : List Entry) (o
   -- an outcome that may stand at the stage of the entries
   pub placed_at : (stage : Stage) → AreTurnsOf limits.mode limits task entries stage
       → MayStand stage o
-      → IsPlaced limits limit task entries o
+      → IsEndPlaced limits limit task entries o
   placed_at stage turns stands =
       record { place = there stands; stands = λ said. record { stage = stage; turns = turns; stands = stands; true = said } }
     where

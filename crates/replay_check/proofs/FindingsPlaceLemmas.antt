@@ -5,8 +5,8 @@ use Rattle.level_course.specs.Courses.{Course, IsBehind, Opens, with_asks}
 use Rattle.mode_course.proofs.MadeLemmas.{between_awaits, line_awaits}
 use Rattle.mode_course.proofs.StepsLemmas.{batch_open}
 use Rattle.mode_course.specs.Agendas.{is_over, mode_place_in}
-use Rattle.mode_course.specs.Laws.{IsAt}
-use Rattle.mode_course.specs.Places.{Awaits, AwaitsLine, IsBatchStep, Place, Settles, asked_next, awaits_line, goes_on, is_repeated, joining, moves, phase_behind, resting, sent_next, stays, with_batch}
+use Rattle.mode_course.specs.Laws.{IsPlaceAt}
+use Rattle.mode_course.specs.Places.{AwaitsPhase, AwaitsLine, IsBatchStep, ModePlace, Settles, asked_next, awaits_line, goes_on, is_repeated, joining, moves, phase_behind, resting, sent_next, stays, with_batch}
 use Rattle.mode_course.specs.Running.{sent_of}
 use Rattle.task_model.specs.Streams.{yields_of}
 use Rattle.task_model.specs.declared.stream.Instance.{Instance}
@@ -27,7 +27,7 @@ use Rattle.replay_check.proofs.FindingsLemmas.{placed_at}
 use Rattle.replay_check.proofs.NextLemmas.{awaits_a_line, awaits_between}
 use Rattle.replay_check.proofs.PlacesLemmas.{batch_of, between_inside, next_step, stage_at, step_begun, stops}
 use Rattle.replay_check.specs.Breaches.{AreBegun, AreInBatch, HasPlace}
-use Rattle.replay_check.specs.Findings.{IsPlaced, IsRightEnd, MayEndAt}
+use Rattle.replay_check.specs.Findings.{IsEndPlaced, IsRightEnd, MayEndAt}
 use Rattle.replay_check.specs.Standings.{AreBounds, IsStanding, StandsBehind, limits_by}
 use Rattle.replay_check.specs.declared.bounds.Bounds.{Bounds}
 use Rattle.replay_check.specs.declared.standing.Standing.{Standing}
@@ -58,7 +58,7 @@ module _ (b : Bounds) (bounds : AreBounds b) (entries : List Entry) (s : Standin
   abbrev stands : StandsBehind limits task entries s.ledger s.course
   stands = standing.stands
 
-  abbrev here : Place
+  abbrev here : ModePlace
   here = mode_place_in task entries s.course
 
   -- ---- inside a batch
@@ -99,11 +99,11 @@ module _ (b : Bounds) (bounds : AreBounds b) (entries : List Entry) (s : Standin
 
   -- behind an answer the place comes to rest somewhere
   settles_there : (left : ℕ) (e : Entry) (c : Course) → IsBehind limits task (entries ++ e ∷ []) here.batch left c
-      → (after : Place) × Settles limits task (entries ++ e ∷ []) (with_batch here c) after
+      → (after : ModePlace) × Settles limits task (entries ++ e ∷ []) (with_batch here c) after
   settles_there left e c behind = by (cases_lt 0 c.answers) (is_repeated s.course.phase) refl
     where
       by : (0 < c.answers) ⊎ (c.answers ≤ 0) → (x : Bool) → is_repeated s.course.phase ≡ x
-          → (after : Place) × Settles limits task (entries ++ e ∷ []) (with_batch here c) after
+          → (after : ModePlace) × Settles limits task (entries ++ e ∷ []) (with_batch here c) after
       by (inl some) x is = (with_batch here c, stays (inl some) refl)
       by (inr none) false is = (with_batch here c, stays (inr is) refl)
       by (inr none) true is =
@@ -113,7 +113,7 @@ module _ (b : Bounds) (bounds : AreBounds b) (entries : List Entry) (s : Standin
           let list = asked_next limits task run.real (entries ++ e ∷ []) run.entries (sent_of run) in
           let cut = is_cut limits (entries ++ e ∷ []) next in
           let first = opened (entries ++ e ∷ []) list cut in
-          let after : Place = record {
+          let after : ModePlace = record {
             batch = first.0;
             phase = phase_behind resting cut run.real run.entries (sent_of run) next;
             kept = joining s.course.kept list;
@@ -128,7 +128,7 @@ module _ (b : Bounds) (bounds : AreBounds b) (entries : List Entry) (s : Standin
   in_batch : 0 < s.course.batch.answers → AreInBatch limits task entries
   in_batch some = by s.course.batch.to_ask refl
     where
-      goes : (e : Entry) (c : Course) (after : Place) → IsBatchStep limits task entries here.batch e c
+      goes : (e : Entry) (c : Course) (after : ModePlace) → IsBatchStep limits task entries here.batch e c
           → Settles limits task (entries ++ e ∷ []) (with_batch here c) after → AreBegun limits task (entries ++ e ∷ [])
       goes e c after step settles =
           step_begun limits task entries here stands.leads bounds.workers e after (goes_on c step settles)
@@ -197,13 +197,13 @@ module _ (b : Bounds) (bounds : AreBounds b) (entries : List Entry) (s : Standin
 
   module _ (limit : ℕ) where
     -- between two turns each outcome may stand
-    between_placed : (o : Outcome) → Awaits here resting → IsPlaced limits limit task entries o
+    between_placed : (o : Outcome) → AwaitsPhase here resting → IsEndPlaced limits limit task entries o
     between_placed o awaits =
         let st = stops limits task entries here stands.leads bounds.workers in
         by st.stage st.at st.turns
       where
-        by : (stage : Stage) → IsAt here stage → AreTurnsOf limits.mode limits task entries stage
-            → IsPlaced limits limit task entries o
+        by : (stage : Stage) → IsPlaceAt here stage → AreTurnsOf limits.mode limits task entries stage
+            → IsEndPlaced limits limit task entries o
         by between at turns = placed_at limits limit task entries o between turns (inl refl)
         by after_cut at turns = absurd (true≢false (sym at.cut ∙ awaits.uncut))
         by inside (inl some) turns = let none = awaits.answered in absurd (omega (arith, some, none))
@@ -220,19 +220,19 @@ module _ (b : Bounds) (bounds : AreBounds b) (entries : List Entry) (s : Standin
         true≢false (sym waits ∙ past.none_open s.course.batch.next)
 
     calls_placed : (is_over s.course.batch && awaits_line s.course.phase) ≡ false
-        → IsPlaced limits limit task entries (outcome.Limit Calls)
+        → IsEndPlaced limits limit task entries (outcome.Limit Calls)
     calls_placed other =
         let st = stops limits task entries here stands.leads bounds.workers in
         record { place = there st.stage st.at st.turns; stands = λ past. right past st.stage st.at st.turns }
       where
-        there : (stage : Stage) → IsAt here stage → AreTurnsOf limits.mode limits task entries stage
+        there : (stage : Stage) → IsPlaceAt here stage → AreTurnsOf limits.mode limits task entries stage
             → HasPlace limits task entries (outcome.Limit Calls)
         there between at turns = inl turns
         there after_cut at turns = inr (refl, inl turns)
         there inside (inl some) turns = inr (refl, inr (in_batch some))
         there inside (inr awaits) turns = absurd (true≢false (sym (awaits_a_line task entries s.course awaits) ∙ other))
 
-        right : IsPastCalls limits task entries → (stage : Stage) → IsAt here stage
+        right : IsPastCalls limits task entries → (stage : Stage) → IsPlaceAt here stage
             → AreTurnsOf limits.mode limits task entries stage
             → IsRightEnd limits limit task entries (outcome.Limit Calls)
         right past between at turns = record { stage = between; turns = turns; stands = inl refl; true = past }
@@ -240,9 +240,9 @@ module _ (b : Bounds) (bounds : AreBounds b) (entries : List Entry) (s : Standin
         right past inside (inl some) turns = absurd (all_answered past some)
         right past inside (inr awaits) turns = absurd (true≢false (sym (awaits_a_line task entries s.course awaits) ∙ other))
 
-    pub has_its_place : (o : Outcome) → MayEndAt s.course o → IsPlaced limits limit task entries o
+    pub has_its_place : (o : Outcome) → MayEndAt s.course o → IsEndPlaced limits limit task entries o
     has_its_place o (inl rests) = between_placed o (between_awaits task entries s.course rests)
-    has_its_place o (inr (is, other)) = subst (IsPlaced limits limit task entries) (sym is) (calls_placed other)
+    has_its_place o (inr (is, other)) = subst (IsEndPlaced limits limit task entries) (sym is) (calls_placed other)
 
   -- where another outcome has its place, no request is open
   pub none_waits : (o : Outcome) → MayEndAt s.course o → ¬ (o ≡ outcome.Limit Calls) → HasNoneOpen entries

@@ -4,7 +4,7 @@ use Rattle.std.proofs.lemmas.List.{map-append, append-nil}
 use Rattle.std.proofs.lemmas.List.Concat.{flat_map-append}
 use Rattle.std.proofs.lemmas.List.Sums.{sum_by-append}
 use Rattle.lemmas.proofs.Bools.{and_four}
-use Rattle.pools.specs.Pools.{Workers, share_of, shares_of}
+use Rattle.pools.specs.Pools.{Workers, share_of_workers, shares_of}
 use Rattle.task_model.specs.declared.task.Task.{Task}
 use Rattle.transcript_model.specs.declared.head.PoolLine.{PoolLine}
 use Rattle.replay_check.specs.Headed.{IsAfter}
@@ -49,13 +49,13 @@ module _ (task : Task) (before : List PoolLine) (pool : PoolLine) (b : Before) (
   -- one pool more
   pub pool_passed : (a : Before) (own : Workers) → is_fit_pool task before pool ≡ true
       → b.workers + pool.workers ≤ 17
-      → a.pools.items ≡ b.pools.items ++ own ∷ [] → share_of own ≡ share_in task pool
+      → a.pools.items ≡ b.pools.items ++ own ∷ [] → share_of_workers own ≡ share_in task pool
       → a.served.items ≡ b.served.items ++ pool_line_streams task pool → a.workers ≡ b.workers + pool.workers
       → IsAfter task (before ++ pool ∷ []) a
   pool_passed a own fits few pools is served workers =
       record {
         pools =
-            ap shares_of pools ∙ map-append share_of b.pools.items (own ∷ []) ∙ (λ i. h.pools i ++ is i ∷ [])
+            ap shares_of pools ∙ map-append share_of_workers b.pools.items (own ∷ []) ∙ (λ i. h.pools i ++ is i ∷ [])
             ∙ sym (map-append (share_in task) before (pool ∷ []));
         served =
             served ∙ (λ i. h.served i ++ sym (append-nil (pool_line_streams task pool)) i)

@@ -3,7 +3,7 @@ use Rattle.std.proofs.Common.{◌≡◌, ℕ, ◌+◌, ◌<◌, ◌==◌, ◌&&�
 use Rattle.std.proofs.lemmas.Bool.{true≢false}
 use Rattle.level_course.specs.Courses.{Course}
 use Rattle.mode_course.specs.Agendas.{ModeAgenda, is_dreamt, is_over, is_resting, is_undreamt, mode_place_in}
-use Rattle.mode_course.specs.Places.{Awaits, AwaitsLine, AwaitsPick, IsBatchStep, IsStep, Place, awaits_line, begins_level, dreamt, falls_back, goes_on, picks, resets, resting, retires, tells_dream, tells_none, unasked, undreamt}
+use Rattle.mode_course.specs.Places.{AwaitsPhase, AwaitsLine, AwaitsPick, IsBatchStep, IsModeStep, ModePlace, awaits_line, begins_level, dreamt, falls_back, goes_on, picks, resets, resting, retires, tells_dream, tells_none, unasked, undreamt}
 use Rattle.task_model.specs.Streams.{yields_of}
 use Rattle.task_model.specs.declared.stream.Instance.{Instance}
 use Rattle.task_model.specs.declared.task.Task.{Task}
@@ -63,13 +63,13 @@ is_over_where : (n : ℕ) (cut : Bool) → n ≡ 0 → cut ≡ false → ((n == 
 is_over_where n cut none uncut = rw (eq-eqb n 0 none, uncut) refl
 
 module _ (task : Task) (entries : List Entry) (a : ModeAgenda) where
-  pub awaits_between : Awaits (mode_place_in task entries a) resting → (is_over a.batch && is_resting a.phase) ≡ true
+  pub awaits_between : AwaitsPhase (mode_place_in task entries a) resting → (is_over a.batch && is_resting a.phase) ≡ true
   awaits_between w = λ i. is_over_where a.batch.answers a.batch.is_cut w.answered w.uncut i && is_resting (w.phase_is i)
 
-  pub awaits_undreamt : Awaits (mode_place_in task entries a) undreamt → (is_over a.batch && is_undreamt a.phase) ≡ true
+  pub awaits_undreamt : AwaitsPhase (mode_place_in task entries a) undreamt → (is_over a.batch && is_undreamt a.phase) ≡ true
   awaits_undreamt w = λ i. is_over_where a.batch.answers a.batch.is_cut w.answered w.uncut i && is_undreamt (w.phase_is i)
 
-  awaits_dreamt : Awaits (mode_place_in task entries a) dreamt → (is_over a.batch && is_dreamt a.phase) ≡ true
+  awaits_dreamt : AwaitsPhase (mode_place_in task entries a) dreamt → (is_over a.batch && is_dreamt a.phase) ≡ true
   awaits_dreamt w = λ i. is_over_where a.batch.answers a.batch.is_cut w.answered w.uncut i && is_dreamt (w.phase_is i)
 
   pub awaits_a_line : AwaitsLine (mode_place_in task entries a) → (is_over a.batch && awaits_line a.phase) ≡ true
@@ -87,7 +87,7 @@ module _ (task : Task) (entries : List Entry) (a : ModeAgenda) where
 
 module _ (limits : Limits) (task : Task) (entries : List Entry) (l : Ledger) (a : ModeAgenda)
     (s : StandsBehind limits task entries l a) where
-  abbrev pub here : Place
+  abbrev pub here : ModePlace
   here = mode_place_in task entries a
 
   -- a mark isn't of a batch
@@ -140,7 +140,7 @@ module _ (limits : Limits) (task : Task) (entries : List Entry) (l : Ledger) (a 
   pub next_level : AreBegun limits task (entries ++ entry.Level ∷ []) → AsksLevel limits.mode a × MayBegin limits task entries
   next_level begun = by (next_step limits task entries here s.leads entry.Level begun)
     where
-      by : (after : Place) × IsStep limits task entries here entry.Level after → AsksLevel limits.mode a × MayBegin limits task entries
+      by : (after : ModePlace) × IsModeStep limits task entries here entry.Level after → AsksLevel limits.mode a × MayBegin limits task entries
       by (after, goes_on d t is) = no_batch entry.Level d refl t
       by (after, begins_level t) = (inl (t.mode, awaits_between task entries a t.awaits), t.begins.may)
       by (after, tells_dream t) = absurd (let is = t.is in cc)
@@ -155,7 +155,7 @@ module _ (limits : Limits) (task : Task) (entries : List Entry) (l : Ledger) (a 
   pub next_reset : AreBegun limits task (entries ++ entry.Reset ∷ []) → HasNothing limits.mode a × (0 < length a.kept.tried)
   next_reset begun = by (next_step limits task entries here s.leads entry.Reset begun)
     where
-      by : (after : Place) × IsStep limits task entries here entry.Reset after
+      by : (after : ModePlace) × IsModeStep limits task entries here entry.Reset after
           → HasNothing limits.mode a × (0 < length a.kept.tried)
       by (after, goes_on d t is) = no_batch entry.Reset d refl t
       by (after, begins_level t) = absurd (let is = t.begins.is in cc)
@@ -179,7 +179,7 @@ module _ (limits : Limits) (task : Task) (entries : List Entry) (l : Ledger) (a 
   pub next_pick : (n : ℕ) → AreBegun limits task (entries ++ entry.Pick n ∷ []) → PicksIt n
   next_pick n begun = by (next_step limits task entries here s.leads (entry.Pick n) begun)
     where
-      by : (after : Place) × IsStep limits task entries here (entry.Pick n) after → PicksIt n
+      by : (after : ModePlace) × IsModeStep limits task entries here (entry.Pick n) after → PicksIt n
       by (after, goes_on d t is) = no_batch (entry.Pick n) d refl t
       by (after, begins_level t) = absurd (let is = t.begins.is in cc)
       by (after, tells_dream t) = absurd (let is = t.is in cc)
@@ -202,7 +202,7 @@ module _ (limits : Limits) (task : Task) (entries : List Entry) (l : Ledger) (a 
       → (place : ℕ) × (n ≡ place + 1) × (a.phase ≡ unasked place) × (is_over a.batch ≡ true)
   next_retire n begun = by (next_step limits task entries here s.leads (entry.Retire n) begun)
     where
-      by : (after : Place) × IsStep limits task entries here (entry.Retire n) after
+      by : (after : ModePlace) × IsModeStep limits task entries here (entry.Retire n) after
           → (place : ℕ) × (n ≡ place + 1) × (a.phase ≡ unasked place) × (is_over a.batch ≡ true)
       by (after, goes_on d t is) = no_batch (entry.Retire n) d refl t
       by (after, begins_level t) = absurd (let is = t.begins.is in cc)

@@ -12,7 +12,7 @@ use Rattle.transcript_model.specs.declared.report.Report.{Report}
 use Rattle.replay_check.proofs.RightReportLemmas.{no_breach}
 use Rattle.replay_check.specs.Kinds.{breach_number}
 use Rattle.replay_check.specs.Lines.{Precedes}
-use Rattle.replay_check.specs.Verdicts.{IsReportVerdict, IsRightReport, IsUndecided, IsVerdict}
+use Rattle.replay_check.specs.Verdicts.{IsReportVerdict, IsRightReport, IsUndecidedReport, IsVerdict}
 use Rattle.replay_check.specs.declared.verdict.BreachKind.{BreachKind}
 use Rattle.replay_check.specs.declared.verdict.BreachKind.TheVariants as kind
 use Rattle.replay_check.specs.declared.verdict.Verdict.{Verdict}
@@ -134,7 +134,7 @@ verdict_once limit task bytes v w (inr first) (inr second) =
 
 -- Of a report that is right, and whose claim is decided, nothing else is said.
 pub right_valid : (limit : ℕ) (task : Task) (r : Report) (v : Verdict) → IsFormed r
-    → IsRightReport task r → ¬ (IsUndecided limit task r)
+    → IsRightReport task r → ¬ (IsUndecidedReport limit task r)
     → IsVerdict limit task (text_of_report r) v → v ≡ Valid
 right_valid limit task r v formed right decided is =
     verdict_once limit task (text_of_report r) v Valid is

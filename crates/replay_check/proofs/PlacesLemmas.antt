@@ -7,8 +7,8 @@ use Rattle.mode_course.proofs.StepsLemmas.{at_first_rest, leads_on_once, leads_o
 use Rattle.mode_course.proofs.TurnedLemmas.{turned}
 use Rattle.mode_course.proofs.TurnsLemmas.{turns_lead}
 use Rattle.mode_course.proofs.WholeLemmas.{between_alone, step_of}
-use Rattle.mode_course.specs.Laws.{IsAt}
-use Rattle.mode_course.specs.Places.{Awaits, IsBatchStep, IsBehindDream, IsStep, LeadsOn, MayDream, Phase, Place, RunsNext, Settles, at_start, begins_level, falls_back, goes_on, moves, picks, resets, resting, retires, stays, tells_dream, tells_none, with_batch}
+use Rattle.mode_course.specs.Laws.{IsPlaceAt}
+use Rattle.mode_course.specs.Places.{AwaitsPhase, IsBatchStep, IsBehindDream, IsModeStep, LeadsOn, MayDream, Phase, ModePlace, RunsNext, Settles, at_start, begins_level, falls_back, goes_on, moves, picks, resets, resting, retires, stays, tells_dream, tells_none, with_batch}
 use Rattle.mode_turns.proofs.ModesLemmas.{as_family, of_mode}
 use Rattle.mode_turns.specs.Modes.{nothing_kept}
 use Rattle.pools.specs.Pools.{HaveWorkers}
@@ -78,47 +78,47 @@ module _ (limits : Limits) (task : Task) where
       by zero opens = opened_requests (before ++ e ∷ []) c.later c.is_cut d opens
       by (suc left) is = (before, 0, [], ap (λ (x : Course). x.asks) is)
 
-  run_requests : (over : Phase) (real : ℕ) (before : List Entry) (entries : List dreams.Entry) (sent : List Sent) (kept : Kept)
-      (q : Place) → RunsNext limits task over real before entries sent kept q → AreRequests task q.batch.asks
+  run_requests : (over : Phase) (real : ℕ) (before : List Entry) (entries : List dreams.SupposedEntry) (sent : List Sent) (kept : Kept)
+      (q : ModePlace) → RunsNext limits task over real before entries sent kept q → AreRequests task q.batch.asks
   run_requests over real before entries sent kept q r =
-      subst (λ (x : Place). AreRequests task x.batch.asks) (sym r.after_is) (opened_requests _ _ _ r.batch r.opens)
+      subst (λ (x : ModePlace). AreRequests task x.batch.asks) (sym r.after_is) (opened_requests _ _ _ r.batch r.opens)
 
-  settle_requests : (before : List Entry) (p q : Place) → Settles limits task before p q → AreRequests task p.batch.asks
+  settle_requests : (before : List Entry) (p q : ModePlace) → Settles limits task before p q → AreRequests task p.batch.asks
       → AreRequests task q.batch.asks
-  settle_requests before p q (stays settled is) are = subst (λ (x : Place). AreRequests task x.batch.asks) (sym is) are
+  settle_requests before p q (stays settled is) are = subst (λ (x : ModePlace). AreRequests task x.batch.asks) (sym is) are
   settle_requests before p q (moves real entries sent awaits r) are = run_requests resting real before entries sent p.kept q r
 
-  dream_requests : (m : Mode) (real : ℕ) (before : List Entry) (entries : List dreams.Entry) (p q : Place)
+  dream_requests : (m : Mode) (real : ℕ) (before : List Entry) (entries : List dreams.SupposedEntry) (p q : ModePlace)
       → IsBehindDream m limits task real before entries p q → AreRequests task p.batch.asks → AreRequests task q.batch.asks
   dream_requests Incremental real before entries p q behind are = absurd behind
   dream_requests Focused real before entries p q behind are =
-      subst (λ (x : Place). AreRequests task x.batch.asks) (sym behind.after_is) (opened_requests _ _ _ behind.batch behind.opens)
+      subst (λ (x : ModePlace). AreRequests task x.batch.asks) (sym behind.after_is) (opened_requests _ _ _ behind.batch behind.opens)
   dream_requests Binding real before entries p q behind are = run_requests resting real before entries [] p.kept q behind
   dream_requests Adaptive real before entries p q behind are =
-      subst (λ (x : Place). AreRequests task x.batch.asks) (sym behind) are
+      subst (λ (x : ModePlace). AreRequests task x.batch.asks) (sym behind) are
 
-  step_requests : (before : List Entry) (p : Place) (e : Entry) (q : Place) → IsStep limits task before p e q
+  step_requests : (before : List Entry) (p : ModePlace) (e : Entry) (q : ModePlace) → IsModeStep limits task before p e q
       → AreRequests task p.batch.asks → AreRequests task q.batch.asks
   step_requests before p e q (goes_on c s settles) are =
       settle_requests (before ++ e ∷ []) (with_batch p c) q settles (batch_requests before p.batch e c s are)
   step_requests before p e q (begins_level s) are =
-      subst (λ (x : Place). AreRequests task x.batch.asks) (sym s.after_is) (opened_requests _ _ _ s.batch s.begins.opens)
+      subst (λ (x : ModePlace). AreRequests task x.batch.asks) (sym s.after_is) (opened_requests _ _ _ s.batch s.begins.opens)
   step_requests before p e q (tells_dream s) are = dream_requests limits.mode _ _ s.entries p q s.behind are
-  step_requests before p e q (tells_none s) are = subst (λ (x : Place). AreRequests task x.batch.asks) (sym s.after_is) are
-  step_requests before p e q (resets s) are = subst (λ (x : Place). AreRequests task x.batch.asks) (sym s.after_is) are
+  step_requests before p e q (tells_none s) are = subst (λ (x : ModePlace). AreRequests task x.batch.asks) (sym s.after_is) are
+  step_requests before p e q (resets s) are = subst (λ (x : ModePlace). AreRequests task x.batch.asks) (sym s.after_is) are
   step_requests before p e q (falls_back s) are =
-      subst (λ (x : Place). AreRequests task x.batch.asks) (sym s.after_is) (opened_requests _ _ _ s.batch s.opens)
+      subst (λ (x : ModePlace). AreRequests task x.batch.asks) (sym s.after_is) (opened_requests _ _ _ s.batch s.opens)
   step_requests before p e q (picks s) are = run_requests _ _ _ _ _ _ q s.runs
-  step_requests before p e q (retires s) are = subst (λ (x : Place). AreRequests task x.batch.asks) (sym s.after_is) are
+  step_requests before p e q (retires s) are = subst (λ (x : ModePlace). AreRequests task x.batch.asks) (sym s.after_is) are
 
-  leads_requests : (p : Place) (before es : List Entry) (q : Place) → LeadsOn limits task p before es q
+  leads_requests : (p : ModePlace) (before es : List Entry) (q : ModePlace) → LeadsOn limits task p before es q
       → AreRequests task p.batch.asks → AreRequests task q.batch.asks
-  leads_requests p before [] q same are = subst (λ (x : Place). AreRequests task x.batch.asks) same are
+  leads_requests p before [] q same are = subst (λ (x : ModePlace). AreRequests task x.batch.asks) same are
   leads_requests p before (e ∷ es) q (m, step, more) are =
       leads_requests m (before ++ e ∷ []) es q more (step_requests before p e m step are)
 
   -- what goes on with a batch is a request or an answer
-  pub batch_no_mark : (entries : List Entry) (p : Place) (e : Entry) (d : Course) → LeadsOn limits task at_start [] entries p
+  pub batch_no_mark : (entries : List Entry) (p : ModePlace) (e : Entry) (d : Course) → LeadsOn limits task at_start [] entries p
       → IsBatchStep limits task entries p.batch e d → is_mark e ≡ false
   batch_no_mark entries p e d leads (inl m) =
       let are = leads_requests at_start [] entries p leads ([], 0, [], refl) in
@@ -127,7 +127,7 @@ module _ (limits : Limits) (task : Task) where
   batch_no_mark entries p e d leads (inr g) = answers_no_mark p.batch.next e g.to
 
   -- a request, or an answer, goes on with a batch
-  pub batch_of : (before : List Entry) (p : Place) (e : Entry) (q : Place) → is_mark e ≡ false → IsStep limits task before p e q
+  pub batch_of : (before : List Entry) (p : ModePlace) (e : Entry) (q : ModePlace) → is_mark e ≡ false → IsModeStep limits task before p e q
       → (d : Course) × IsBatchStep limits task before p.batch e d
   batch_of before p e q other (goes_on d s is) = (d, s)
   batch_of before p e q other (begins_level s) = absurd (true≢false (sym (ap is_mark s.begins.is) ∙ other))
@@ -143,19 +143,19 @@ module _ (limits : Limits) (task : Task) where
 pub between_inside : ¬ (between ≡ inside)
 between_inside e = absurd (cc)
 
-module _ (limits : Limits) (task : Task) (entries : List Entry) (p : Place) (leads : LeadsOn limits task at_start [] entries p) where
+module _ (limits : Limits) (task : Task) (entries : List Entry) (p : ModePlace) (leads : LeadsOn limits task at_start [] entries p) where
   -- an entry with which a turn goes on is a step from here
   pub next_step : (e : Entry) → AreBegun limits task (entries ++ e ∷ [])
-      → (after : Place) × IsStep limits task entries p e after
+      → (after : ModePlace) × IsModeStep limits task entries p e after
   next_step e begun = step_of limits task entries p leads e begun.0 begun.1
 
   -- turns lead to where they stop, unless that is inside one
-  pub stage_at : (stage : Stage) → ¬ (stage ≡ inside) → AreTurnsOf limits.mode limits task entries stage → IsAt p stage
+  pub stage_at : (stage : Stage) → ¬ (stage ≡ inside) → AreTurnsOf limits.mode limits task entries stage → IsPlaceAt p stage
   stage_at stage other turns =
       let to = turns_lead limits task nothing_kept [] entries stage at_start
       (as_family limits.mode limits task entries stage turns) refl at_first_rest in
       let same : to.last ≡ p = leads_on_once limits task at_start [] entries to.last p to.leads leads in
-      subst (λ (x : Place). IsAt x stage) same (to.at other)
+      subst (λ (x : ModePlace). IsPlaceAt x stage) same (to.at other)
 
   -- where a turn of a mode that dreams begins
   pub may_here : BeginsTurn limits task entries → MayDream limits task entries p
@@ -166,7 +166,7 @@ module _ (limits : Limits) (task : Task) (entries : List Entry) (p : Place) (lea
     -- the entries are turns that stop there
     pub record Stops : Type 0 where
       pub stage : Stage
-      pub at : IsAt p stage
+      pub at : IsPlaceAt p stage
       pub turns : AreTurnsOf limits.mode limits task entries stage
 
     pub stops : Stops
@@ -174,7 +174,7 @@ module _ (limits : Limits) (task : Task) (entries : List Entry) (p : Place) (lea
         let t = turned limits task workers (length entries) [] entries at_start p (omega arith) at_first_rest leads in
         record { stage = t.stage; at = t.at; turns = of_mode limits.mode limits task entries t.stage t.turns }
 
-    pub rests_between : Awaits p resting → AreTurnsOf limits.mode limits task entries between
+    pub rests_between : AwaitsPhase p resting → AreTurnsOf limits.mode limits task entries between
     rests_between awaits =
         let s = stops in
         subst (λ (x : Stage). AreTurnsOf limits.mode limits task entries x) (between_alone p s.stage awaits s.at) s.turns
@@ -183,8 +183,8 @@ module _ (limits : Limits) (task : Task) (entries : List Entry) (p : Place) (lea
     begins_here may = (may.mode, may.may, rests_between may.awaits)
 
 -- a step goes on with a turn
-pub step_begun : (limits : Limits) (task : Task) (entries : List Entry) (p : Place) → LeadsOn limits task at_start [] entries p
-    → HaveWorkers limits.pools → (e : Entry) (after : Place) → IsStep limits task entries p e after
+pub step_begun : (limits : Limits) (task : Task) (entries : List Entry) (p : ModePlace) → LeadsOn limits task at_start [] entries p
+    → HaveWorkers limits.pools → (e : Entry) (after : ModePlace) → IsModeStep limits task entries p e after
     → AreBegun limits task (entries ++ e ∷ [])
 step_begun limits task entries p leads workers e after step =
     let s = stops limits task (entries ++ e ∷ []) after

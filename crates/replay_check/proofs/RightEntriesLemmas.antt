@@ -9,7 +9,7 @@ use Rattle.level_course.specs.Courses.{Course}
 use Rattle.mode_course.proofs.StepsLemmas.{at_first_rest, leads_on_apart}
 use Rattle.mode_course.proofs.TurnsLemmas.{turns_lead}
 use Rattle.mode_course.proofs.WholeLemmas.{left_kept}
-use Rattle.mode_course.specs.Places.{IsBatchStep, IsStep, LeadsOn, Place, at_start, begins_level, falls_back, goes_on, picks, resets, retires, tells_dream, tells_none}
+use Rattle.mode_course.specs.Places.{IsBatchStep, IsModeStep, LeadsOn, ModePlace, at_start, begins_level, falls_back, goes_on, picks, resets, retires, tells_dream, tells_none}
 use Rattle.mode_turns.proofs.CountsLemmas.{turn_keeps, turns_keep}
 use Rattle.mode_turns.proofs.FrontsLemmas.{front_turns}
 use Rattle.mode_turns.proofs.ModesLemmas.{as_family, of_mode}
@@ -35,21 +35,21 @@ use Rattle.replay_check.specs.declared.verdict.BreachKind.TheVariants as kind
 
 -- a dream uses something
 some_uses : (limits : Limits) (task : Task) (before : List Entry) (tried : List Instance) (uses : List DreamUse) (steps : List Call)
-    (entries : List dreams.Entry) → IsDreamAfter limits task before tried uses steps entries → 0 < length uses
+    (entries : List dreams.SupposedEntry) → IsDreamAfter limits task before tried uses steps entries → 0 < length uses
 some_uses limits task before tried uses steps entries x =
     let numbers = ap length x.numbers in
     let uses_long = length-map uses (λ (u : DreamUse). u.number) in
     let places_long = length-map x.dream.places (λ place. place + 1) in
     let chosen = ap length x.dream.chosen in
     let there_long = length-map x.dream.places (slice_get x.list) in
-    let entries_long = length-map entries (λ (e : dreams.Entry). Some e) in
+    let entries_long = length-map entries (λ (e : dreams.SupposedEntry). Some e) in
     let some = x.dream.some in
     omega (arith, numbers, uses_long, places_long, chosen, there_long, entries_long, some)
 
 -- ---- an entry that is a step
 
 module _ (limits : Limits) (task : Task) (workers : HaveWorkers limits.pools)
-    (before : List Entry) (p q : Place) (leads : LeadsOn limits task at_start [] before p) where
+    (before : List Entry) (p q : ModePlace) (leads : LeadsOn limits task at_start [] before p) where
   kept_is : (k : Kept) → Leaves limits task before k → k ≡ p.kept
   kept_is k left = (left_kept limits task before p leads k left).1
 
@@ -58,8 +58,8 @@ module _ (limits : Limits) (task : Task) (workers : HaveWorkers limits.pools)
 
   -- ---- dreams
 
-  dream_step : (uses : List DreamUse) (steps : List Call) → IsStep limits task before p (entry.Dream uses steps) q
-      → BeginsTurn limits task before × (entries : List dreams.Entry) × IsDreamAfter limits task before p.kept.tried uses steps entries
+  dream_step : (uses : List DreamUse) (steps : List Call) → IsModeStep limits task before p (entry.Dream uses steps) q
+      → BeginsTurn limits task before × (entries : List dreams.SupposedEntry) × IsDreamAfter limits task before p.kept.tried uses steps entries
   dream_step uses steps (goes_on d t is) = no_batch (entry.Dream uses steps) d refl t
   dream_step uses steps (begins_level t) = absurd (let is = t.begins.is in cc)
   dream_step uses steps (tells_dream t) =
@@ -77,7 +77,7 @@ module _ (limits : Limits) (task : Task) (workers : HaveWorkers limits.pools)
   dream_step uses steps (picks t) = absurd (let is = t.is in cc)
   dream_step uses steps (retires t) = absurd (let is = t.is in cc)
 
-  none_step : IsStep limits task before p entry.Nothing q
+  none_step : IsModeStep limits task before p entry.Nothing q
       → BeginsTurn limits task before × HasNoDreamAfter limits task before p.kept.tried
   none_step (goes_on d t is) = no_batch entry.Nothing d refl t
   none_step (begins_level t) = absurd (let is = t.begins.is in cc)
@@ -90,7 +90,7 @@ module _ (limits : Limits) (task : Task) (workers : HaveWorkers limits.pools)
 
   -- ---- what could be wrong with it
 
-  in_order : (e : Entry) → IsStep limits task before p e q → AreBegun limits task (before ++ e ∷ [])
+  in_order : (e : Entry) → IsModeStep limits task before p e q → AreBegun limits task (before ++ e ∷ [])
       → IsOutOfOrder limits task before e → ⊥
   in_order (entry.Dream uses steps) step begun bad =
       let d = dream_step uses steps step in
@@ -105,7 +105,7 @@ module _ (limits : Limits) (task : Task) (workers : HaveWorkers limits.pools)
   in_order (entry.Pick n) step begun bad = bad begun
   in_order (entry.Retire n) step begun bad = bad begun
 
-  dream_right : (e : Entry) (offset : ℕ) → IsStep limits task before p e q → IsFalseDream limits task before e offset → ⊥
+  dream_right : (e : Entry) (offset : ℕ) → IsModeStep limits task before p e q → IsFalseDream limits task before e offset → ⊥
   dream_right (entry.Dream uses steps) offset step (k, left, wrong) =
       let d = dream_step uses steps step in
       dream_lines limits task before p.kept.tried uses steps d.1 d.2 offset
@@ -120,7 +120,7 @@ module _ (limits : Limits) (task : Task) (workers : HaveWorkers limits.pools)
   dream_right (entry.Pick n) offset step wrong = wrong
   dream_right (entry.Retire n) offset step wrong = wrong
 
-  none_right : (e : Entry) → IsStep limits task before p e q → IsFalseNone limits task before e → ⊥
+  none_right : (e : Entry) → IsModeStep limits task before p e q → IsFalseNone limits task before e → ⊥
   none_right entry.Nothing step (k, left, wrong) =
       wrong (subst (λ (x : Kept). HasNoDreamAfter limits task before x.tried) (sym (kept_is k left)) (none_step step).1)
   none_right (entry.Dream uses steps) step wrong = wrong
@@ -182,10 +182,10 @@ module _ (limits : Limits) (task : Task) (entries : List Entry) (stage : Stage)
 
   -- where the entries before it lead, and it is a step from there
   pub record HasStep (place : ℕ) (e : Entry) : Type 0 where
-    pub from : Place
-    pub to : Place
+    pub from : ModePlace
+    pub to : ModePlace
     pub leads : LeadsOn limits task at_start [] (take place entries) from
-    pub step : IsStep limits task (take place entries) from e to
+    pub step : IsModeStep limits task (take place entries) from e to
 
   has_step : (place : ℕ) (e : Entry) → slice_get entries place ≡ Some e → HasStep place e
   has_step place e at =

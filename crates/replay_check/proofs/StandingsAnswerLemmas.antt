@@ -65,7 +65,7 @@ starts_counted pools calls es list number cut b st next bound none =
     }
 
 -- where the want of a dream doesn't come behind a dream's last batch, it comes behind none
-pub behind_dreams : (over : Phase) (cut : Bool) (real : ℕ) (entries : List dreams.Entry) (sent next : List Sent)
+pub behind_dreams : (over : Phase) (cut : Bool) (real : ℕ) (entries : List dreams.SupposedEntry) (sent next : List Sent)
     → is_undreamt over ≡ false → is_undreamt (phase_behind over cut real entries sent next) ≡ false
 behind_dreams over cut real entries sent [] other = other
 behind_dreams over true real entries sent (s ∷ next) other = refl

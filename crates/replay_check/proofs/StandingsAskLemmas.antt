@@ -7,7 +7,7 @@ use Rattle.level_course.specs.Agendas.{place_in, with_asked}
 use Rattle.mode_course.proofs.KeepsLemmas.{run_asked}
 use Rattle.mode_course.proofs.StepsLemmas.{leads_on_then}
 use Rattle.mode_course.specs.Agendas.{ModeAgenda, mode_place_in, nothing_begun, with_agenda}
-use Rattle.mode_course.specs.Places.{IsStep, LeadsOn, Place, at_start, goes_on, stays, undreamt}
+use Rattle.mode_course.specs.Places.{IsModeStep, LeadsOn, ModePlace, at_start, goes_on, stays, undreamt}
 use Rattle.task_model.specs.Known.{Known}
 use Rattle.task_model.specs.Streams.{yields_of}
 use Rattle.task_model.specs.declared.stream.Instance.{Instance}
@@ -66,7 +66,7 @@ stands_first limits task l ledger =
 
 module _ (limits : Limits) (task : Task) (entries : List Entry) (l : Ledger) (a : ModeAgenda)
     (s : StandsBehind limits task entries l a) where
-  pub one_step : (e : Entry) (after : Place) → IsStep limits task entries (mode_place_in task entries a) e after
+  pub one_step : (e : Entry) (after : ModePlace) → IsModeStep limits task entries (mode_place_in task entries a) e after
       → LeadsOn limits task at_start [] (entries ++ e ∷ []) after
   one_step e after step =
       leads_on_then limits task at_start [] entries (e ∷ []) (mode_place_in task entries a) after s.leads (after, step, refl)

@@ -4,12 +4,12 @@ use Rattle.std.proofs.lemmas.Bool.{true≢false, false_from_ne_true}
 use Rattle.std.proofs.lemmas.List.{length-take, nil_from_length}
 use Rattle.dream_asks.specs.Next.{asked_instances}
 use Rattle.dream_asks.specs.Progress.{numbered}
-use Rattle.instance_queue.specs.Level.{instances_of}
+use Rattle.instance_queue.specs.Level.{due_instances}
 use Rattle.instance_queue.specs.declared.due.Due.{Due}
 use Rattle.level_course.specs.Agendas.{Agenda, Starts}
 use Rattle.mode_course.proofs.StepsLemmas.{phases_differ}
-use Rattle.mode_course.specs.Agendas.{Begins, KeepsRun, ModeAgenda, MovesOn, is_undreamt, left_behind, mode_place_in, with_run}
-use Rattle.mode_course.specs.Places.{Awaits, IsStep, Phase, is_repeated, undreamt}
+use Rattle.mode_course.specs.Agendas.{BeginsBatch, KeepsRun, ModeAgenda, MovesOn, is_undreamt, left_behind, mode_place_in, with_run}
+use Rattle.mode_course.specs.Places.{AwaitsPhase, IsModeStep, Phase, is_repeated, undreamt}
 use Rattle.mode_course.specs.Running.{made_by, sent_of}
 use Rattle.lemmas.proofs.Counts.{count_joined, count_one}
 use Rattle.task_model.specs.Dreams as dreams
@@ -88,7 +88,7 @@ module _ (limits : Limits) (task : Task) (entries : List Entry) (l : Ledger) (a 
   closed_behind idle m = false_from_ne_true (is_open (entries ++ e ∷ []) m) (λ waits. none_waits idle m waits)
 
   module _ (b : ModeAgenda) (idle : a.batch.answers ≡ 0)
-      (step : IsStep limits task entries (mode_place_in task entries a) e (mode_place_in task (entries ++ e ∷ []) b)) where
+      (step : IsModeStep limits task entries (mode_place_in task entries a) e (mode_place_in task (entries ++ e ∷ []) b)) where
     -- a batch begins behind it
     pub batch_onward : (list : List Instance) (number : ℕ) (cut : Bool) → Starts limits.pools list number cut b.batch
         → number ≡ asks_of entries + 1 → asks_of entries + length list ≤ limits.calls → KeepsRun limits.calls (entries ++ e ∷ []) b
@@ -105,18 +105,18 @@ module _ (limits : Limits) (task : Task) (entries : List Entry) (l : Ledger) (a 
         }
 
     -- a batch begins behind it, behind which comes the next turn
-    pub begun_onward : (dues : List Due) (kept : Kept) → Begins limits.pools dues (asks_of entries) limits.calls kept b
+    pub begun_onward : (dues : List Due) (kept : Kept) → BeginsBatch limits.pools dues (asks_of entries) limits.calls kept b
         → StandsBehind limits task (entries ++ e ∷ []) l b
     begun_onward dues kept begins =
         let most = limits.calls - asks_of entries in
         let bound = s.counts.left in
-        let taken = length-take most (instances_of dues) in
-        batch_onward (take most (instances_of dues)) (asks_of entries + 1) (nat_lt most (length dues)) begins.batch refl
+        let taken = length-take most (due_instances dues) in
+        batch_onward (take most (due_instances dues)) (asks_of entries + 1) (nat_lt most (length dues)) begins.batch refl
         (omega (arith, bound, taken)) (λ repeats. absurd (true≢false (sym repeats ∙ ap is_repeated begins.phase_is)))
         (λ is. phases_differ (sym begins.phase_is ∙ is))
 
     -- a batch of a dream begins behind it
-    pub moves_onward : (known : Known) (notes : List Note) (over : Phase) (needs : List dreams.Entry) (real from before : ℕ)
+    pub moves_onward : (known : Known) (notes : List Note) (over : Phase) (needs : List dreams.SupposedEntry) (real from before : ℕ)
         (middle : ModeAgenda) → is_undreamt over ≡ false → before ≡ asks_of entries
         → MovesOn task known notes [] limits.pools over limits.calls (with_run a needs real from before) middle
         → b.batch ≡ middle.batch → b.phase ≡ middle.phase → KeepsRun limits.calls (entries ++ e ∷ []) b
@@ -137,7 +137,7 @@ module _ (limits : Limits) (task : Task) (entries : List Entry) (l : Ledger) (a 
     -- none begins behind it
     pub mark_onward : b.batch ≡ a.batch → is_repeated b.phase ≡ false
         → (b.phase ≡ undreamt
-        → Awaits (mode_place_in task (entries ++ e ∷ []) b) undreamt × MayBegin limits task (entries ++ e ∷ []))
+        → AwaitsPhase (mode_place_in task (entries ++ e ∷ []) b) undreamt × MayBegin limits task (entries ++ e ∷ []))
         → StandsBehind limits task (entries ++ e ∷ []) l b
     mark_onward batch no_run dreamless =
         let same = adds.asks in

@@ -6,7 +6,7 @@ use Rattle.mode_course.proofs.MadeLemmas.{awaits_where, dreamt_awaits, pick_made
 use Rattle.mode_course.proofs.FewLemmas.{agenda_few, pick_left as call_left}
 use Rattle.mode_course.proofs.StepsLemmas.{phases_differ, picked_place}
 use Rattle.mode_course.specs.Agendas.{HasPicked, KeepsRun, is_over, mode_place_in}
-use Rattle.mode_course.specs.Places.{AwaitsPick, Place, is_repeated, picks, resting, retires, unasked}
+use Rattle.mode_course.specs.Places.{AwaitsPick, ModePlace, is_repeated, picks, resting, retires, unasked}
 use Rattle.task_model.specs.Known.{Known}
 use Rattle.task_model.specs.Streams.{Note}
 use Rattle.task_model.specs.declared.task.Task.{Task}
@@ -44,7 +44,7 @@ module _ (b : Bounds) (entries : List Entry) (place : ℕ) (s : Standing) (can :
   abbrev stands : StandsBehind limits task before s.ledger s.course
   stands = can.standing.stands
 
-  abbrev here : Place
+  abbrev here : ModePlace
   here = mode_place_in task before s.course
 
   -- ---- picks

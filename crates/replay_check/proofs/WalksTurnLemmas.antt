@@ -6,14 +6,14 @@ use Rattle.dream_asks.proofs.FirstLemmas.{first_sent}
 use Rattle.dream_asks.specs.First.{first_instances}
 use Rattle.dream_check.specs.Judged.{IsUndecidedNone}
 use Rattle.dream_check.specs.Lines.{IsFirstWrongLine}
-use Rattle.instance_queue.specs.Level.{instances_of}
+use Rattle.instance_queue.specs.Level.{due_instances}
 use Rattle.instance_queue.specs.declared.due.Due.{Due}
 use Rattle.mode_course.proofs.KeepsLemmas.{run_followed}
 use Rattle.mode_course.proofs.MadeLemmas.{between_awaits, dream_made, fallback_made, keep_made, level_made, none_made, reset_made, run_made, undreamt_awaits}
 use Rattle.mode_course.proofs.StepsLemmas.{phases_differ}
 use Rattle.mode_course.proofs.WholeLemmas.{kept_left, left_kept}
-use Rattle.mode_course.specs.Agendas.{Begins, ModeAgenda, MovesOn, mode_place_in, with_run}
-use Rattle.mode_course.specs.Places.{Awaits, MayDream, Phase, Place, begins_level, dreamt, falls_back, forgetting, is_repeated, joining, keeping, resets, resting, sent_first, tells_dream, tells_none, undreamt}
+use Rattle.mode_course.specs.Agendas.{BeginsBatch, ModeAgenda, MovesOn, mode_place_in, with_run}
+use Rattle.mode_course.specs.Places.{AwaitsPhase, MayDream, Phase, ModePlace, begins_level, dreamt, falls_back, forgetting, is_repeated, joining, keeping, resets, resting, sent_first, tells_dream, tells_none, undreamt}
 use Rattle.mode_turns.specs.Modes.{Leaves}
 use Rattle.task_model.specs.Dreams as dreams
 use Rattle.task_model.specs.Known.{Known}
@@ -39,7 +39,7 @@ use Rattle.replay_check.proofs.WalksLemmas.{is_taken, is_wrong}
 use Rattle.replay_check.proofs.WrongLemmas.{mark_order, open_none, wrong_dream, wrong_none}
 use Rattle.replay_check.specs.Breaches.{BeginsTurn}
 use Rattle.replay_check.specs.Standings.{IsStanding, StandsBehind, limits_by}
-use Rattle.replay_check.specs.Turns.{AreDueFor, AsksLevel, AsksOnce, GoesOn, HasNothing, KeepsDream, RunsDream}
+use Rattle.replay_check.specs.Turns.{AreDueFor, AsksLevel, AsksOnce, GoesOnBehind, HasNothing, KeepsDream, RunsDream}
 use Rattle.replay_check.specs.Verdicts.{IsOpenNone}
 use Rattle.replay_check.specs.Walks.{CanTake, IsOpenAt, IsWrongAt}
 use Rattle.replay_check.specs.declared.bounds.Bounds.{Bounds}
@@ -63,15 +63,15 @@ module _ (b : Bounds) (entries : List Entry) (place : ℕ) (s : Standing) (can :
   abbrev stands : StandsBehind limits task before s.ledger s.course
   stands = can.standing.stands
 
-  abbrev here : Place
+  abbrev here : ModePlace
   here = mode_place_in task before s.course
 
   -- the batch begins behind so many requests
   pub begins_counted : (dues : List Due) (n : ℕ) (new : ModeAgenda) (kept : ℕ → Kept) → n ≡ length s.ledger.asked.items
-      → Begins limits.pools dues n b.calls (kept n) new
-      → Begins limits.pools dues (asks_of before) limits.calls (kept (asks_of before)) new
+      → BeginsBatch limits.pools dues n b.calls (kept n) new
+      → BeginsBatch limits.pools dues (asks_of before) limits.calls (kept (asks_of before)) new
   begins_counted dues n new kept is begins =
-      subst (λ m. Begins limits.pools dues m b.calls (kept m) new) (is ∙ stands.ledger.counted) begins
+      subst (λ m. BeginsBatch limits.pools dues m b.calls (kept m) new) (is ∙ stands.ledger.counted) begins
 
   -- the line is the last of so many entries
   pub line_length : (e : Entry) → slice_get entries place ≡ Some e → place + 1 ≡ length (before ++ e ∷ [])
@@ -81,7 +81,7 @@ module _ (b : Bounds) (entries : List Entry) (place : ℕ) (s : Standing) (can :
       omega (arith, within, front, length-append before (e ∷ []))
 
   -- a dream's batches begin behind so many entries and so many requests
-  moves_counted : (e : Entry) → slice_get entries place ≡ Some e → is_mark e ≡ true → (needs : List dreams.Entry) (real : ℕ)
+  moves_counted : (e : Entry) → slice_get entries place ≡ Some e → is_mark e ≡ true → (needs : List dreams.SupposedEntry) (real : ℕ)
       (new : ModeAgenda) (over : Phase)
       → MovesOn task s.ledger.facts.known s.ledger.queue [] limits.pools over limits.calls
       (with_run s.course needs real (place + 1) (length s.ledger.asked.items)) new
@@ -109,7 +109,7 @@ module _ (b : Bounds) (entries : List Entry) (place : ℕ) (s : Standing) (can :
         (λ begun. bad (next_level limits task before s.ledger s.course stands begun).1))
 
     module _ (new : Standing) (dues : List Due) (ledger : new.ledger ≡ s.ledger) (due : AreDueFor limits task before dues)
-        (begins : Begins limits.pools dues (asks_of before) limits.calls s.course.kept new.course) where
+        (begins : BeginsBatch limits.pools dues (asks_of before) limits.calls s.course.kept new.course) where
       level_stands : AsksLevel b.mode s.course
           → StandsBehind limits task (before ++ entry.Level ∷ []) s.ledger new.course
       level_stands (inl (mode, between)) =
@@ -119,7 +119,7 @@ module _ (b : Bounds) (entries : List Entry) (place : ℕ) (s : Standing) (can :
           dues s.course.kept begins
       level_stands (inr (nothing, untried)) =
           let awaits = undreamt_awaits task before s.course nothing.0 in
-          let all : AreDue task (known_of task before) (notes_of task before) (instances_of dues) =
+          let all : AreDue task (known_of task before) (notes_of task before) (due_instances dues) =
           subst (AreDue task (known_of task before) (notes_of task before)) (sym due.1) due.0.due in
           begun_onward limits task before s.ledger s.course stands entry.Level refl new.course awaits.answered
           (falls_back
@@ -180,7 +180,7 @@ module _ (b : Bounds) (entries : List Entry) (place : ℕ) (s : Standing) (can :
           is_wrong b entries place s can (entry.Dream uses steps) there offset kind.Dream
           (wrong_dream b.limit limits task before begins s.course.kept left alone uses steps offset some wrong)
 
-      module _ (needs : List dreams.Entry) (dream : IsDreamAfter limits task before s.course.kept.tried uses steps needs)
+      module _ (needs : List dreams.SupposedEntry) (dream : IsDreamAfter limits task before s.course.kept.tried uses steps needs)
           (new : Standing) where
         abbrev line : Entry
         line = entry.Dream uses steps
@@ -211,7 +211,7 @@ module _ (b : Bounds) (entries : List Entry) (place : ℕ) (s : Standing) (can :
 
         module _ (h : AsksOnce b needs s new) where
           -- what is asked of it is what the definition of turns asks first
-          asked_first : instances_of h.dues ≡ sent_instances (sent_first task (length (names_of task before)) marked needs)
+          asked_first : due_instances h.dues ≡ sent_instances (sent_first task (length (names_of task before)) marked needs)
           asked_first =
               h.asks.instances ∙ (λ i. first_instances task (known_behind i) (notes_behind i) (real_is i) needs)
               ∙ sym (first_sent task marked (length (names_of task before)) (asks_of marked + 1) needs
@@ -219,7 +219,7 @@ module _ (b : Bounds) (entries : List Entry) (place : ℕ) (s : Standing) (can :
 
           once_taken : b.mode ≡ Focused → IsStanding b (take (place + 1) entries) new
           once_taken mode =
-              let kept = λ (n : ℕ). joining s.course.kept (take (b.calls - n) (instances_of h.dues)) in
+              let kept = λ (n : ℕ). joining s.course.kept (take (b.calls - n) (due_instances h.dues)) in
               let begun = begins_counted h.dues (length s.ledger.asked.items) new.course kept refl h.begins in
               dream_onward h.ledger_is
               (begun_onward limits task before s.ledger s.course stands line refl new.course may.awaits.answered
@@ -261,13 +261,13 @@ module _ (b : Bounds) (entries : List Entry) (place : ℕ) (s : Standing) (can :
             (λ is. absurd (let both : dreamt ≡ undreamt = sym h.phase_is ∙ is in cc)))
 
         -- in each mode that dreams
-        by_mode : (m : Mode) → b.mode ≡ m → GoesOn m b (place + 1) needs s new → IsStanding b (take (place + 1) entries) new
+        by_mode : (m : Mode) → b.mode ≡ m → GoesOnBehind m b (place + 1) needs s new → IsStanding b (take (place + 1) entries) new
         by_mode Incremental mode h = absurd (may.mode mode)
         by_mode Focused mode h = once_taken h mode
         by_mode Binding mode h = run_taken mode h
         by_mode Adaptive mode h = keep_taken mode h
 
-        pub dream_taken : GoesOn b.mode b (place + 1) needs s new → IsStanding b (take (place + 1) entries) new
+        pub dream_taken : GoesOnBehind b.mode b (place + 1) needs s new → IsStanding b (take (place + 1) entries) new
         dream_taken h = by_mode b.mode refl h
 
     -- ---- the want of a dream
@@ -297,7 +297,7 @@ module _ (b : Bounds) (entries : List Entry) (place : ℕ) (s : Standing) (can :
           → new.course.batch ≡ s.course.batch → new.course.phase ≡ undreamt → new.course.kept ≡ s.course.kept
           → IsStanding b (take (place + 1) entries) new
       none_taken new no_dream decided ledger batch phase kept =
-          let awaits : Awaits (mode_place_in task (before ++ entry.Nothing ∷ []) new.course) undreamt = record {
+          let awaits : AwaitsPhase (mode_place_in task (before ++ entry.Nothing ∷ []) new.course) undreamt = record {
             phase_is = phase;
             answered = ap (λ x. x.answers) batch ∙ may.awaits.answered;
             uncut = ap (λ x. x.is_cut) batch ∙ may.awaits.uncut;

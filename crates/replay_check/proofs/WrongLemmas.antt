@@ -15,7 +15,7 @@ use Rattle.transcript_model.specs.declared.entry.Entry.TheVariants as entry
 use Rattle.replay_check.specs.Breaches.{AreBegun, BeginsTurn, BreaksEntry, IsOutOfOrder, MayAsk}
 use Rattle.replay_check.specs.Kinds.{breach_number}
 use Rattle.replay_check.specs.Lines.{Precedes}
-use Rattle.replay_check.specs.Standings.{IsOpen, IsWrong, NoLineEarlier}
+use Rattle.replay_check.specs.Standings.{IsOpenEntry, IsWrong, NoLineEarlier}
 use Rattle.replay_check.specs.Verdicts.{IsOpenNone}
 use Rattle.replay_check.specs.declared.verdict.BreachKind.{BreachKind}
 use Rattle.replay_check.specs.declared.verdict.BreachKind.TheVariants as kind
@@ -196,5 +196,5 @@ module _ (limit : ℕ) (limits : Limits) (task : Task) (before : List Entry) whe
           decided = λ none unsure. absurd (closed unsure);
         }
 
-    pub open_none : IsOpenNone limit limits task before → IsOpen limit limits task before entry.Nothing
+    pub open_none : IsOpenNone limit limits task before → IsOpenEntry limit limits task before entry.Nothing
     open_none unsure = record { is = refl; unsure = unsure; first = none_first }

@@ -44,7 +44,7 @@ module _ (limits : Limits) (limit : ℕ) (task : Task) (entries : List Entry) (o
 
   -- It has its place, and it may stand here if what it says is true. The limit of calls has one inside a batch, where
   -- it is false.
-  pub record IsPlaced : Type 0 where
+  pub record IsEndPlaced : Type 0 where
     pub place : HasPlace limits task entries o
     pub stands : IsTrueOutcome limits task entries o → IsRightEnd
 

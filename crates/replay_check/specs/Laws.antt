@@ -4,7 +4,7 @@ use Rattle.task_model.specs.declared.task.Task.{Task}
 use Rattle.report_text.specs.Forms.{IsFormed}
 use Rattle.report_text.specs.Texts.{text_of_report}
 use Rattle.transcript_model.specs.declared.report.Report.{Report}
-use Rattle.replay_check.specs.Verdicts.{IsRightReport, IsUndecided, IsVerdict}
+use Rattle.replay_check.specs.Verdicts.{IsRightReport, IsUndecidedReport, IsVerdict}
 use Rattle.replay_check.specs.declared.verdict.Verdict.{Verdict}
 use Rattle.replay_check.specs.declared.verdict.Verdict.TheVariants.{Valid}
 
@@ -12,7 +12,7 @@ use Rattle.replay_check.specs.declared.verdict.Verdict.TheVariants.{Valid}
 abbrev pub RightReportsAreValid : Type 0
 RightReportsAreValid =
     (limit : ℕ) (task : Task) (r : Report) (v : Verdict) → IsFormed r → IsRightReport task r
-    → ¬ (IsUndecided limit task r) → IsVerdict limit task (text_of_report r) v → v ≡ Valid
+    → ¬ (IsUndecidedReport limit task r) → IsVerdict limit task (text_of_report r) v → v ≡ Valid
 
 -- Of one text, with one limit, one thing is said.
 abbrev pub VerdictsAreUnique : Type 0

@@ -2,7 +2,7 @@
 use Rattle.std.specs.Prelude.{◌≡◌, ℕ, ◌+◌, ◌≤◌, List, [], length, take, true, Some, slice_get}
 use Rattle.level_course.specs.Agendas.{Agenda}
 use Rattle.mode_course.specs.Agendas.{KeepsRun, ModeAgenda, mode_place_in}
-use Rattle.mode_course.specs.Places.{Awaits, LeadsOn, at_start, undreamt}
+use Rattle.mode_course.specs.Places.{AwaitsPhase, LeadsOn, at_start, undreamt}
 use Rattle.pools.specs.Pools.{HaveWorkers, shares_of}
 use Rattle.task_model.specs.Fit.{IsFit}
 use Rattle.task_model.specs.Streams.{yields_of}
@@ -66,7 +66,7 @@ pub record StandsBehind (limits : Limits) (task : Task) (entries : List Entry) (
   pub counts : IsCounted limits.calls entries a.batch
   pub run : KeepsRun limits.calls entries a
   pub dreamless : a.phase ≡ undreamt
-      → Awaits (mode_place_in task entries a) undreamt × MayBegin limits task entries
+      → AwaitsPhase (mode_place_in task entries a) undreamt × MayBegin limits task entries
 
 -- wherever it was said that there is no dream, that is decided
 abbrev pub AreDecided : ℕ → Limits → Task → List Entry → Type 0
@@ -95,7 +95,7 @@ pub record IsWrong (limit : ℕ) (limits : Limits) (task : Task) (before : List 
   pub decided : e ≡ entry.Nothing → IsOpenNone limit limits task before → Precedes offset k 0 kind.Outcome
 
 -- The entry says that there is no dream, which isn't decided, and no line of it is wrong in another way.
-pub record IsOpen (limit : ℕ) (limits : Limits) (task : Task) (before : List Entry) (e : Entry) : Type 0 where
+pub record IsOpenEntry (limit : ℕ) (limits : Limits) (task : Task) (before : List Entry) (e : Entry) : Type 0 where
   pub is : e ≡ entry.Nothing
   pub unsure : IsOpenNone limit limits task before
   pub first : NoLineEarlier limits task before e 0 kind.Outcome

@@ -1,9 +1,9 @@
 -- What turns begin with, and what comes behind their lines.
 use Rattle.std.specs.Prelude.{◌≡◌, ◌⊎◌, ◌&&◌, ◌-◌, ℕ, List, [], length, take, true}
 use Rattle.dream_asks.specs.First.{AreFirstAsks}
-use Rattle.instance_queue.specs.Level.{instances_of}
+use Rattle.instance_queue.specs.Level.{due_instances}
 use Rattle.instance_queue.specs.declared.due.Due.{Due}
-use Rattle.mode_course.specs.Agendas.{Begins, HasPicked, HasSettled, ModeAgenda, MovesOn, is_dreamt, is_over, is_resting, is_undreamt, with_run}
+use Rattle.mode_course.specs.Agendas.{BeginsBatch, HasPicked, HasSettled, ModeAgenda, MovesOn, is_dreamt, is_over, is_resting, is_undreamt, with_run}
 use Rattle.mode_course.specs.Places.{HasNoneToPick, dreamt, joining, keeping, resting}
 use Rattle.pools.specs.Pools.{shares_of}
 use Rattle.task_model.specs.Dreams as dreams
@@ -19,7 +19,7 @@ use Rattle.replay_check.specs.declared.standing.Standing.{Standing}
 -- a turn may begin, as far as what is due and the calls go, and this is due
 abbrev pub AreDueFor : Limits → Task → List Entry → List Due → Type 0
 AreDueFor limits task entries dues =
-    (may : MayBegin limits task entries) × (instances_of dues ≡ may.list)
+    (may : MayBegin limits task entries) × (due_instances dues ≡ may.list)
 
 -- There is no dream, and in adaptive mode no skeleton to pick either.
 abbrev pub HasNothing : Mode → ModeAgenda → Type 0
@@ -41,35 +41,35 @@ PicksNext mode a =
 -- ---- behind a dream
 
 -- The one batch begins over what may be asked first of these entries, which joins what was tried.
-pub record AsksOnce (b : Bounds) (entries : List dreams.Entry) (old new : Standing) : Type 0 where
+pub record AsksOnce (b : Bounds) (entries : List dreams.SupposedEntry) (old new : Standing) : Type 0 where
   pub dues : List Due
   pub asks : AreFirstAsks b.task.now old.ledger.facts.known old.ledger.queue
       (length old.ledger.facts.known.names) entries dues
-  pub begins : Begins (shares_of b.pools.now) dues (length old.ledger.asked.items) b.calls
-      (joining old.course.kept (take (b.calls - length old.ledger.asked.items) (instances_of dues)))
+  pub begins : BeginsBatch (shares_of b.pools.now) dues (length old.ledger.asked.items) b.calls
+      (joining old.course.kept (take (b.calls - length old.ledger.asked.items) (due_instances dues)))
       new.course
   pub ledger_is : new.ledger ≡ old.ledger
 
 -- The first of the batches begins, behind a line that is the last of so many entries.
-pub record RunsDream (b : Bounds) (from : ℕ) (entries : List dreams.Entry) (old new : Standing) : Type 0 where
+pub record RunsDream (b : Bounds) (from : ℕ) (entries : List dreams.SupposedEntry) (old new : Standing) : Type 0 where
   pub moves : MovesOn b.task.now old.ledger.facts.known old.ledger.queue [] (shares_of b.pools.now) resting b.calls
       (with_run old.course entries (length old.ledger.facts.known.names) from (length old.ledger.asked.items))
       new.course
   pub ledger_is : new.ledger ≡ old.ledger
 
 -- The dream becomes the last skeleton, and one is picked next.
-pub record KeepsDream (entries : List dreams.Entry) (old new : Standing) : Type 0 where
+pub record KeepsDream (entries : List dreams.SupposedEntry) (old new : Standing) : Type 0 where
   pub batch_is : new.course.batch ≡ old.course.batch
   pub phase_is : new.course.phase ≡ dreamt
   pub kept_is : new.course.kept ≡ keeping old.course.kept entries (length old.ledger.facts.known.names)
   pub ledger_is : new.ledger ≡ old.ledger
 
 -- the judge goes on behind a dream with these entries, whose line is the last of so many entries
-abbrev pub GoesOn : Mode → Bounds → ℕ → List dreams.Entry → Standing → Standing → Type 0
-GoesOn Incremental b from entries old new = AsksOnce b entries old new
-GoesOn Focused b from entries old new = AsksOnce b entries old new
-GoesOn Binding b from entries old new = RunsDream b from entries old new
-GoesOn Adaptive b from entries old new = KeepsDream entries old new
+abbrev pub GoesOnBehind : Mode → Bounds → ℕ → List dreams.SupposedEntry → Standing → Standing → Type 0
+GoesOnBehind Incremental b from entries old new = AsksOnce b entries old new
+GoesOnBehind Focused b from entries old new = AsksOnce b entries old new
+GoesOnBehind Binding b from entries old new = RunsDream b from entries old new
+GoesOnBehind Adaptive b from entries old new = KeepsDream entries old new
 
 -- ---- behind a pick, and behind an answer
 

@@ -59,8 +59,8 @@ IsUndecidedAt limit task r line =
     ((line ≡ outcome_line r) × IsUndecidedClaim limit (reported_limits task r) task r.entries r.outcome)
     ⊎ HasOpenNone limit task r line
 
-abbrev pub IsUndecided : ℕ → Task → Report → Type 0
-IsUndecided limit task r = (line : ℕ) × IsUndecidedAt limit task r line
+abbrev pub IsUndecidedReport : ℕ → Task → Report → Type 0
+IsUndecidedReport limit task r = (line : ℕ) × IsUndecidedAt limit task r line
 
 -- ---- reports
 
@@ -85,7 +85,7 @@ pub record IsFirstBreach (limit : ℕ) (task : Task) (r : Report) (line : ℕ) (
   pub decided : (other : ℕ) → IsUndecidedAt limit task r other → Precedes line k other kind.Outcome
 
 abbrev pub IsReportVerdict : ℕ → Task → Report → Verdict → Type 0
-IsReportVerdict limit task r Valid = IsRightReport task r × ¬ (IsUndecided limit task r)
+IsReportVerdict limit task r Valid = IsRightReport task r × ¬ (IsUndecidedReport limit task r)
 IsReportVerdict limit task r (Invalid line k) = IsFirstBreach limit task r line k
 IsReportVerdict limit task r Limit =
     (line : ℕ) × IsUndecidedAt limit task r line × NonePrecedes task r line kind.Outcome

@@ -2,7 +2,7 @@
 use Rattle.std.specs.Prelude.{◌≡◌, ℕ, ◌+◌, ◌<◌, List, take, length, All, Some, slice_get}
 use Rattle.report_text.specs.Forms.{IsFormedEntry}
 use Rattle.transcript_model.specs.declared.entry.Entry.{Entry}
-use Rattle.replay_check.specs.Standings.{AreBounds, IsOpen, IsStanding, IsWrong, limits_by}
+use Rattle.replay_check.specs.Standings.{AreBounds, IsOpenEntry, IsStanding, IsWrong, limits_by}
 use Rattle.replay_check.specs.declared.bounds.Bounds.{Bounds}
 use Rattle.replay_check.specs.declared.entries.Walked.{Walked}
 use Rattle.replay_check.specs.declared.entries.Walked.TheVariants as walked
@@ -19,7 +19,7 @@ pub record CanTake (b : Bounds) (entries : List Entry) (place : ℕ) (s : Standi
   pub standing : IsStanding b (take place entries) s
 
 -- the judge stands before the entry at this place, of which that is said
-pub record StopsAt (b : Bounds) (entries : List Entry) (place : ℕ) (said : Entry → Type 0) : Type 0 where
+pub record StopsBefore (b : Bounds) (entries : List Entry) (place : ℕ) (said : Entry → Type 0) : Type 0 where
   pub before : Standing
   pub standing : IsStanding b (take place entries) before
   pub e : Entry
@@ -29,12 +29,12 @@ pub record StopsAt (b : Bounds) (entries : List Entry) (place : ℕ) (said : Ent
 -- this line of the entry at this place is wrong, and none before it
 abbrev pub IsWrongAt : Bounds → List Entry → ℕ → ℕ → BreachKind → Type 0
 IsWrongAt b entries place offset k =
-    StopsAt b entries place (λ e. IsWrong b.limit (limits_by b) b.task.now (take place entries) e offset k)
+    StopsBefore b entries place (λ e. IsWrong b.limit (limits_by b) b.task.now (take place entries) e offset k)
 
 -- the claim of the entry at this place isn't decided, and no line before it is wrong
 abbrev pub IsOpenAt : Bounds → List Entry → ℕ → Type 0
 IsOpenAt b entries place =
-    StopsAt b entries place (λ e. IsOpen b.limit (limits_by b) b.task.now (take place entries) e)
+    StopsBefore b entries place (λ e. IsOpenEntry b.limit (limits_by b) b.task.now (take place entries) e)
 
 -- the judge stands behind the entry at this place, or a line of it is wrong, or its claim isn't decided
 abbrev pub IsEntryTaken : Bounds → List Entry → ℕ → Standing → Finding → Type 0

@@ -1,7 +1,7 @@
 //! The lines of dreams.
 ghost use Rattle.std.specs.Prelude.{◌≡◌, ◌<◌, Some, length, slice_get, IfOk, OnOk};
 ghost use Rattle.replay_check.specs.Standings.{AreBounds};
-ghost use Rattle.replay_check.specs.Turns.{AsksOnce, GoesOn, RunsDream};
+ghost use Rattle.replay_check.specs.Turns.{AsksOnce, GoesOnBehind, RunsDream};
 ghost use Rattle.replay_check.specs.Walks.{CanTake, IsEntryTaken};
 ghost use Rattle.transcript_model.specs.declared.entry.Entry.TheVariants as entry;
 
@@ -75,7 +75,7 @@ impl Standing {
     ) -> Result<(), AllocError>
         requires bounds { AreBounds bounds.now }
         requires left { length self.old.ledger.asked.items < bounds.now.calls }
-        ensures { OnOk result (GoesOn bounds.now.mode bounds.now from dream.items self.old
+        ensures { OnOk result (GoesOnBehind bounds.now.mode bounds.now from dream.items self.old
             self.new) }
     {
         match bounds.mode {

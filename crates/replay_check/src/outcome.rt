@@ -1,7 +1,7 @@
 //! Whether an outcome may stand, and whether what it says is true.
 ghost use Rattle.std.specs.Prelude.{◌≡◌, ◌<◌, ◌^◌, ◌↔◌, ℕ, List, IfOk, IsTrue, length};
 ghost use Rattle.replay_check.specs.Claims.{IsJudged};
-ghost use Rattle.replay_check.specs.Findings.{IsClaim, IsRightFinding, IsPlaced, MayEndAt};
+ghost use Rattle.replay_check.specs.Findings.{IsClaim, IsRightFinding, IsEndPlaced, MayEndAt};
 ghost use Rattle.replay_check.specs.Plans.{IsNear, IsPlanned};
 ghost use Rattle.replay_check.specs.Standings.{AreBounds, IsStanding, limits_by};
 ghost use Rattle.task_model.specs.declared.task.Task.{Task as AnyTask};
@@ -26,7 +26,7 @@ use transcript_model::{Entry, LimitKind, Outcome};
 /// What is found of a claim in a place where it may stand.
 fn claimed(claim: Claim) -> Finding
     ensures { (limits : Limits) (limit : ℕ) (task : AnyTask) (entries : List AnyEntry)
-        (o : AnyOutcome) → IsClaim o → IsPlaced limits limit task entries o
+        (o : AnyOutcome) → IsClaim o → IsEndPlaced limits limit task entries o
         → IsJudged limits limit task entries o claim
         → IsRightFinding limits limit task entries o result }
 {
@@ -44,7 +44,7 @@ fn planned(steps: usize, planned: Planned) -> Finding
     ensures { (limits : Limits) (limit : ℕ) (task : AnyTask) (entries : List AnyEntry)
         (calls : List AnyCall) (cost : ℕ) (from : List AnyOrigin) → length calls ≡ steps
         → IsLegal limits.version task entries
-        → IsPlaced limits limit task entries (said.Plan calls cost from)
+        → IsEndPlaced limits limit task entries (said.Plan calls cost from)
         → IsPlanned limits.version task entries calls cost from planned
         → IsRightFinding limits limit task entries (said.Plan calls cost from) result }
 {
@@ -79,7 +79,7 @@ impl Standing {
     ) -> Result<Finding, AllocError>
         requires bounds { AreBounds bounds.now }
         requires standing { IsStanding bounds.now entries.now self.now }
-        requires placed { IsPlaced (limits_by bounds.now) bounds.now.limit bounds.now.task.now
+        requires placed { IsEndPlaced (limits_by bounds.now) bounds.now.limit bounds.now.task.now
             entries.now outcome.now }
         requires resting { ¬ (outcome.now ≡ said.Limit Calls) → HasNoneOpen entries.now }
         ensures { IfOk result (IsRightFinding (limits_by bounds.now) bounds.now.limit

@@ -17,8 +17,8 @@ use Rattle.stream_map.proofs.FaultsLemmas.{flat_numbered}
 use Rattle.stream_map.proofs.LawsLemmas.{no_fault}
 use Rattle.stream_map.proofs.ServedLemmas.{one_place}
 use Rattle.stream_map.specs.Accepted.{Accepted}
-use Rattle.stream_map.specs.Children.{PlainPool, grid_file, numbered, plain, with_second, with_text}
-use Rattle.stream_map.specs.Faults.{map_fault, has_wrong_number, have_wrong_workers, names_unknown, own_workers, place_of}
+use Rattle.stream_map.specs.Children.{PlainPool, grid_file, numbered_pools, plain, with_second, with_text}
+use Rattle.stream_map.specs.Faults.{map_fault, has_wrong_number, have_wrong_workers, names_unknown, own_workers, stream_place}
 use Rattle.stream_map.specs.Form.{datas, each_of, has_only, if_some, is_map_key, is_pool_key, listed, map_in_data, name_in_data, names_in_data, pool_of, pool_with, program_of, all_stream_names, words_form, workers_in_data}
 use Rattle.stream_map.specs.Spelled.{Spelled, begins_grid, is_program}
 use Rattle.task_model.specs.declared.stream.Stream.{Stream}
@@ -46,36 +46,36 @@ abbrev AreNamed : List Spelled → Type 0
 AreNamed pools = (k : ℕ) (s : Spelled) → slice_get pools k ≡ Some s → 1 ≤ length s.streams
 
 module _ (names : List (List ℕ)) where
-  places_some : (streams : List (List ℕ)) → list_any (λ name. is_none (place_of names name)) streams ≡ false
-      → 1 ≤ length streams → 1 ≤ length (filter_map (place_of names) streams)
+  places_some : (streams : List (List ℕ)) → list_any (λ name. is_none (stream_place names name)) streams ≡ false
+      → 1 ≤ length streams → 1 ≤ length (filter_map (stream_place names) streams)
   places_some [] known some = absurd (omega (arith, some))
   places_some (name ∷ more) known some =
-      by (place_of names name) (left_false (is_none (place_of names name)) _ known)
+      by (stream_place names name) (left_false (is_none (stream_place names name)) _ known)
     where
       by : (o : Option ℕ) → is_none o ≡ false
-          → 1 ≤ length (cons_option o (filter_map (place_of names) more))
+          → 1 ≤ length (cons_option o (filter_map (stream_place names) more))
       by None e = absurd (true≢false e)
       by (Some k) e = omega arith
 
   few_numbered : (next : ℕ) (pools : List Spelled) → list_any has_wrong_number pools ≡ false
-      → All (λ (p : PlainPool). p.workers ≤ 16) (numbered names next pools)
+      → All (λ (p : PlainPool). p.workers ≤ 16) (numbered_pools names next pools)
   few_numbered next [] right = All-nil (λ (p : PlainPool). p.workers ≤ 16)
   few_numbered next (s ∷ pools) right =
       All-cons (λ (p : PlainPool). p.workers ≤ 16) _
-      (numbered names (next + own_workers s) pools) (is_right s (left_false (has_wrong_number s) _ right)).few
+      (numbered_pools names (next + own_workers s) pools) (is_right s (left_false (has_wrong_number s) _ right)).few
       (few_numbered (next + own_workers s) pools (right_false (has_wrong_number s) _ right))
 
   some_numbered : (next : ℕ) (pools : List Spelled) → list_any (names_unknown names) pools ≡ false
-      → AreNamed pools → All (λ (p : PlainPool). 0 < length p.streams) (numbered names next pools)
+      → AreNamed pools → All (λ (p : PlainPool). 0 < length p.streams) (numbered_pools names next pools)
   some_numbered next [] known named = All-nil (λ (p : PlainPool). 0 < length p.streams)
   some_numbered next (s ∷ pools) known named =
       let some = places_some s.streams (left_false (names_unknown names s) _ known) (named 0 s refl) in
-      All-cons (λ (p : PlainPool). 0 < length p.streams) _ (numbered names (next + own_workers s) pools) (omega (arith, some))
+      All-cons (λ (p : PlainPool). 0 < length p.streams) _ (numbered_pools names (next + own_workers s) pools) (omega (arith, some))
       (some_numbered (next + own_workers s) pools (right_false (names_unknown names s) _ known) (λ k t at. named (suc k) t at))
 
   -- pools without a fault
   numbered_plain : (pools : List Spelled) → map_fault names pools ≡ None → AreNamed pools
-      → ArePlain (numbered names 0 pools)
+      → ArePlain (numbered_pools names 0 pools)
   numbered_plain pools right named =
       let none = no_fault names pools right in
       let first = not_told (have_wrong_workers pools) _ _ right in

@@ -19,7 +19,7 @@ use Rattle.task_reader.proofs.SpelledLemmas.{one_task}
 use Rattle.replay_check.specs.Verdicts.{IsVerdict}
 use Rattle.replay_check.specs.declared.verdict.Verdict.TheVariants.{Valid}
 use Rattle.task_model.specs.declared.task.Task.{Task}
-use Rattle.task_reader.specs.Tasks.{Spells}
+use Rattle.task_reader.specs.Tasks.{SpellsTask}
 use Rattle.transcript_model.specs.declared.head.Head.{Head}
 use Rattle.replay_laws.proofs.JudgedLemmas.{answer_judged}
 use Rattle.replay_laws.proofs.MapPoolLemmas.{served_shown}
@@ -58,9 +58,9 @@ same_task files later paths others t u same x y =
     let streams : y.streams ≡ x.streams =
     same_bytes files later paths.streams others.streams x.streams y.streams same.streams x.are.1.1.0.held y.are.1.1.0.held in
     one_task x.domain x.problem x.streams u t
-    (subst (λ b. Spells x.domain x.problem b u) streams
-    (subst (λ b. Spells x.domain b y.streams u) problem
-    (subst (λ b. Spells b y.problem y.streams u) domain y.spelled)))
+    (subst (λ b. SpellsTask x.domain x.problem b u) streams
+    (subst (λ b. SpellsTask x.domain b y.streams u) problem
+    (subst (λ b. SpellsTask b y.problem y.streams u) domain y.spelled)))
     x.spelled
 
 -- ---- the verdict

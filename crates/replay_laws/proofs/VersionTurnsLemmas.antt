@@ -1,7 +1,7 @@
 -- The turns of a mode are the same in every version of the report.
 use Rattle.std.proofs.Common.{ℕ, ◌++◌, inl, inr, List, [], Bool, true, false}
 use Rattle.dream_check.specs.Judged.{IsUndecidedNone}
-use Rattle.dream_check.specs.Lines.{BreaksDream, BreaksStep, BreaksUse, IsChosen, IsWrongLine}
+use Rattle.dream_check.specs.Lines.{BreaksDream, BreaksDreamStep, BreaksUse, IsChosen, IsWrongLine}
 use Rattle.mode_turns.proofs.ModesLemmas.{as_family, of_mode}
 use Rattle.mode_turns.specs.Modes.{LeadTo, Leaves, TurnOf, none_left as lead_none, nothing_kept, whole as lead_whole}
 use Rattle.task_model.specs.Dreams as dreams
@@ -59,7 +59,7 @@ module _ (b : Bound) (v w : ℕ) (task : Task) where
   fallback before tried now cut (reset first more) = reset first more
   fallback before tried now cut (level m) = level (level_turn before now cut m)
 
-  batches : (real : ℕ) (entries : List dreams.Entry) (sent : List Sent) (before now : List Entry) (after : List Sent) (cut : Bool)
+  batches : (real : ℕ) (entries : List dreams.SupposedEntry) (sent : List Sent) (before now : List Entry) (after : List Sent) (cut : Bool)
       → AreBatches (at b v) task real entries sent before now after cut
       → AreBatches (at b w) task real entries sent before now after cut
   batches real entries sent before now after cut (finished none) = finished none
@@ -67,7 +67,7 @@ module _ (b : Bound) (v w : ℕ) (task : Task) where
   batches real entries sent before now after cut (further {now = first} {rest = rest} next is some all m more) =
       further next is some all (batch before _ first m) (batches real entries (sent ++ next) (before ++ first) rest after cut more)
 
-  first_batch : (real : ℕ) (entries : List dreams.Entry) (before now : List Entry) (after : List Sent) (cut : Bool)
+  first_batch : (real : ℕ) (entries : List dreams.SupposedEntry) (before now : List Entry) (after : List Sent) (cut : Bool)
       → IsFirstBatch (at b v) task real entries before now after cut → IsFirstBatch (at b w) task real entries before now after cut
   first_batch real entries before now after cut m = record {
     list = m.list;
@@ -78,7 +78,7 @@ module _ (b : Bound) (v w : ℕ) (task : Task) where
   }
 
   pub dream_after : (before : List Entry) (tried : List Instance) (uses : List DreamUse) (steps : List Call)
-      (entries : List dreams.Entry) → IsDreamAfter (at b v) task before tried uses steps entries
+      (entries : List dreams.SupposedEntry) → IsDreamAfter (at b v) task before tried uses steps entries
       → IsDreamAfter (at b w) task before tried uses steps entries
   dream_after before tried uses steps entries m = record {
     list = m.list;
@@ -90,8 +90,8 @@ module _ (b : Bound) (v w : ℕ) (task : Task) where
     shown = m.shown;
   }
 
-  dream_turn : (asks others : ℕ → List dreams.Entry → List Entry → List Entry → List Sent → Bool → Type 0)
-      → ((real : ℕ) (entries : List dreams.Entry) (from now : List Entry) (sent : List Sent) (cut : Bool)
+  dream_turn : (asks others : ℕ → List dreams.SupposedEntry → List Entry → List Entry → List Sent → Bool → Type 0)
+      → ((real : ℕ) (entries : List dreams.SupposedEntry) (from now : List Entry) (sent : List Sent) (cut : Bool)
       → asks real entries from now sent cut → others real entries from now sent cut)
       → (tried : List Instance) (before now : List Entry) (next : List Instance) (cut : Bool)
       → IsDreamTurn (at b v) task asks tried before now next cut → IsDreamTurn (at b w) task others tried before now next cut
@@ -208,7 +208,7 @@ module _ (b : Bound) (v w : ℕ) (task : Task) where
 -- ---- the lines of a dream
 
 module _ (b : Bound) (v w : ℕ) (task : Task) (before : List Entry) (tried : List Instance) where
-  chosen : (uses : List DreamUse) (list entries : List dreams.Entry) → IsChosen (at b v) task before tried uses list entries
+  chosen : (uses : List DreamUse) (list entries : List dreams.SupposedEntry) → IsChosen (at b v) task before tried uses list entries
       → IsChosen (at b w) task before tried uses list entries
   chosen uses list entries m = record {
     supposed = m.supposed;
@@ -231,8 +231,8 @@ module _ (b : Bound) (v w : ℕ) (task : Task) (before : List Entry) (tried : Li
     is = m.is;
   }
 
-  step_line : (uses : List DreamUse) (steps : List Call) (offset : ℕ) → BreaksStep (at b v) task before tried uses steps offset
-      → BreaksStep (at b w) task before tried uses steps offset
+  step_line : (uses : List DreamUse) (steps : List Call) (offset : ℕ) → BreaksDreamStep (at b v) task before tried uses steps offset
+      → BreaksDreamStep (at b w) task before tried uses steps offset
   step_line uses steps offset m = record {
     place = m.place;
     within = m.within;

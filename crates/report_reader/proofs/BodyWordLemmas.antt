@@ -5,7 +5,7 @@ use Rattle.std.specs.Str.{bytes_eq}
 use Rattle.report_text.specs.Forms.{AreTuples}
 use Rattle.report_text.specs.Texts.{tuple_fields}
 use Rattle.transcript_model.specs.declared.entry.Entry.TheVariants as entry
-use Rattle.report_reader.specs.Body.{spelled, word_of_line, body_line, body_more, IsBodyLine, IsBodyLineOf}
+use Rattle.report_reader.specs.Body.{spelled_word, word_of_line, body_line, body_more, IsBodyLine, IsBodyLineOf}
 use Rattle.report_reader.specs.Finding.{Finds}
 use Rattle.report_reader.specs.Splits.{fields_of}
 use Rattle.report_reader.specs.declared.body_line.BodyLine.{BodyLine}
@@ -15,7 +15,7 @@ use Rattle.report_reader.specs.declared.body_word.Word.{Word}
 use Rattle.report_reader.specs.declared.body_word.Word.TheVariants as word
 use Rattle.report_reader.specs.declared.tuples.Tuples.{Tuples}
 
-first_word : (b : BodyLine) → (body_line b).first ≡ spelled (word_of_line b)
+first_word : (b : BodyLine) → (body_line b).first ≡ spelled_word (word_of_line b)
 first_word (Single entry.Level) = refl
 first_word (Single (entry.Ask n t c)) = refl
 first_word (Single (entry.Got n t vs)) = refl
@@ -47,7 +47,7 @@ named text =
     else if bytes_eq text (codes "no") then word.No
     else word.Limit
 
-named_spelled : (w : Word) → named (spelled w) ≡ w
+named_spelled : (w : Word) → named (spelled_word w) ≡ w
 unfolding named
 named_spelled word.Level = refl
 named_spelled word.Ask = refl
@@ -63,11 +63,11 @@ named_spelled word.Plan = refl
 named_spelled word.No = refl
 named_spelled word.Limit = refl
 
-spelled_same : (w u : Word) → spelled w ≡ spelled u → w ≡ u
+spelled_same : (w u : Word) → spelled_word w ≡ spelled_word u → w ≡ u
 spelled_same w u e = sym (named_spelled w) ∙ ap named e ∙ named_spelled u
 
 pub no_word : (v : ℕ) (field : List ℕ) (left old : List (List ℕ)) → old ≡ field ∷ left
-    → ((w : Word) → ¬ (spelled w ≡ field))
+    → ((w : Word) → ¬ (spelled_word w ≡ field))
     → (b : BodyLine) → IsBodyLine v b → ¬ (fields_of (body_line b) ≡ old)
 no_word v field left old is none b formed e =
     let same : (body_line b).first ≡ field = cc in
@@ -75,9 +75,9 @@ no_word v field left old is none b formed e =
 
 pub of_word : (v : ℕ) (w : Word) (field : List ℕ) (left old : List (List ℕ)) (found : Option BodyLine)
     → old ≡ field ∷ left
-    → spelled w ≡ field → Finds (IsBodyLineOf v w) body_more found left → Finds (IsBodyLine v) (λ b. fields_of (body_line b)) found old
+    → spelled_word w ≡ field → Finds (IsBodyLineOf v w) body_more found left → Finds (IsBodyLine v) (λ b. fields_of (body_line b)) found old
 of_word v w field left old (Some b) is spells found =
-    let first : (body_line b).first ≡ field = first_word b ∙ ap spelled found.0.1 ∙ spells in
+    let first : (body_line b).first ≡ field = first_word b ∙ ap spelled_word found.0.1 ∙ spells in
     (found.0.0, (λ i. first i ∷ found.1 i) ∙ sym is)
 of_word v w field left old None is spells none = λ b formed e.
     let first : (body_line b).first ≡ field = cc in

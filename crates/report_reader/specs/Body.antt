@@ -24,20 +24,20 @@ use Rattle.report_reader.specs.declared.head_reader.Limits.{Limits}
 
 -- ---- words
 
-abbrev pub spelled : Word → List ℕ
-spelled word.Level = codes "level"
-spelled word.Ask = codes "ask"
-spelled word.Got = codes "got"
-spelled word.Value = codes "value"
-spelled word.End = codes "end"
-spelled word.Dream = codes "dream"
-spelled word.Nothing = codes "none"
-spelled word.Reset = codes "reset"
-spelled word.Pick = codes "pick"
-spelled word.Retire = codes "retire"
-spelled word.Plan = codes "plan"
-spelled word.No = codes "no"
-spelled word.Limit = codes "limit"
+abbrev pub spelled_word : Word → List ℕ
+spelled_word word.Level = codes "level"
+spelled_word word.Ask = codes "ask"
+spelled_word word.Got = codes "got"
+spelled_word word.Value = codes "value"
+spelled_word word.End = codes "end"
+spelled_word word.Dream = codes "dream"
+spelled_word word.Nothing = codes "none"
+spelled_word word.Reset = codes "reset"
+spelled_word word.Pick = codes "pick"
+spelled_word word.Retire = codes "retire"
+spelled_word word.Plan = codes "plan"
+spelled_word word.No = codes "no"
+spelled_word word.Limit = codes "limit"
 
 -- whether it begins a request or an answer
 abbrev pub is_of_dialogue : Word → Bool

@@ -1,6 +1,6 @@
 //! The words that begin a line among the entries.
 ghost use Rattle.std.specs.Prelude.{◌≡◌, MatchOption, false, true};
-ghost use Rattle.report_reader.specs.Body.{is_of_dialogue, spelled};
+ghost use Rattle.report_reader.specs.Body.{is_of_dialogue, spelled_word};
 ghost use Rattle.report_reader.specs.declared.body_word.Word.{Word};
 
 /// The word that begins a line among the entries, or the line that ends them.
@@ -36,8 +36,8 @@ pub(crate) enum Word {
 
 /// The word that this field is.
 pub(crate) fn word_of(field: &[u8]) -> Option<Word>
-    ensures { MatchOption result ((w : Word) → ¬ (spelled w ≡ field.now))
-        (λ w. spelled w ≡ field.now) }
+    ensures { MatchOption result ((w : Word) → ¬ (spelled_word w ≡ field.now))
+        (λ w. spelled_word w ≡ field.now) }
 {
     match dialogue_word(field) {
         Some(word) => Some(word),
@@ -47,8 +47,8 @@ pub(crate) fn word_of(field: &[u8]) -> Option<Word>
 
 /// The word of a request or an answer that this field is.
 fn dialogue_word(field: &[u8]) -> Option<Word>
-    ensures { MatchOption result ((w : Word) → is_of_dialogue w ≡ true → ¬ (spelled w ≡ field.now))
-        (λ w. spelled w ≡ field.now) }
+    ensures { MatchOption result ((w : Word) → is_of_dialogue w ≡ true → ¬ (spelled_word w ≡ field.now))
+        (λ w. spelled_word w ≡ field.now) }
 {
     if field == b"ask".as_slice() {
         return Some(Word::Ask);
@@ -67,8 +67,8 @@ fn dialogue_word(field: &[u8]) -> Option<Word>
 
 /// The other word that this field is.
 fn other_word(field: &[u8]) -> Option<Word>
-    ensures { MatchOption result ((w : Word) → is_of_dialogue w ≡ false → ¬ (spelled w ≡ field.now))
-        (λ w. spelled w ≡ field.now) }
+    ensures { MatchOption result ((w : Word) → is_of_dialogue w ≡ false → ¬ (spelled_word w ≡ field.now))
+        (λ w. spelled_word w ≡ field.now) }
 {
     if field == b"level".as_slice() {
         return Some(Word::Level);

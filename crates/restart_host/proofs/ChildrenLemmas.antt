@@ -5,7 +5,7 @@ use Rattle.std.proofs.lemmas.List.Sums.{sum_by-set}
 use Rattle.lemmas.proofs.Counts.{count_head, count_last}
 use Rattle.io_world.specs.Talks.{Becomes, Same}
 use Rattle.io_world.specs.declared.host.HostFault.{HostFault}
-use Rattle.restart_host.specs.Kept.{AreIdle, is_alive, is_on, is_running}
+use Rattle.restart_host.specs.Kept.{AreIdle, is_alive, is_on, runs_outside}
 use Rattle.restart_host.specs.declared.kept.Kept.{Kept}
 
 -- the flag of a member
@@ -73,7 +73,7 @@ flag_push f (y ∷ ys) x none off (suc k) = flag_push f ys x (λ j. none (suc j)
 
 -- ---- children
 
-pub on_at : (xs : List Kept) (i : ℕ) (x : Kept) → i < length xs → x ≡ get_or xs i x → is_running xs i ≡ x.running
+pub on_at : (xs : List Kept) (i : ℕ) (x : Kept) → i < length xs → x ≡ get_or xs i x → runs_outside xs i ≡ x.running
 on_at xs i x within is = flag_at is_on xs i x within is
 
 pub alive_at : (xs : List Kept) (i : ℕ) (x : Kept) → i < length xs → x ≡ get_or xs i x → is_alive xs i ≡ x.life.alive
@@ -121,14 +121,14 @@ one_more xs i was now before after false within is on room later kept =
     omega (arith, count_set is_on xs i was now within is, no, room, later)
 
 pub becomes_off : (xs : List Kept) (i : ℕ) (now : Kept) → i < length xs → now.running ≡ false
-    → Becomes i false (is_running xs) (is_running (slice_set xs i now))
+    → Becomes i false (runs_outside xs) (runs_outside (slice_set xs i now))
 becomes_off xs i now within off = record {
   here = flag_here is_on xs i now within ∙ off;
   others = λ k other. flag_other is_on xs i k now other;
 }
 
 pub becomes_on : (xs : List Kept) (i : ℕ) (now : Kept) → i < length xs → now.running ≡ true
-    → Becomes i true (is_running xs) (is_running (slice_set xs i now))
+    → Becomes i true (runs_outside xs) (runs_outside (slice_set xs i now))
 becomes_on xs i now within on = record {
   here = flag_here is_on xs i now within ∙ on;
   others = λ k other. flag_other is_on xs i k now other;
@@ -136,9 +136,9 @@ becomes_on xs i now within on = record {
 
 -- a child runs as before
 pub same_on : (xs : List Kept) (i : ℕ) (was now : Kept) → i < length xs → was ≡ get_or xs i was
-    → now.running ≡ was.running → Same (is_running xs) (is_running (slice_set xs i now))
+    → now.running ≡ was.running → Same (runs_outside xs) (runs_outside (slice_set xs i now))
 same_on xs i was now within is same k = elim (eqb_tells k i) [
-  | inl here ↦ subst (λ j. is_running (slice_set xs i now) j ≡ is_running xs j) (sym here.1)
+  | inl here ↦ subst (λ j. runs_outside (slice_set xs i now) j ≡ runs_outside xs j) (sym here.1)
       (flag_here is_on xs i now within ∙ same ∙ sym (flag_at is_on xs i was within is))
   | inr differs ↦ flag_other is_on xs i k now differs.1
 ]
@@ -147,8 +147,8 @@ same_on xs i was now within is same k = elim (eqb_tells k i) [
 pub started_on : {T : Type 0} (xs : List Kept) (i : ℕ) (was now : Kept) (result : Result T HostFault) → i < length xs
     → was ≡ get_or xs i was
     → was.running ≡ false → now.running ≡ is_ok result
-    → MatchResult result (λ _. Becomes i true (is_running xs) (is_running (slice_set xs i now)))
-    (λ _. Same (is_running xs) (is_running (slice_set xs i now)))
+    → MatchResult result (λ _. Becomes i true (runs_outside xs) (runs_outside (slice_set xs i now)))
+    (λ _. Same (runs_outside xs) (runs_outside (slice_set xs i now)))
 started_on xs i was now (Ok value) within is idle on = becomes_on xs i now within on
 started_on xs i was now (Err fault) within is idle on = same_on xs i was now within is (on ∙ sym idle)
 

@@ -9,7 +9,7 @@ use Rattle.io_world.specs.declared.host.HostFault.TheVariants.{Failed, Memory}
 use Rattle.io_world.proofs.TalksLemmas.{extends_none}
 use Rattle.restart_host.specs.Leads.{Carries, Parts}
 use Rattle.restart_host.specs.Noted.{IsLed}
-use Rattle.restart_host.specs.Tries.{Called, Seen, Tried, refusals}
+use Rattle.restart_host.specs.Tries.{CalledInner, Seen, Tried, refusals}
 
 -- calls that led there, of which none wanted memory but the last
 pub led_by : {m : Bool} (Leads : Bool → Type 0) → Leads m → IsLed Leads m
@@ -17,7 +17,7 @@ led_by {m} Leads leads = record { wanted = m; quiet = λ is. is; leads = leads }
 
 -- calls of which none failed
 pub carries_called : (child : ℕ) {words : List (List ℕ)} (last : ℕ) (old new : Parts)
-    → Called child words last old.below new.below 0 → new.left ≡ old.left → new.faults ≡ old.faults
+    → CalledInner child words last old.below new.below 0 → new.left ≡ old.left → new.faults ≡ old.faults
     → new.log.whole ≡ old.log.whole → Carries last old new false
 carries_called child last old new called left faults whole = record {
   count = 0;

@@ -4,24 +4,24 @@ use Rattle.std.proofs.lemmas.Bool.{eq-eqb}
 use Rattle.std.proofs.lemmas.Bool.Decides.{eqb_tells}
 use Rattle.io_world.specs.Leads.{wants_memory}
 use Rattle.io_world.specs.Logs.{Calls, Notes, said_of, told_of}
-use Rattle.io_world.specs.Talks.{Event, Talk, started, wrote, heard, stopped, given, silence, said_after, spelled, wrote_more, heard_more, Grows, Logs, Same, Becomes, Empties, Writes, Hears}
+use Rattle.io_world.specs.Talks.{Event, Talk, started, wrote, heard, stopped, given, silence, said_after, spelled, wrote_more, heard_more, LogGrows, Logs, Same, Becomes, Empties, Writes, Hears}
 use Rattle.io_world.specs.declared.host.HostFault.{HostFault}
 use Rattle.io_world.specs.declared.host.HostFault.TheVariants.{Failed, Memory}
-use Rattle.restart_host.specs.Noted.{IsNoted, Lost}
+use Rattle.restart_host.specs.Noted.{IsCallNoted, Lost}
 
 told_more : (was now : Bool) (old new : List Event) (event : Event) → now ≡ was → new ≡ old ++ event ∷ []
-    → Grows (if was then Some old else None) (if now then Some new else None) (event ∷ [])
+    → LogGrows (if was then Some old else None) (if now then Some new else None) (event ∷ [])
 told_more was false old new event same grew = tt
 told_more true true old new event same grew = (old, refl, grew)
 told_more false true old new event same grew = absurd (cc (same))
 
 told_lost : (was now : Bool) (old new : List Event) (event : Event) → now ≡ false
-    → Grows (if was then Some old else None) (if now then Some new else None) (event ∷ [])
+    → LogGrows (if was then Some old else None) (if now then Some new else None) (event ∷ [])
 told_lost was false old new event lost = tt
 told_lost was true old new event lost = absurd (cc (lost))
 
 -- the log that is told has the call more
-pub noted_log : {T : Type 0} (old new : Calls) (event : Event) (result : Result T HostFault) → IsNoted old new event result
+pub noted_log : {T : Type 0} (old new : Calls) (event : Event) (result : Result T HostFault) → IsCallNoted old new event result
     → Logs (told_of old) (told_of new) event
 noted_log old new event result is = elim is.noted [
   | inl noted ↦ told_more old.whole new.whole old.events new.events event noted.whole noted.events
@@ -47,7 +47,7 @@ noted_same old new event nothing noted k = noted.said k ∙ ap Some (nothing k (
 
 -- a start that is noted
 pub noted_start : (child : ℕ) (argv : List (List ℕ)) (old new : Calls) (result : Result (Unit {0}) HostFault)
-    → IsNoted old new (started child argv result) result
+    → IsCallNoted old new (started child argv result) result
     → MatchResult result (λ _. Empties child (said_of old) (said_of new)) (λ _. Same (said_of old) (said_of new))
 noted_start child argv old new (Ok u) is = elim is.noted [
   | inl noted ↦ record {
@@ -63,7 +63,7 @@ noted_start child argv old new (Err fault) is = elim is.noted [
 
 -- a write that is noted
 pub noted_write : (child : ℕ) (bytes : List ℕ) (old new : Calls) (result : Result ℕ HostFault)
-    → IsNoted old new (wrote child bytes result) result
+    → IsCallNoted old new (wrote child bytes result) result
     → MatchResult result (λ n. Writes child (take n bytes) (said_of old) (said_of new)) (λ _. Same (said_of old) (said_of new))
 noted_write child bytes old new (Ok n) is = elim is.noted [
   | inl noted ↦ record {
@@ -79,7 +79,7 @@ noted_write child bytes old new (Err fault) is = elim is.noted [
 
 -- a read that is noted
 pub noted_read : (child size : ℕ) (room : List ℕ) (old new : Calls) (result : Result ℕ HostFault)
-    → IsNoted old new (heard child size (given result room)) result
+    → IsCallNoted old new (heard child size (given result room)) result
     → MatchResult result (λ n. Hears child (take n room) (said_of old) (said_of new)) (λ _. Same (said_of old) (said_of new))
 noted_read child size room old new (Ok n) is = elim is.noted [
   | inl noted ↦ record {
@@ -101,14 +101,14 @@ noted_stop child old new answer noted = noted_same old new (stopped child answer
 
 -- the log stays whole unless memory was wanting
 pub noted_whole : {T : Type 0} (old new : Calls) (event : Event) (result : Result T HostFault)
-    → IsNoted old new event result → wants_memory result ≡ false → new.whole ≡ old.whole
+    → IsCallNoted old new event result → wants_memory result ≡ false → new.whole ≡ old.whole
 noted_whole old new event result is quiet = elim is.noted [
   | inl noted ↦ noted.whole
   | inr lost ↦ absurd (cc (lost.0, quiet))
 ]
 
 pub noted_lost : {T : Type 0} (old new : Calls) (event : Event) (result : Result T HostFault)
-    → IsNoted old new event result → new.whole ≡ true → old.whole ≡ true
+    → IsCallNoted old new event result → new.whole ≡ true → old.whole ≡ true
 noted_lost old new event result is whole = elim is.noted [
   | inl noted ↦ sym noted.whole ∙ whole
   | inr lost ↦ absurd (cc (lost.1.whole, whole))
@@ -117,13 +117,13 @@ noted_lost old new event result is whole = elim is.noted [
 -- ---- what calls make of the log
 
 pub noted_by : {T : Type 0} (old new : Calls) (event : Event) (result : Result T HostFault) → Notes old new event
-    → IsNoted old new event result
+    → IsCallNoted old new event result
 noted_by old new event result noted = record { noted = inl noted }
 
 -- the call got lost
 pub noted_none : {T : Type 0} (old mid new : Calls) (event : Event) → mid.events ≡ old.events
     → new ≡ record mid { whole = false }
-    → IsNoted old new event (let r : Result T HostFault = Err Memory in r)
+    → IsCallNoted old new event (let r : Result T HostFault = Err Memory in r)
 noted_none old mid new event same loses = record {
   noted = inr (
     refl,

@@ -4,13 +4,13 @@ use Rattle.std.proofs.lemmas.List.Elements.{All-nil, All-head, All-tail, All-app
 use Rattle.lemmas.proofs.Counts.{count_joined, count_one, count_head}
 use Rattle.lemmas.proofs.ListTests.{all_one}
 use Rattle.io_world.specs.Faults.{HasCause}
-use Rattle.io_world.specs.Talks.{Event, started, wrote, heard, stopped, Grows, Logs, Same, Becomes, IsTaken, IsGiven, LogsTaken, LogsTakenPart, LogsGiven, LogsGivenPart}
+use Rattle.io_world.specs.Talks.{Event, started, wrote, heard, stopped, LogGrows, Logs, Same, Becomes, IsTaken, IsGiven, LogsTaken, LogsTakenPart, LogsGiven, LogsGivenPart}
 use Rattle.io_world.specs.declared.host.HostFault.{HostFault}
 use Rattle.io_world.specs.declared.host.HostFault.TheVariants.{Failed, Memory}
 use Rattle.io_world.proofs.TalksLemmas.{extends_none, extends_more}
-use Rattle.restart_host.specs.Tries.{Seen, is_failed, refusals, has_failed, failures, IsOn, Called, Tried, Spends}
+use Rattle.restart_host.specs.Tries.{Seen, is_failed, refusals, has_failed, failures, IsOn, CalledInner, Tried, Spends}
 
-pub called_none : (child : ℕ) (words : List (List ℕ)) (last : ℕ) (seen : Seen) → Called child words last seen seen 0
+pub called_none : (child : ℕ) (words : List (List ℕ)) (last : ℕ) (seen : Seen) → CalledInner child words last seen seen 0
 called_none child words last seen = record {
   others = λ k other. refl;
   later = omega arith;
@@ -23,8 +23,8 @@ called_none child words last seen = record {
 
 -- calls behind calls
 pub called_more : (child : ℕ) (words : List (List ℕ)) (last : ℕ) (a b c : Seen) (m n : ℕ)
-    → Called child words last a b m → Called child words last b c n
-    → Called child words last a c (m + n)
+    → CalledInner child words last a b m → CalledInner child words last b c n
+    → CalledInner child words last a c (m + n)
 called_more child words last a b c m n first second = record {
   others = λ k other. second.others k other ∙ first.others k other;
   later = omega (arith, first.later, second.later);
@@ -41,18 +41,18 @@ called_more child words last a b c m n first second = record {
 
 -- calls behind others of which none failed
 pub called_then : (child : ℕ) (words : List (List ℕ)) (last : ℕ) (a b c : Seen) (n : ℕ)
-    → Called child words last a b 0 → Called child words last b c n
-    → Called child words last a c n
+    → CalledInner child words last a b 0 → CalledInner child words last b c n
+    → CalledInner child words last a c n
 called_then child words last a b c n first second =
-    subst (Called child words last a c) (zero-add n) (called_more child words last a b c 0 n first second)
+    subst (CalledInner child words last a c) (zero-add n) (called_more child words last a b c 0 n first second)
 
 -- calls of which none failed behind others
 pub called_quiet : (child : ℕ) (words : List (List ℕ)) (last : ℕ) (a b c : Seen) (m : ℕ)
-    → Called child words last a b m → Called child words last b c 0
-    → Called child words last a c m
+    → CalledInner child words last a b m → CalledInner child words last b c 0
+    → CalledInner child words last a c m
 called_quiet child words last a b c m first second =
     let same : m + 0 ≡ m = omega arith in
-    subst (Called child words last a c) same (called_more child words last a b c m 0 first second)
+    subst (CalledInner child words last a c) same (called_more child words last a b c m 0 first second)
 
 -- the count rose by what the call says of it
 risen : {T : Type 0} (last before now : ℕ) (result : Result T HostFault) → HasCause Failed last before now result
@@ -68,7 +68,7 @@ pub called_one : {T : Type 0} (child : ℕ) (words : List (List ℕ)) (last : �
     (result : Result T HostFault) → IsOn child words event → has_failed event ≡ is_failed result
     → ((k : ℕ) → k ≢ child → new.running k ≡ old.running k)
     → HasCause Failed last old.faults new.faults result → Logs old.log new.log event
-    → Called child words last old new (refusals result)
+    → CalledInner child words last old new (refusals result)
 called_one child words last old new event result on fails others cause log = record {
   others = others;
   later = cause.later;
@@ -89,7 +89,7 @@ others_kept child old new (Err fault) same k other = same k
 pub called_start : (child : ℕ) (words : List (List ℕ)) (last : ℕ) (old new : Seen) (result : Result (Unit {0}) HostFault)
     → MatchResult result (λ _. Becomes child true old.running new.running) (λ _. Same old.running new.running)
     → HasCause Failed last old.faults new.faults result → Logs old.log new.log (started child words result)
-    → Called child words last old new (refusals result)
+    → CalledInner child words last old new (refusals result)
 called_start child words last old new result running cause log =
     called_one child words last old new (started child words result) result (refl, refl) refl
     (others_kept child old.running new.running result running) cause log
@@ -98,7 +98,7 @@ called_start child words last old new result running cause log =
 pub called_stop : (child : ℕ) (words : List (List ℕ)) (last : ℕ) (old new : Seen) (result : Result (Unit {0}) HostFault)
     → Becomes child false old.running new.running → HasCause Failed last old.faults new.faults result
     → Logs old.log new.log (stopped child result)
-    → Called child words last old new 0
+    → CalledInner child words last old new 0
 called_stop child words last old new result running cause log = record {
   others = running.others;
   later = cause.later;
@@ -172,8 +172,8 @@ done_all : {T : Type 0} (P : Event → Type 0) (child : ℕ) (words : List (List
     → ((event : Event) → P event → has_failed event ≡ false)
     → Same old.running new.running
     → HasCause Failed last old.faults new.faults (let r : Result T HostFault = Ok value in r) → All P events
-    → Grows old.log new.log events
-    → Called child words last old new 0
+    → LogGrows old.log new.log events
+    → CalledInner child words last old new 0
 done_all P child words last old new value events on done running cause each log = record {
   others = λ k other. running k;
   later = cause.later;
@@ -191,8 +191,8 @@ done_part : {T : Type 0} (U : Type 0) (P : Event → Type 0) (child : ℕ) (word
     → Same old.running new.running
     → HasCause Failed last old.faults new.faults (let r : Result T HostFault = Err fault in r) → All P events
     → IsOn child words event → has_failed event ≡ is_failed (let r : Result U HostFault = Err fault in r)
-    → Grows old.log new.log (events ++ event ∷ [])
-    → Called child words last old new (refusals (let r : Result U HostFault = Err fault in r))
+    → LogGrows old.log new.log (events ++ event ∷ [])
+    → CalledInner child words last old new (refusals (let r : Result U HostFault = Err fault in r))
 done_part {T} U P child words last old new fault events event on done running cause each here fails log = record {
   others = λ k other. running k;
   later = cause.later;
@@ -210,7 +210,7 @@ pub called_sent : {T : Type 0} (child : ℕ) (words : List (List ℕ)) (last : �
     → Same old.running new.running
     → HasCause Failed last old.faults new.faults (let r : Result T HostFault = Ok value in r)
     → LogsTaken child bytes old.log new.log
-    → Called child words last old new 0
+    → CalledInner child words last old new 0
 called_sent child words last old new bytes value running cause whole =
     done_all (IsTaken child) child words last old new value whole.0 (taken_on child words) (taken_done child) running cause
     whole.1.each whole.2
@@ -220,7 +220,7 @@ pub called_unsent : {T : Type 0} (U : Type 0) (child : ℕ) (words : List (List 
     (fault : HostFault) → Same old.running new.running
     → HasCause Failed last old.faults new.faults (let r : Result T HostFault = Err fault in r)
     → LogsTakenPart child bytes fault old.log new.log
-    → Called child words last old new (refusals (let r : Result U HostFault = Err fault in r))
+    → CalledInner child words last old new (refusals (let r : Result U HostFault = Err fault in r))
 called_unsent {T} U child words last old new bytes fault running cause part =
     done_part {T = T} U (IsTaken child) child words last old new fault part.0 (wrote child (drop part.1 bytes) (Err fault))
     (taken_on child words) (taken_done child) running cause part.2.each refl (same_failed ℕ U fault) part.3
@@ -230,7 +230,7 @@ pub called_heard : {T : Type 0} (child : ℕ) (words : List (List ℕ)) (last : 
     → Same old.running new.running
     → HasCause Failed last old.faults new.faults (let r : Result T HostFault = Ok value in r)
     → LogsGiven child held bytes old.log new.log
-    → Called child words last old new 0
+    → CalledInner child words last old new 0
 called_heard child words last old new held bytes value running cause whole =
     done_all (IsGiven child) child words last old new value whole.0 (given_on child words) (given_done child) running cause
     whole.1.each whole.2
@@ -240,7 +240,7 @@ pub called_missed : {T : Type 0} (U : Type 0) (child : ℕ) (words : List (List 
     (fault : HostFault) → Same old.running new.running
     → HasCause Failed last old.faults new.faults (let r : Result T HostFault = Err fault in r)
     → LogsGivenPart child held fault old.log new.log
-    → Called child words last old new (refusals (let r : Result U HostFault = Err fault in r))
+    → CalledInner child words last old new (refusals (let r : Result U HostFault = Err fault in r))
 called_missed {T} U child words last old new held fault running cause part =
     done_part {T = T} U (IsGiven child) child words last old new fault part.0 (heard child part.2 (Err fault))
     (given_on child words) (given_done child) running cause part.3.each refl (same_failed (List ℕ) U fault) part.5
@@ -250,7 +250,7 @@ called_missed {T} U child words last old new held fault running cause part =
 -- a first try that is made good, and what came of the others
 pub tried_again : {T : Type 0} (child : ℕ) (words : List (List ℕ)) (last left mid now : ℕ) (a b c : Seen) (fault : HostFault)
     (result : Result T HostFault)
-    → Called child words last a b (refusals (let r : Result (Unit {0}) HostFault = Err fault in r))
+    → CalledInner child words last a b (refusals (let r : Result (Unit {0}) HostFault = Err fault in r))
     → (fault ≡ Failed) × (left ≡ mid + 1) → Tried child words last mid now b c result
     → Tried child words last left now a c result
 tried_again child words last left mid now a b c Failed result first spends rest = record {
@@ -264,7 +264,7 @@ tried_again child words last left mid now a b c Memory result first spends rest 
 
 -- a call that was done
 pub tried_done : {T : Type 0} (child : ℕ) (words : List (List ℕ)) (last left : ℕ) (a b : Seen) (value : T)
-    → Called child words last a b 0
+    → CalledInner child words last a b 0
     → Tried child words last left left a b (let r : Result T HostFault = Ok value in r)
 tried_done child words last left a b value called = record {
   count = 0;
@@ -276,7 +276,7 @@ tried_done child words last left a b value called = record {
 
 -- a call that was refused
 pub tried_refused : {T : Type 0} (child : ℕ) (words : List (List ℕ)) (last left : ℕ) (a b : Seen) (fault : HostFault)
-    → Called child words last a b (refusals (let r : Result (Unit {0}) HostFault = Err fault in r))
+    → CalledInner child words last a b (refusals (let r : Result (Unit {0}) HostFault = Err fault in r))
     → (fault ≡ Failed → left ≡ 0)
     → Tried child words last left left a b (let r : Result T HostFault = Err fault in r)
 tried_refused child words last left a b Failed called none = record {
@@ -297,7 +297,7 @@ tried_refused child words last left a b Memory called none = record {
 -- calls of which none failed before
 pub tried_behind : {T : Type 0} (child : ℕ) (words : List (List ℕ)) (last left now : ℕ) (a b c : Seen)
     (result : Result T HostFault)
-    → Called child words last a b 0 → Tried child words last left now b c result
+    → CalledInner child words last a b 0 → Tried child words last left now b c result
     → Tried child words last left now a c result
 tried_behind child words last left now a b c result first rest = record {
   count = rest.count;
@@ -310,7 +310,7 @@ tried_behind child words last left now a b c result first rest = record {
 -- calls of which none failed behind
 pub tried_before : {T : Type 0} (child : ℕ) (words : List (List ℕ)) (last left now : ℕ) (a b c : Seen)
     (result : Result T HostFault)
-    → Tried child words last left now a b result → Called child words last b c 0
+    → Tried child words last left now a b result → CalledInner child words last b c 0
     → Tried child words last left now a c result
 tried_before child words last left now a b c result first rest = record {
   count = first.count;
@@ -361,7 +361,7 @@ tried_as child words last left now a b Memory tried =
 
 -- a try that is refused, as what is left of failures that are made good says
 pub tried_spent : {T : Type 0} (child : ℕ) (words : List (List ℕ)) (last left mid : ℕ) (a b : Seen) (fault refused : HostFault)
-    → Called child words last a b (refusals (let r : Result (Unit {0}) HostFault = Err fault in r))
+    → CalledInner child words last a b (refusals (let r : Result (Unit {0}) HostFault = Err fault in r))
     → (refused ≡ fault) × (mid ≡ left) × (fault ≡ Failed → left ≡ 0)
     → Tried child words last left mid a b (let r : Result T HostFault = Err refused in r)
 tried_spent {T} child words last left mid a b fault refused called spends =

@@ -7,8 +7,8 @@ abbrev pub is_on : Kept → Bool
 is_on kept = kept.running
 
 -- whether a child runs, as its host tells
-abbrev pub is_running : List Kept → ℕ → Bool
-is_running children child = unwrap_or (option_map (λ (kept : Kept). kept.running) (slice_get children child)) false
+abbrev pub runs_outside : List Kept → ℕ → Bool
+runs_outside children child = unwrap_or (option_map (λ (kept : Kept). kept.running) (slice_get children child)) false
 
 -- whether a child runs in the host below
 abbrev pub is_alive : List Kept → ℕ → Bool
@@ -26,6 +26,6 @@ pub record IsFallen (life : Life) : Type 0 where
 
 -- None of the children runs, here or in the host below.
 pub record AreIdle (children : List Kept) : Type 0 where
-  pub running : (k : ℕ) → is_running children k ≡ false
+  pub running : (k : ℕ) → runs_outside children k ≡ false
   pub alive : (k : ℕ) → is_alive children k ≡ false
   pub none : count_by is_on children ≡ 0

@@ -3,7 +3,7 @@ use Rattle.std.specs.Prelude.{◌≡◌, ℕ, ◌+◌, ◌<◌, ◌≤◌, Bool,
 use Rattle.std.proofs.Common.{arith, refl, subst, ◌∙◌, ap}
 use Rattle.lemmas.proofs.Counts.{count_joined}
 use Rattle.io_world.specs.Logs.{Calls}
-use Rattle.io_world.specs.Talks.{Event, Grows}
+use Rattle.io_world.specs.Talks.{Event, LogGrows}
 use Rattle.io_world.proofs.TalksLemmas.{extends_none, extends_more}
 use Rattle.restart_host.specs.Noted.{IsLed}
 use Rattle.restart_host.specs.Tries.{Seen, failures, has_failed}
@@ -26,7 +26,7 @@ pub record Carries (last : ℕ) (old new : Parts) (memory : Bool) : Type 0 where
   pub lost : new.log.whole ≡ true → old.log.whole ≡ true
   pub events : List Event
   pub failed : failures events ≡ count
-  pub log : Grows old.below.log new.below.log events
+  pub log : LogGrows old.below.log new.below.log events
 
 -- ---- laws of both
 

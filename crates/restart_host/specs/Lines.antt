@@ -8,5 +8,5 @@ line_end None all = all
 line_end (Some at) all = at + 1
 
 -- how long the first line is, with its line feed; all bytes where none ends
-abbrev pub due_of : List ℕ → ℕ
-due_of bytes = line_end (position is_feed bytes) (length bytes)
+abbrev pub due_length : List ℕ → ℕ
+due_length bytes = line_end (position is_feed bytes) (length bytes)

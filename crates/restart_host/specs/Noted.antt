@@ -11,7 +11,7 @@ pub record Lost (old new : Calls) : Type 0 where
   pub whole : new.whole ≡ false
 
 -- The call was noted, or there was no memory for that, and it answers so: the log isn't whole from then on.
-pub record IsNoted {T : Type 0} (old new : Calls) (event : Event) (result : Result T HostFault) : Type 0 where
+pub record IsCallNoted {T : Type 0} (old new : Calls) (event : Event) (result : Result T HostFault) : Type 0 where
   pub noted : Notes old new event ⊎ ((wants_memory result ≡ true) × Lost old new)
 
 -- Calls led there of which one may have wanted memory only where this is said.

@@ -1,7 +1,7 @@
 -- Calls on one child of the host below, and how many of them failed.
 use Rattle.std.specs.Prelude.{◌≡◌, ◌≢◌, ℕ, ◌+◌, ◌<◌, ◌≤◌, Bool, true, false, cond, List, count_by, Option, Result, Ok, Err, IsErrOf}
 use Rattle.std.specs.List.{All}
-use Rattle.io_world.specs.Talks.{Event, started, wrote, heard, stopped, Grows}
+use Rattle.io_world.specs.Talks.{Event, started, wrote, heard, stopped, LogGrows}
 use Rattle.io_world.specs.declared.host.HostFault.{HostFault}
 use Rattle.io_world.specs.declared.host.HostFault.TheVariants.{Failed, Memory}
 
@@ -12,8 +12,8 @@ pub record Seen : Type 0 where
   pub log : Option (List Event)
 
 -- what a host of a type tells that has these ghosts
-abbrev pub seen_of : {S : Type 0} → (S → ℕ → Bool) → (S → ℕ) → (S → Option (List Event)) → S → Seen
-seen_of running faults log host = record { running = running host; faults = faults host; log = log host }
+abbrev pub seen_by_host : {S : Type 0} → (S → ℕ → Bool) → (S → ℕ) → (S → Option (List Event)) → S → Seen
+seen_by_host running faults log host = record { running = running host; faults = faults host; log = log host }
 
 -- the call answered that the child failed
 abbrev pub is_failed : {T : Type 0} → Result T HostFault → Bool
@@ -45,21 +45,21 @@ IsOn child words (stopped k answer) = k ≡ child
 
 -- What calls on a child made of what its host tells: so many of them failed, and the count of faults rose by as much,
 -- up to its last value.
-pub record Called (child : ℕ) (words : List (List ℕ)) (last : ℕ) (old new : Seen) (count : ℕ) : Type 0 where
+pub record CalledInner (child : ℕ) (words : List (List ℕ)) (last : ℕ) (old new : Seen) (count : ℕ) : Type 0 where
   pub others : (k : ℕ) → k ≢ child → new.running k ≡ old.running k
   pub later : old.faults ≤ new.faults
   pub rose : new.faults < last → old.faults + count ≤ new.faults
   pub events : List Event
   pub on : All (IsOn child words) events
   pub failed : failures events ≡ count
-  pub log : Grows old.log new.log events
+  pub log : LogGrows old.log new.log events
 
 -- Calls that are done again where they fail: each failure but the last one is made good, and takes one from those that
 -- still are.
 pub record Tried {T : Type 0} (child : ℕ) (words : List (List ℕ)) (last left_old left_new : ℕ) (old new : Seen)
     (result : Result T HostFault) : Type 0 where
   pub count : ℕ
-  pub called : Called child words last old new count
+  pub called : CalledInner child words last old new count
   pub left : left_old + refusals result ≤ left_new + count
   pub fewer : left_new ≤ left_old
   pub spent : IsErrOf result Failed → left_new ≡ 0

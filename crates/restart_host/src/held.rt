@@ -4,8 +4,8 @@ ghost use Rattle.gen_lines.specs.Lines.{is_feed};
 ghost use Rattle.io_world.specs.Leads.{wants_memory};
 ghost use Rattle.io_world.specs.Talks.{Same};
 ghost use Rattle.io_world.specs.declared.host.TheConstants.{CHILDREN};
-ghost use Rattle.restart_host.specs.Lines.{due_of};
-ghost use Rattle.restart_host.specs.Tries.{Called, refusals, seen_of};
+ghost use Rattle.restart_host.specs.Lines.{due_length};
+ghost use Rattle.restart_host.specs.Tries.{CalledInner, refusals, seen_by_host};
 
 use gen_lines::LINE_BYTES;
 use io_world::{Host, HostFault, hear_line};
@@ -67,7 +67,7 @@ impl Held {
 
     /// How long the first line is, with its line feed; all bytes where none ends.
     pub(crate) fn first_line(&self) -> usize
-        ensures value { result ≡ due_of self.now }
+        ensures value { result ≡ due_length self.now }
         ensures within { result ≤ length self.now }
     {
         let held = self.as_slice();
@@ -84,11 +84,11 @@ impl Held {
     pub(crate) fn hear<H: Host>(&mut self, host: &mut H, child: u8) -> Result<(), HostFault>
         requires number { child < CHILDREN }
         requires runs { H.running host.old child ≡ true }
-        ensures some { OnOk result (0 < due_of self.new) }
+        ensures some { OnOk result (0 < due_length self.new) }
         ensures kept { OnErr result (self.new ≡ self.old) }
         ensures running { Same (H.running host.old) (H.running host.new) }
-        ensures called { (words : List (List ℕ)) → Called child words H.last
-            (seen_of H.running H.faults H.log host.old) (seen_of H.running H.faults H.log host.new)
+        ensures called { (words : List (List ℕ)) → CalledInner child words H.last
+            (seen_by_host H.running H.faults H.log host.old) (seen_by_host H.running H.faults H.log host.new)
             (refusals result) }
         ensures leads { H.leads host.old host.new (wants_memory result) }
     {

@@ -3,7 +3,7 @@ ghost use Rattle.std.specs.Prelude.{◌≡◌, ◌<◌, ℕ, List, true, false, 
 ghost use Rattle.io_world.specs.Leads.{wants_memory};
 ghost use Rattle.io_world.specs.declared.host.TheConstants.{CHILDREN};
 ghost use Rattle.restart_host.specs.Kept.{IsFallen, OnlyLives};
-ghost use Rattle.restart_host.specs.Tries.{Called, Spends, Tried, refusals, seen_of};
+ghost use Rattle.restart_host.specs.Tries.{CalledInner, Spends, Tried, refusals, seen_by_host};
 
 use crate::kept::{Kept, Life};
 use io_world::{Host, HostFault, send_all};
@@ -34,8 +34,8 @@ pub(crate) fn end<H: Host>(host: &mut H, life: &mut Life, child: u8)
     requires ties { H.running host.old child ≡ life.old.alive }
     ensures down { H.running host.new child ≡ false }
     ensures fallen { IsFallen life.new }
-    ensures called { (words : List (List ℕ)) → Called child words H.last
-        (seen_of H.running H.faults H.log host.old) (seen_of H.running H.faults H.log host.new) 0 }
+    ensures called { (words : List (List ℕ)) → CalledInner child words H.last
+        (seen_by_host H.running H.faults H.log host.old) (seen_by_host H.running H.faults H.log host.new) 0 }
     ensures leads { H.leads host.old host.new false }
 {
     let alive = life.alive;
@@ -53,8 +53,8 @@ fn send<H: Host>(host: &mut H, child: u8, bytes: &[u8]) -> Result<(), HostFault>
     requires number { child < CHILDREN }
     requires runs { H.running host.old child ≡ true }
     ensures running { H.running host.new child ≡ is_ok result }
-    ensures called { (words : List (List ℕ)) → Called child words H.last
-        (seen_of H.running H.faults H.log host.old) (seen_of H.running H.faults H.log host.new)
+    ensures called { (words : List (List ℕ)) → CalledInner child words H.last
+        (seen_by_host H.running H.faults H.log host.old) (seen_by_host H.running H.faults H.log host.new)
         (refusals result) }
     ensures leads { H.leads host.old host.new (wants_memory result) }
 {
@@ -76,8 +76,8 @@ fn open<H: Host>(host: &mut H, child: u8, words: &[String], asked: &[u8]) -> Res
     requires words { 0 < length words.now }
     requires idle { H.running host.old child ≡ false }
     ensures running { H.running host.new child ≡ is_ok result }
-    ensures called { Called child (map string_bytes words.now) H.last
-        (seen_of H.running H.faults H.log host.old) (seen_of H.running H.faults H.log host.new)
+    ensures called { CalledInner child (map string_bytes words.now) H.last
+        (seen_by_host H.running H.faults H.log host.old) (seen_by_host H.running H.faults H.log host.new)
         (refusals result) }
     ensures leads { H.leads host.old host.new (wants_memory result) }
 {
@@ -106,7 +106,7 @@ pub(crate) fn revive<H: Host>(
     requires down { (life.old.alive ≡ false) × (H.running host.old child ≡ false) }
     ensures up { (life.new.alive ≡ is_ok result) × (H.running host.new child ≡ is_ok result) }
     ensures tried { Tried child (map string_bytes words.now) H.last left.old left.new
-        (seen_of H.running H.faults H.log host.old) (seen_of H.running H.faults H.log host.new)
+        (seen_by_host H.running H.faults H.log host.old) (seen_by_host H.running H.faults H.log host.new)
         result }
     ensures leads { H.leads host.old host.new (wants_memory result) }
 {
@@ -140,7 +140,7 @@ pub(crate) fn bring<H: Host>(
     ensures up { (kept.new.life.alive ≡ is_ok result) × (H.running host.new child ≡ is_ok result) }
     ensures kept { OnlyLives kept.old kept.new }
     ensures tried { Tried child (map string_bytes kept.old.words.items) H.last left.old left.new
-        (seen_of H.running H.faults H.log host.old) (seen_of H.running H.faults H.log host.new)
+        (seen_by_host H.running H.faults H.log host.old) (seen_by_host H.running H.faults H.log host.new)
         result }
     ensures leads { H.leads host.old host.new (wants_memory result) }
 {
@@ -170,8 +170,8 @@ fn hear<H: Host>(host: &mut H, life: &mut Life, child: u8) -> Result<(), HostFau
     ensures up { (life.new.alive ≡ is_ok result) × (H.running host.new child ≡ is_ok result) }
     ensures due { OnOk result (0 < life.new.due) }
     ensures fallen { OnErr result (IsFallen life.new) }
-    ensures called { (words : List (List ℕ)) → Called child words H.last
-        (seen_of H.running H.faults H.log host.old) (seen_of H.running H.faults H.log host.new)
+    ensures called { (words : List (List ℕ)) → CalledInner child words H.last
+        (seen_by_host H.running H.faults H.log host.old) (seen_by_host H.running H.faults H.log host.new)
         (refusals result) }
     ensures leads { H.leads host.old host.new (wants_memory result) }
 {
@@ -200,7 +200,7 @@ fn wake<H: Host>(host: &mut H, left: &mut u32, kept: &mut Kept, child: u8) -> Re
     ensures up { (kept.new.life.alive ≡ is_ok result) × (H.running host.new child ≡ is_ok result) }
     ensures kept { OnlyLives kept.old kept.new }
     ensures tried { Tried child (map string_bytes kept.old.words.items) H.last left.old left.new
-        (seen_of H.running H.faults H.log host.old) (seen_of H.running H.faults H.log host.new)
+        (seen_by_host H.running H.faults H.log host.old) (seen_by_host H.running H.faults H.log host.new)
         result }
     ensures leads { H.leads host.old host.new (wants_memory result) }
 {
@@ -227,7 +227,7 @@ pub(crate) fn fetch<H: Host>(
     ensures due { OnOk result (0 < kept.new.life.due) }
     ensures kept { OnlyLives kept.old kept.new }
     ensures tried { Tried child (map string_bytes kept.old.words.items) H.last left.old left.new
-        (seen_of H.running H.faults H.log host.old) (seen_of H.running H.faults H.log host.new)
+        (seen_by_host H.running H.faults H.log host.old) (seen_by_host H.running H.faults H.log host.new)
         result }
     ensures leads { H.leads host.old host.new (wants_memory result) }
 {

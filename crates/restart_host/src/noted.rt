@@ -6,8 +6,8 @@ ghost use Rattle.io_world.specs.Logs.{Notes};
 ghost use Rattle.io_world.specs.Talks.{given, heard, started, stopped, wrote};
 ghost use Rattle.io_world.specs.declared.host.HostFault.TheVariants.{Failed};
 ghost use Rattle.io_world.specs.declared.host.TheConstants.{CHILDREN};
-ghost use Rattle.restart_host.specs.Noted.{IsLed, IsNoted, counted};
-ghost use Rattle.restart_host.specs.Tries.{Called, Tried, refusals, seen_of};
+ghost use Rattle.restart_host.specs.Noted.{IsLed, IsCallNoted, counted};
+ghost use Rattle.restart_host.specs.Tries.{CalledInner, Tried, refusals, seen_by_host};
 
 use crate::inner::{bring, end, fetch, revive};
 use crate::kept::Kept;
@@ -55,10 +55,10 @@ pub(crate) fn start_child<H: Host>(
     ensures ties { H.running host.new child ≡ kept.new.life.alive }
     ensures running { kept.new.running ≡ is_ok result }
     ensures room { (log.old.kept ≤ log.new.kept) × OnOk result (log.new.kept ≡ log.old.kept + 1) }
-    ensures noted { IsNoted log.old log.new (started child (map string_bytes words.items) result)
+    ensures noted { IsCallNoted log.old log.new (started child (map string_bytes words.items) result)
         result }
     ensures tried { Tried child (map string_bytes words.items) H.last left.old left.new
-        (seen_of H.running H.faults H.log host.old) (seen_of H.running H.faults H.log host.new)
+        (seen_by_host H.running H.faults H.log host.old) (seen_by_host H.running H.faults H.log host.new)
         result }
     ensures leads { IsLed (H.leads host.old host.new) (wants_memory result) }
 {
@@ -97,9 +97,9 @@ pub(crate) fn write_child<H: Host>(
     ensures all { IfOk result (λ n. n ≡ length bytes.now) }
     ensures ties { H.running host.new child ≡ kept.new.life.alive }
     ensures noted { (kept.new.running ≡ true) × (log.new.kept ≡ log.old.kept)
-        × IsNoted log.old log.new (wrote child bytes.now result) result }
+        × IsCallNoted log.old log.new (wrote child bytes.now result) result }
     ensures tried { Tried child (map string_bytes kept.old.words.items) H.last left.old left.new
-        (seen_of H.running H.faults H.log host.old) (seen_of H.running H.faults H.log host.new)
+        (seen_by_host H.running H.faults H.log host.old) (seen_by_host H.running H.faults H.log host.new)
         result }
     ensures leads { IsLed (H.leads host.old host.new) (wants_memory result) }
 {
@@ -138,9 +138,9 @@ pub(crate) fn read_child<H: Host>(
     ensures count { IfOk result (λ n. (0 < n) × (n ≤ length room.new)) }
     ensures ties { H.running host.new child ≡ kept.new.life.alive }
     ensures noted { (kept.new.running ≡ true) × (log.new.kept ≡ log.old.kept)
-        × IsNoted log.old log.new (heard child (length room.old) (given result room.new)) result }
+        × IsCallNoted log.old log.new (heard child (length room.old) (given result room.new)) result }
     ensures tried { Tried child (map string_bytes kept.old.words.items) H.last left.old left.new
-        (seen_of H.running H.faults H.log host.old) (seen_of H.running H.faults H.log host.new)
+        (seen_by_host H.running H.faults H.log host.old) (seen_by_host H.running H.faults H.log host.new)
         result }
     ensures leads { IsLed (H.leads host.old host.new) (wants_memory result) }
 {
@@ -164,7 +164,7 @@ fn give(log: &mut CallLog, kept: &mut Kept, child: u8, room: &mut [u8]) -> Resul
         × (kept.new.life.alive ≡ kept.old.life.alive) }
     ensures quiet { refusals result ≡ 0 }
     ensures noted { (log.new.kept ≡ log.old.kept)
-        × IsNoted log.old log.new (heard child (length room.old) (given result room.new)) result }
+        × IsCallNoted log.old log.new (heard child (length room.old) (given result room.new)) result }
 {
     let size = room.len();
     let count = kept.life.due.min(size);
@@ -187,8 +187,8 @@ pub(crate) fn stop_child<H: Host>(host: &mut H, log: &mut CallLog, kept: &mut Ke
     ensures running { kept.new.running ≡ false }
     ensures noted { Notes log.old log.new (stopped child (Ok tt)) }
     ensures room { log.old.kept ≡ log.new.kept + 1 }
-    ensures called { (words : List (List ℕ)) → Called child words H.last
-        (seen_of H.running H.faults H.log host.old) (seen_of H.running H.faults H.log host.new) 0 }
+    ensures called { (words : List (List ℕ)) → CalledInner child words H.last
+        (seen_by_host H.running H.faults H.log host.old) (seen_by_host H.running H.faults H.log host.new) 0 }
     ensures leads { H.leads host.old host.new false }
 {
     end(host, &mut kept.life, child);

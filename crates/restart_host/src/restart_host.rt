@@ -3,7 +3,7 @@ ghost use Rattle.std.proofs.Common.{lit≤};
 ghost use Rattle.std.specs.Prelude.{◌≡◌, ◌<◌, ◌≤◌, ℕ, true, false, count_by, vec_len, IfOk};
 ghost use Rattle.io_world.specs.Faults.{last_count};
 ghost use Rattle.io_world.specs.Logs.{calls_spell, said_of, told_of};
-ghost use Rattle.restart_host.specs.Kept.{AreIdle, is_alive, is_on, is_running};
+ghost use Rattle.restart_host.specs.Kept.{AreIdle, is_alive, is_on, runs_outside};
 
 use crate::kept::{Kept, copy_words};
 use crate::noted::{read_child, start_child, stop_child, tally, write_child};
@@ -44,7 +44,7 @@ impl<'a, H: Host> RestartHost<'a, H> {
         ensures same { IfOk result (λ r. r.host.ghost_name ≡ host.entry.ghost_name) }
         ensures now { IfOk result (λ r. r.host.now ≡ host.old) }
         ensures left { IfOk result (λ r. r.left ≡ restarts) }
-        ensures idle { IfOk result (λ r. (k : ℕ) → is_running r.children.items k ≡ false) }
+        ensures idle { IfOk result (λ r. (k : ℕ) → runs_outside r.children.items k ≡ false) }
     {
         let children = idle_children(alloc)?;
         Ok(RestartHost {
@@ -75,13 +75,13 @@ impl<'a, H: Host> Host for RestartHost<'a, H> {
     ghost use Rattle.std.proofs.Common.{refl, ◌∙◌};
     ghost use Rattle.restart_host.specs.Leads.{Carries, carries_none, carries_chain, carries_end, led_none, led_chain, led_end};
     ghost use Rattle.restart_host.specs.Noted.{IsLed};
-    ghost use Rattle.restart_host.specs.Tries.{seen_of};
+    ghost use Rattle.restart_host.specs.Tries.{seen_by_host};
 
     ghost faults = { λ h. h.faults };
 
     ghost last = { last_count };
 
-    ghost running = { λ h. is_running h.children.items };
+    ghost running = { λ h. runs_outside h.children.items };
 
     ghost spoken = { λ h. said_of h.log };
 
@@ -93,13 +93,13 @@ impl<'a, H: Host> Host for RestartHost<'a, H> {
           left = old.left;
           faults = old.faults;
           log = old.log;
-          below = seen_of H.running H.faults H.log old.host.now;
+          below = seen_by_host H.running H.faults H.log old.host.now;
         })
         (record {
           left = new.left;
           faults = new.faults;
           log = new.log;
-          below = seen_of H.running H.faults H.log new.host.now;
+          below = seen_by_host H.running H.faults H.log new.host.now;
         }) memory };
 
     ghost spells = { λ h child runs. calls_spell h.log child };

@@ -5,7 +5,7 @@ use Rattle.std.proofs.Math.Seq.{take-add}
 use Rattle.std.proofs.lemmas.List.{append-nil, take-map, drop-take, length-take, length-map, drop-map}
 use Rattle.std.proofs.lemmas.Simd.{map-map}
 use Rattle.lemmas.proofs.Ascending.{contains_here}
-use Rattle.instance_queue.specs.Level.{instances_of}
+use Rattle.instance_queue.specs.Level.{due_instances}
 use Rattle.instance_queue.specs.declared.due.Due.{Due}
 use Rattle.pools.specs.Pools as pools
 use Rattle.pools.specs.Pools.{shares_of, workers_of}
@@ -29,7 +29,7 @@ less a b c = omega arith
 pools_same : (head : Head) (s : State) → IsOf head s
     → shares_of s.pools ≡ map share_of head.pools
 pools_same head s of =
-    ap shares_of of.pools ∙ map-map pools.share_of workers_of head.pools
+    ap shares_of of.pools ∙ map-map pools.share_of_workers workers_of head.pools
 
 pub batch_none : (head : Head) (task : Task) (before : List Entry) (list : List Instance)
     → take (rounds.calls_left (limits_of head) before) list ≡ [] → IsBatch (limits_of head) task before list []
@@ -46,33 +46,33 @@ module _ (head : Head) (task : Task) (s : State) (dues : List Due) (count : ℕ)
   whole : left ≡ count + (left - count)
   whole = omega (arith, sym left_is, n.left)
 
-  list_is : take left (instances_of dues) ≡ instances_of (take count dues) ++ take (left - count) (instances_of (drop count dues))
+  list_is : take left (due_instances dues) ≡ due_instances (take count dues) ++ take (left - count) (due_instances (drop count dues))
   list_is =
-      ap (λ m. take m (instances_of dues)) whole ∙ take-add count (left - count) (instances_of dues)
+      ap (λ m. take m (due_instances dues)) whole ∙ take-add count (left - count) (due_instances dues)
       ∙ (λ i. take-map (λ (d : Due). d.instance) count dues i ++ take (left - count) (drop-map (λ (d : Due). d.instance) count dues i))
 
-  rest_is : instances_of (drop count (take (session_calls_left s) dues)) ≡ take (left - count) (instances_of (drop count dues))
+  rest_is : due_instances (drop count (take (session_calls_left s) dues)) ≡ take (left - count) (due_instances (drop count dues))
   rest_is =
-      ap (λ m. instances_of (drop count (take m dues))) (left_is ∙ whole)
-      ∙ ap instances_of (drop-take count (left - count) dues)
+      ap (λ m. due_instances (drop count (take m dues))) (left_is ∙ whole)
+      ∙ ap due_instances (drop-take count (left - count) dues)
       ∙ sym (take-map (λ (d : Due). d.instance) (left - count) (drop count dues))
 
   pub batch_step : (now rest : List Entry) → 0 < count
-      → IsRound task s.entries (instances_of (take count dues)) now
+      → IsRound task s.entries (due_instances (take count dues)) now
       → asks_of (s.entries ++ now) ≡ asks_of s.entries + count
-      → IsBatch (limits_of head) task (s.entries ++ now) (instances_of (drop count dues)) rest
-      → IsBatch (limits_of head) task s.entries (instances_of dues) (now ++ rest)
+      → IsBatch (limits_of head) task (s.entries ++ now) (due_instances (drop count dues)) rest
+      → IsBatch (limits_of head) task s.entries (due_instances dues) (now ++ rest)
   batch_step now rest some round counted b = record {
-    rounds = instances_of (take count dues) ∷ b.rounds;
+    rounds = due_instances (take count dues) ∷ b.rounds;
     cut = (
-      take (left - count) (instances_of (drop count dues)),
+      take (left - count) (due_instances (drop count dues)),
       list_is,
       omega (arith, some, n.within, length-map (take count dues) (λ (d : Due). d.instance), length-take count dues),
-      subst (λ ps. fits ps (instances_of (take count dues)) ≡ true) (pools_same head s of) n.fit,
-      subst (IsFull (map share_of head.pools) (instances_of (take count dues))) rest_is
-          (subst (λ ps. IsFull ps (instances_of (take count dues)) (instances_of (drop count (take (session_calls_left s) dues))))
+      subst (λ ps. fits ps (due_instances (take count dues)) ≡ true) (pools_same head s of) n.fit,
+      subst (IsFull (map share_of head.pools) (due_instances (take count dues))) rest_is
+          (subst (λ ps. IsFull ps (due_instances (take count dues)) (due_instances (drop count (take (session_calls_left s) dues))))
           (pools_same head s of) n.full),
-      subst (λ m. AreRounds (map share_of head.pools) (take m (instances_of (drop count dues))) b.rounds) left_after b.cut,
+      subst (λ m. AreRounds (map share_of head.pools) (take m (due_instances (drop count dues))) b.rounds) left_after b.cut,
     );
     run = (now, rest, refl, round, b.run);
   }
@@ -96,9 +96,9 @@ so_far_none head task first list =
 pub so_far_step : (head : Head) (task : Task) (first : List Entry) (list : List Instance) (s : State) (dues : List Due)
     (count : ℕ) (after : List Entry)
     → IsOf head s → IsSession task s → IsNextRound s dues count → 0 < count
-    → (round : (now : List Entry) × (after ≡ s.entries ++ now) × IsRound task s.entries (instances_of (take count dues)) now)
-    → asks_of after ≡ asks_of s.entries + count → SoFar head task first list s.entries (instances_of dues)
-    → SoFar head task first list after (instances_of (drop count dues))
+    → (round : (now : List Entry) × (after ≡ s.entries ++ now) × IsRound task s.entries (due_instances (take count dues)) now)
+    → asks_of after ≡ asks_of s.entries + count → SoFar head task first list s.entries (due_instances dues)
+    → SoFar head task first list after (due_instances (drop count dues))
 so_far_step head task first list s dues count after of h n some round counted so = record {
   more = so.more ++ round.0;
   pushed = round.1 ∙ ap (λ es. es ++ round.0) so.pushed ∙ append_assoc first so.more round.0;
@@ -106,7 +106,7 @@ so_far_step head task first list s dues count after of h n some round counted so
       subst (IsBatch (limits_of head) task first list) (sym (append_assoc so.more round.0 tail))
       (so.with_rest (round.0 ++ tail) (batch_step head task s dues count of h n round.0 tail some round.2
       (ap asks_of (sym round.1) ∙ counted)
-      (subst (λ es. IsBatch (limits_of head) task es (instances_of (drop count dues)) tail) round.1 b)));
+      (subst (λ es. IsBatch (limits_of head) task es (due_instances (drop count dues)) tail) round.1 b)));
 }
 
 pub so_far_end : (head : Head) (task : Task) (first : List Entry) (list : List Instance) (now : List Entry) (left : List Instance)
@@ -121,12 +121,12 @@ so_far_end head task first list now left none so = (
 -- ---- where a batch ends
 
 pub none_of_none : (head : Head) (before : List Entry) (dues : List Due) → dues ≡ []
-    → take (rounds.calls_left (limits_of head) before) (instances_of dues) ≡ []
+    → take (rounds.calls_left (limits_of head) before) (due_instances dues) ≡ []
 none_of_none head before dues none =
-    ap (λ ds. take (rounds.calls_left (limits_of head) before) (instances_of ds)) none
+    ap (λ ds. take (rounds.calls_left (limits_of head) before) (due_instances ds)) none
     ∙ take_none (rounds.calls_left (limits_of head) before)
   where
-    take_none : (n : ℕ) → take n (instances_of []) ≡ []
+    take_none : (n : ℕ) → take n (due_instances []) ≡ []
     take_none zero = refl
     take_none (suc n) = refl
 
@@ -161,4 +161,4 @@ pub first_of : (task : Task) (entries : List Entry) (dues : List Due) → AreRea
     → (i : Instance) × IsDue task (known_of task entries) (notes_of task entries) i
 first_of task entries [] ready some = absurd (omega (arith, some))
 first_of task entries (d ∷ ds) ready some =
-    (d.instance, ready.due d.instance (contains_here d.instance (instances_of ds)))
+    (d.instance, ready.due d.instance (contains_here d.instance (due_instances ds)))

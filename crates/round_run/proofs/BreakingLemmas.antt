@@ -4,7 +4,7 @@ use Rattle.std.proofs.lemmas.List.{append-nil, append_cancel_left}
 use Rattle.gen_lines.specs.Lines.{lines_of}
 use Rattle.gen_lines.specs.declared.answer.Why.{Why}
 use Rattle.io_world.specs.Faults.{Extends}
-use Rattle.io_world.specs.Talks.{Event, wrote, heard, silence, spelled, LogsGiven, LogsGivenPart, LogsTakenPart, Spells}
+use Rattle.io_world.specs.Talks.{Event, wrote, heard, silence, spelled, LogsGiven, LogsGivenPart, LogsTakenPart, SpellsTalk}
 use Rattle.io_world.specs.Talks.{Talk}
 use Rattle.io_world.specs.declared.host.HostFault.{HostFault}
 use Rattle.io_world.specs.declared.host.HostFault.TheVariants as host
@@ -16,7 +16,7 @@ use Rattle.transcript_model.specs.declared.entry.Entry.{Entry}
 use Rattle.round_run.proofs.CallsRoundLemmas.{reads_early, reads_quiet, still_part, told_talk}
 use Rattle.round_run.proofs.CallsLemmas.{follows_join}
 use Rattle.round_run.specs.Breaking.{Breaks, IsBegun, LogBreaks, LogHears, Tells, refusal}
-use Rattle.round_run.specs.Calls.{Calls, Follows, LogFollows}
+use Rattle.round_run.specs.Calls.{AddsCalls, Follows, LogFollows}
 use Rattle.round_run.specs.Dialogue.{IsOneOf, Request, replies_of, requests_of, text_of_request}
 use Rattle.round_run.specs.Rolling.{IsHostFault}
 use Rattle.round_run.specs.Stops.{MayHear, MayListen, MayWrite}
@@ -185,13 +185,13 @@ module _ (task : Task) (version : ℕ) (pools : List Workers) (Front : List Entr
   module _ (before : List Entry) (r : Request) (next : slice_get (requests_of task pools before) (length (replies_of before)) ≡ Some r)
       (one : IsOneOf pools r.child) (kept : ℕ → List ℕ) (spoken : ℕ → Option Talk)
       (talks : Talks task version pools (requests_of task pools before) (replies_of before) kept spoken) (old new : Option (List Event))
-      (spells : Spells old r.child (spoken r.child)) where
+      (spells : SpellsTalk old r.child (spoken r.child)) where
     pub breaks_hearing : (fault : RunFault) → MayListen fault → LogHears r.child (kept r.child) fault old new
         → LogBreaks task version pools before fault old new Front []
     breaks_hearing fault may (events, refused, each, early, last, tells, grows) =
         breaks_begun before fault old new events refused
         (tells_map ⊥ (HasNoneOpen before) fault refused (λ never. absurd never) tells) grows (λ past was.
-        let talk = told_talk (spoken r.child) past (subst (λ o. Spells o r.child (spoken r.child)) was spells) (talks.each r.child one) in
+        let talk = told_talk (spoken r.child) past (subst (λ o. SpellsTalk o r.child (spoken r.child)) was spells) (talks.each r.child one) in
         inr (inr (
           may,
           record {
@@ -240,7 +240,7 @@ module _ (task : Task) (version : ℕ) (pools : List Workers) (Front : List Entr
   }
 
   pub breaks_then : (a b : List Entry) (fault : RunFault) (old mid new : Option (List Event))
-      → (calls : Calls task pools a b old mid)
+      → (calls : AddsCalls task pools a b old mid)
       → (front : List Entry) → b ≡ a ++ front → (more : List Entry) → LogBreaks task version pools b fault mid new Front more
       → LogBreaks task version pools a fault old new Front (front ++ more)
   breaks_then a b fault old mid new calls front is more broken =

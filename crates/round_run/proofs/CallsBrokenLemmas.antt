@@ -1,6 +1,6 @@
 -- The calls of a round that stops.
 use Rattle.std.proofs.Common.{◌≡◌, ℕ, ◌<◌, List, [], ◌++◌, length, take, Option, Some, subst, ◌∙◌, slice_get, Bool, true}
-use Rattle.io_world.specs.Talks.{Talk, Event, LogsTakenPart, Spells}
+use Rattle.io_world.specs.Talks.{Talk, Event, LogsTakenPart, SpellsTalk}
 use Rattle.io_world.specs.declared.host.HostFault.{HostFault}
 use Rattle.session_core.specs.Session.{IsSession}
 use Rattle.session_core.specs.Slots.{Slot}
@@ -14,7 +14,7 @@ use Rattle.round_run.proofs.TalkingRoundLemmas.{next_front, next_legal, request_
 use Rattle.round_run.proofs.TalkingHeardLemmas.{next_asked}
 use Rattle.round_run.specs.Breaking.{LogBreaks, LogHears}
 use Rattle.round_run.specs.Dialogue.{text_of_request}
-use Rattle.round_run.specs.Rolling.{IsFrontPart, IsHostFault, IsRolling, finished}
+use Rattle.round_run.specs.Rolling.{IsFrontPart, IsHostFault, IsRolling, finished_round}
 use Rattle.round_run.specs.Stops.{MayHear, MayListen}
 use Rattle.round_run.specs.Talking.{IsTalking}
 use Rattle.round_run.specs.declared.fault.RunFault.{RunFault}
@@ -41,13 +41,13 @@ module _ (task : Task) (s : State) (running : ℕ → Bool) (place : ℕ) (rolli
     (h : IsSession task s) (k : IsTalking task s (length s.slots) place kept old) where
   -- no answer was taken
   pub heard_off : (Front : List Entry → Type 0) (child : ℕ) (fault : RunFault) (was now : Option (List Event)) → MayListen fault
-      → child ≡ t.child → Spells was child (old child)
+      → child ≡ t.child → SpellsTalk was child (old child)
       → LogHears child (kept child) fault was now
-      → LogBreaks task s.version s.pools (s.entries ++ s.asks ++ take place (finished s.slots)) fault was now Front []
+      → LogBreaks task s.version s.pools (s.entries ++ s.asks ++ take place (finished_round s.slots)) fault was now Front []
   heard_off Front child fault was now may own spells log =
       let r = request_at task s place kept old old t at k.slots in
       let same = own ∙ r.2.child in
-      breaks_hearing task s.version s.pools Front (s.entries ++ s.asks ++ take place (finished s.slots)) r.0
+      breaks_hearing task s.version s.pools Front (s.entries ++ s.asks ++ take place (finished_round s.slots)) r.0
       (next_asked task s running place rolling within t at kept old h k) r.2.one kept old
       (talks_at_heard task s place kept old rolling.begun h k) was now
-      (subst (λ c. Spells was c (old c)) same spells) fault may (subst (λ c. LogHears c (kept c) fault was now) same log)
+      (subst (λ c. SpellsTalk was c (old c)) same spells) fault may (subst (λ c. LogHears c (kept c) fault was now) same log)

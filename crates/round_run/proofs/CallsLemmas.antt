@@ -11,7 +11,7 @@ use Rattle.transcript_model.specs.Legal.{is_ask, is_answer}
 use Rattle.transcript_model.specs.declared.entry.Entry.{Entry}
 use Rattle.transcript_model.specs.declared.entry.Entry.TheVariants as entry
 use Rattle.round_run.proofs.DialogueRequestLemmas.{requests_join}
-use Rattle.round_run.specs.Calls.{AreCallsOf, Calls, Follows, Hearing, LogFollows, next_request}
+use Rattle.round_run.specs.Calls.{AreCallsOf, AddsCalls, Follows, Hearing, LogFollows, next_request}
 use Rattle.round_run.specs.Dialogue.{Request, requests_of, text_of_request}
 
 -- ---- what events spell
@@ -100,18 +100,18 @@ module _ (task : Task) (pools : List Workers) where
       )
 
   pub calls_none : (before : List Entry) (log : Option (List Event))
-      → Calls task pools before before log log
+      → AddsCalls task pools before before log log
   calls_none before log =
       record { more = []; pushed = sym (append-nil before); log = log_none before log }
 
   pub calls_one : (before after : List Entry) (e : Entry) (old new : Option (List Event))
       → after ≡ before ++ e ∷ []
-      → LogFollows task pools before (e ∷ []) old new → Calls task pools before after old new
+      → LogFollows task pools before (e ∷ []) old new → AddsCalls task pools before after old new
   calls_one before after e old new pushed log = record { more = e ∷ []; pushed = pushed; log = log }
 
   pub calls_then : (a b c : List Entry) (old mid new : Option (List Event))
-      → Calls task pools a b old mid → Calls task pools b c mid new
-      → Calls task pools a c old new
+      → AddsCalls task pools a b old mid → AddsCalls task pools b c mid new
+      → AddsCalls task pools a c old new
   calls_then a b c old mid new first second = record {
     more = first.more ++ second.more;
     pushed =

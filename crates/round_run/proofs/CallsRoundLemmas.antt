@@ -10,9 +10,9 @@ use Rattle.gen_lines.proofs.CuttingLemmas.{whole}
 use Rattle.gen_lines.proofs.LinesLemmas.{ended_length}
 use Rattle.gen_lines.specs.Lines.{ended, is_feed, lines_of}
 use Rattle.io_world.specs.Replies.{IsLine}
-use Rattle.io_world.specs.Talks.{Talk, Event, silence, spelled, heard_more, IsGiven, LogsGiven, LogsTaken, Spells}
+use Rattle.io_world.specs.Talks.{Talk, Event, silence, spelled, heard_more, IsGiven, LogsGiven, LogsTaken, SpellsTalk}
 use Rattle.lemmas.proofs.Counts.{count_joined, count_one}
-use Rattle.session_core.specs.Session.{IsSession, begun}
+use Rattle.session_core.specs.Session.{IsSession, round_begun}
 use Rattle.transcript_model.specs.Legal.{is_answer}
 use Rattle.session_core.specs.Slots.{Slot, answers_of}
 use Rattle.session_core.specs.State.{State, with_slots}
@@ -25,9 +25,9 @@ use Rattle.round_run.proofs.DialogueLemmas.{all_lines, count_own}
 use Rattle.round_run.proofs.TalkingRoundLemmas.{front_each, replies_heard, request_at, requests_heard, requests_sent, round_asks, round_replies, talks_at_heard}
 use Rattle.round_run.proofs.TalkingHeardLemmas.{next_asked}
 use Rattle.instance_queue.specs.declared.due.Due.{Due}
-use Rattle.round_run.specs.Calls.{Calls, LogFollows, LogReads, lines_read}
+use Rattle.round_run.specs.Calls.{AddsCalls, LogFollows, LogReads, lines_read}
 use Rattle.round_run.specs.Dialogue.{IsOneOf, Request, count_to, replies_of, requests_of, text_of_request}
-use Rattle.round_run.specs.Rolling.{IsRolling, IsSameRound, finished}
+use Rattle.round_run.specs.Rolling.{IsRolling, IsSameRound, finished_round}
 use Rattle.round_run.specs.Talking.{IsSlotOf, IsTalk, IsTalking, Talks}
 use Rattle.lemmas.proofs.Members.{next_taken}
 
@@ -134,8 +134,8 @@ pub heard_log : (task : Task) (version : ℕ) (pools : List Workers) (before : L
     (kept left : ℕ → List ℕ) (old new : ℕ → Option Talk) (was now : Option (List Event))
     → is_answer e ≡ true → slice_get (requests_of task pools before) (length (replies_of before)) ≡ Some r → IsOneOf pools r.child
     → Talks task version pools (requests_of task pools before) (replies_of before) kept old
-    → Talks task version pools (requests_of task pools before) (replies_of before ++ e ∷ []) left new → Spells was r.child (old r.child)
-    → Spells now r.child (new r.child) → LogReads r.child (kept r.child) was now → LogFollows task pools before (e ∷ []) was now
+    → Talks task version pools (requests_of task pools before) (replies_of before ++ e ∷ []) left new → SpellsTalk was r.child (old r.child)
+    → SpellsTalk now r.child (new r.child) → LogReads r.child (kept r.child) was now → LogFollows task pools before (e ∷ []) was now
 heard_log task version pools before e r kept left old new was now answer next one talks later spells_was spells_now
     (events, each, early, grows) =
     log_one task pools before e was now events grows (λ past is came. answer_calls task pools before e past events answer (record {
@@ -144,12 +144,12 @@ heard_log task version pools before e r kept left old new was now answer next on
       reads = record {
         each = each;
         early = reads_early task version pools (requests_of task pools before) (replies_of before) r next (kept r.child) (left r.child) past
-            events (told_talk (old r.child) past (subst (λ o. Spells o r.child (old r.child)) is spells_was) (talks.each r.child one)) each
+            events (told_talk (old r.child) past (subst (λ o. SpellsTalk o r.child (old r.child)) is spells_was) (talks.each r.child one)) each
             early;
       };
       line = reads_line task version pools (requests_of task pools before) (replies_of before) r next (kept r.child) (left r.child) past
           events e
-          (told_talk (new r.child) (past ++ events) (subst (λ o. Spells o r.child (new r.child)) came spells_now) (later.each r.child one));
+          (told_talk (new r.child) (past ++ events) (subst (λ o. SpellsTalk o r.child (new r.child)) came spells_now) (later.each r.child one));
     }))
 
 -- ---- one request
@@ -200,18 +200,18 @@ module _ (task : Task) (s : State) (running : ℕ → Bool) (place : ℕ) (rolli
   pub heard_calls : (new : State) (slots : List Slot) (failed : Bool) (kept left : ℕ → List ℕ) (old now : ℕ → Option Talk)
       (e : Entry) (child : ℕ) (was came : Option (List Event))
       → new ≡ with_slots s slots failed → IsSession task s → IsSession task new → IsTalking task s (length s.slots) place kept old
-      → IsTalking task new (length new.slots) (place + 1) left now → slice_get (finished new.slots) place ≡ Some e
-      → take place (finished new.slots) ≡ take place (finished s.slots) → child ≡ t.child → Spells was child (old child)
-      → Spells came child (now child) → LogReads child (kept child) was came
-      → LogFollows task s.pools (s.entries ++ s.asks ++ take place (finished s.slots)) (e ∷ []) was came
+      → IsTalking task new (length new.slots) (place + 1) left now → slice_get (finished_round new.slots) place ≡ Some e
+      → take place (finished_round new.slots) ≡ take place (finished_round s.slots) → child ≡ t.child → SpellsTalk was child (old child)
+      → SpellsTalk came child (now child) → LogReads child (kept child) was came
+      → LogFollows task s.pools (s.entries ++ s.asks ++ take place (finished_round s.slots)) (e ∷ []) was came
   heard_calls new slots failed kept left old now e child was came is h h_new k k_new at_e front own spells_was spells_came log =
       heard_log task s.version s.pools before e r.0 kept left old now was came
       (round_replies task new open_new h_new place e at_e) next r.2.one talks later
-      (subst (λ c. Spells was c (old c)) same spells_was)
-      (subst (λ c. Spells came c (now c)) same spells_came) (subst (λ c. LogReads c (kept c) was came) same log)
+      (subst (λ c. SpellsTalk was c (old c)) same spells_was)
+      (subst (λ c. SpellsTalk came c (now c)) same spells_came) (subst (λ c. LogReads c (kept c) was came) same log)
     where
       before : List Entry
-      before = s.entries ++ s.asks ++ take place (finished s.slots)
+      before = s.entries ++ s.asks ++ take place (finished_round s.slots)
 
       r : (r : Request) × (slice_get (requests_of task s.pools s.asks) place ≡ Some r) × IsSlotOf task s.version s.pools r t
       r = request_at task s place kept old old t at k.slots
@@ -225,10 +225,10 @@ module _ (task : Task) (s : State) (running : ℕ → Bool) (place : ℕ) (rolli
       asks : AreAsks s.asks
       asks = round_asks task s rolling.begun h
 
-      each : AreReplies (take place (finished s.slots))
-      each = front_each (finished s.slots) place (round_replies task s rolling.begun h)
+      each : AreReplies (take place (finished_round s.slots))
+      each = front_each (finished_round s.slots) place (round_replies task s rolling.begun h)
 
-      each_new : AreReplies (finished new.slots)
+      each_new : AreReplies (finished_round new.slots)
       each_new = round_replies task new open_new h_new
 
       next : slice_get (requests_of task s.pools before) (length (replies_of before)) ≡ Some r.0
@@ -237,56 +237,56 @@ module _ (task : Task) (s : State) (running : ℕ → Bool) (place : ℕ) (rolli
       talks : Talks task s.version s.pools (requests_of task s.pools before) (replies_of before) kept old
       talks = talks_at_heard task s place kept old rolling.begun h k
 
-      moved : Talks task s.version s.pools (requests_of task s.pools (s.entries ++ s.asks ++ take (place + 1) (finished new.slots)))
-          (replies_of (s.entries ++ s.asks ++ take (place + 1) (finished new.slots))) left now
+      moved : Talks task s.version s.pools (requests_of task s.pools (s.entries ++ s.asks ++ take (place + 1) (finished_round new.slots)))
+          (replies_of (s.entries ++ s.asks ++ take (place + 1) (finished_round new.slots))) left now
       moved = subst (λ (x : State).
-          Talks task x.version x.pools (requests_of task x.pools (x.entries ++ x.asks ++ take (place + 1) (finished new.slots)))
-          (replies_of (x.entries ++ x.asks ++ take (place + 1) (finished new.slots))) left now) is
+          Talks task x.version x.pools (requests_of task x.pools (x.entries ++ x.asks ++ take (place + 1) (finished_round new.slots)))
+          (replies_of (x.entries ++ x.asks ++ take (place + 1) (finished_round new.slots))) left now) is
           (talks_at_heard task new (place + 1) left now open_new h_new k_new)
 
-      printed : take (place + 1) (finished new.slots) ≡ take place (finished s.slots) ++ e ∷ []
-      printed = next_taken (finished new.slots) place e at_e ∙ ap (λ es. es ++ e ∷ []) front
+      printed : take (place + 1) (finished_round new.slots) ≡ take place (finished_round s.slots) ++ e ∷ []
+      printed = next_taken (finished_round new.slots) place e at_e ∙ ap (λ es. es ++ e ∷ []) front
 
-      requests : requests_of task s.pools (s.entries ++ s.asks ++ take (place + 1) (finished new.slots)) ≡ requests_of task s.pools before
+      requests : requests_of task s.pools (s.entries ++ s.asks ++ take (place + 1) (finished_round new.slots)) ≡ requests_of task s.pools before
       requests =
           requests_heard task s.pools s.entries s.asks k.closed asks
-          (take (place + 1) (finished new.slots)) (front_each (finished new.slots) (place + 1) each_new)
-          ∙ sym (requests_heard task s.pools s.entries s.asks k.closed asks (take place (finished s.slots)) each)
+          (take (place + 1) (finished_round new.slots)) (front_each (finished_round new.slots) (place + 1) each_new)
+          ∙ sym (requests_heard task s.pools s.entries s.asks k.closed asks (take place (finished_round s.slots)) each)
 
-      replies : replies_of (s.entries ++ s.asks ++ take (place + 1) (finished new.slots)) ≡ replies_of before ++ e ∷ []
+      replies : replies_of (s.entries ++ s.asks ++ take (place + 1) (finished_round new.slots)) ≡ replies_of before ++ e ∷ []
       replies =
           replies_heard task s.pools s.entries s.asks k.closed asks
-          (take (place + 1) (finished new.slots)) (front_each (finished new.slots) (place + 1) each_new)
+          (take (place + 1) (finished_round new.slots)) (front_each (finished_round new.slots) (place + 1) each_new)
           ∙ ap (λ es. replies_of s.entries ++ es) printed
-          ∙ sym (append_assoc (replies_of s.entries) (take place (finished s.slots)) (e ∷ []))
-          ∙ ap (λ es. es ++ e ∷ []) (sym (replies_heard task s.pools s.entries s.asks k.closed asks (take place (finished s.slots)) each))
+          ∙ sym (append_assoc (replies_of s.entries) (take place (finished_round s.slots)) (e ∷ []))
+          ∙ ap (λ es. es ++ e ∷ []) (sym (replies_heard task s.pools s.entries s.asks k.closed asks (take place (finished_round s.slots)) each))
 
       later : Talks task s.version s.pools (requests_of task s.pools before) (replies_of before ++ e ∷ []) left now
       later = subst (λ rs. Talks task s.version s.pools rs (replies_of before ++ e ∷ []) left now) requests
           (subst (λ es. Talks task s.version s.pools
-          (requests_of task s.pools (s.entries ++ s.asks ++ take (place + 1) (finished new.slots))) es left now) replies moved)
+          (requests_of task s.pools (s.entries ++ s.asks ++ take (place + 1) (finished_round new.slots))) es left now) replies moved)
 
 -- ---- a whole round
 
 pub round_order : (task : Task) (s b m x : State) (dues : List Due) (old mid new : Option (List Event))
-    → b ≡ begun task s dues
-    → IsSameRound b m → IsSameRound m x → finished x.slots ≡ answers_of x.slots → Calls task b.pools b.entries (b.entries ++ b.asks) old mid
-    → Calls task m.pools (m.entries ++ m.asks) (m.entries ++ m.asks ++ finished x.slots) mid new
-    → Calls task s.pools s.entries (x.entries ++ x.asks ++ answers_of x.slots) old new
+    → b ≡ round_begun task s dues
+    → IsSameRound b m → IsSameRound m x → finished_round x.slots ≡ answers_of x.slots → AddsCalls task b.pools b.entries (b.entries ++ b.asks) old mid
+    → AddsCalls task m.pools (m.entries ++ m.asks) (m.entries ++ m.asks ++ finished_round x.slots) mid new
+    → AddsCalls task s.pools s.entries (x.entries ++ x.asks ++ answers_of x.slots) old new
 round_order task s b m x dues old mid new starts first second all sent heard =
-    subst (λ es. Calls task s.pools s.entries es old new) (sym entries_are)
-    (calls_then task s.pools s.entries (s.entries ++ (begun task s dues).asks)
-    (s.entries ++ (begun task s dues).asks ++ finished x.slots) old mid new
-    (subst (λ (y : State). Calls task y.pools y.entries (y.entries ++ y.asks) old mid) starts sent)
-    (subst (λ (y : State). Calls task y.pools (y.entries ++ y.asks) (y.entries ++ y.asks ++ finished x.slots) mid new) m_is heard))
+    subst (λ es. AddsCalls task s.pools s.entries es old new) (sym entries_are)
+    (calls_then task s.pools s.entries (s.entries ++ (round_begun task s dues).asks)
+    (s.entries ++ (round_begun task s dues).asks ++ finished_round x.slots) old mid new
+    (subst (λ (y : State). AddsCalls task y.pools y.entries (y.entries ++ y.asks) old mid) starts sent)
+    (subst (λ (y : State). AddsCalls task y.pools (y.entries ++ y.asks) (y.entries ++ y.asks ++ finished_round x.slots) mid new) m_is heard))
   where
-    m_is : m ≡ with_slots (begun task s dues) m.slots m.failed
+    m_is : m ≡ with_slots (round_begun task s dues) m.slots m.failed
     m_is = first ∙ ap (λ (y : State). with_slots y m.slots m.failed) starts
 
-    x_is : x ≡ with_slots (begun task s dues) x.slots x.failed
+    x_is : x ≡ with_slots (round_begun task s dues) x.slots x.failed
     x_is = second ∙ ap (λ (y : State). with_slots y x.slots x.failed) m_is
 
-    entries_are : x.entries ++ x.asks ++ answers_of x.slots ≡ s.entries ++ (begun task s dues).asks ++ finished x.slots
+    entries_are : x.entries ++ x.asks ++ answers_of x.slots ≡ s.entries ++ (round_begun task s dues).asks ++ finished_round x.slots
     entries_are =
         ap (λ es. x.entries ++ x.asks ++ es) (sym all)
-        ∙ ap (λ (y : State). y.entries ++ y.asks ++ finished x.slots) x_is
+        ∙ ap (λ (y : State). y.entries ++ y.asks ++ finished_round x.slots) x_is

@@ -24,7 +24,7 @@ use Rattle.transcript_model.proofs.LegalStepLemmas.{mark_no_ask}
 use Rattle.round_run.proofs.DialogueMarkLemmas.{asks_behind, calls_marked}
 use Rattle.round_run.proofs.StartsLemmas.{starts_cut, starts_more}
 use Rattle.round_run.proofs.TalkingLemmas.{none_asked}
-use Rattle.round_run.specs.Calls.{AreCallsOf, Calls, Follows, Hearing, IsStop, LogRuns, LogStartsPart, LogStops, Runs, has_child, start_at, start_in, starts_before, starts_of}
+use Rattle.round_run.specs.Calls.{AreCallsOf, AddsCalls, Follows, Hearing, IsStop, LogRuns, LogStartsPart, LogStops, Runs, has_child, start_at, start_in, starts_before, starts_of}
 use Rattle.round_run.specs.Dialogue.{replies_of, workers_in}
 use Rattle.round_run.specs.Rolling.{IsHostFault}
 use Rattle.round_run.specs.Batches.{EndsBatch}
@@ -136,7 +136,7 @@ runs_from task head before more starts old (Some middle) (Some after) is (past, 
 pub batch_runs : (task : Task) (head : Head) (before after : List Entry) (asked asks many : ℕ)
     (b : Batch) (old mid new : Option (List Event))
     → asked ≡ asks_of before → asks ≡ asks_of after → 1 ≤ head.calls → EndsBatch task after asked asks head.calls many b
-    → Extends old mid (starts_before head.pools asked many) → Calls task (workers_in head) before after mid new
+    → Extends old mid (starts_before head.pools asked many) → AddsCalls task (workers_in head) before after mid new
     → Runs task head before after old new
 batch_runs task head before after asked asks many b old mid new counted of_after some ends first calls =
     record {

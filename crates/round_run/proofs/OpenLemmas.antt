@@ -2,7 +2,7 @@
 use Rattle.std.proofs.Common.{◌≡◌, ◌∙◌, ℕ, List, Result, Ok, Err, false, ap, arith, length, refl, slice_get, subst, sym, unwrap_or}
 use Rattle.std.proofs.lemmas.Result.{IfErr-weaker, err_from_is_err_and}
 use Rattle.std.specs.Result.{IsErrAnd}
-use Rattle.instance_queue.specs.Level.{instances_of}
+use Rattle.instance_queue.specs.Level.{due_instances}
 use Rattle.instance_queue.specs.declared.due.Due.{Due}
 use Rattle.round_run.proofs.BreakingRunLemmas.{rounds_broken, same_after, start_refused}
 use Rattle.round_run.proofs.CallsRunLemmas.{batch_runs}
@@ -68,7 +68,7 @@ module _ (task : Task) (head : Head) (dues : List Due) (s : State) (held mid : H
         (same_after head.pools (length s.asked) (length dues) more.0
         ∙ ap (starts_after head.pools) rests.works.listens.session.counted)
         starts.started.log es
-        (λ failed. front_asks_some head task s.entries (instances_of dues) es front
+        (λ failed. front_asks_some head task s.entries (due_instances dues) es front
         (stops_some was.taken now.taken es (subst (λ f. StopsAt f was.taken now.taken es) failed told)))) more.1) runs.stopped;
     state = λ k.
         ap (λ bs. unwrap_or (slice_get bs k) false) runs.same.started ∙ starts.state k ∙ sym (runs.same.running k);
@@ -88,7 +88,7 @@ module _ (task : Task) (head : Head) (dues : List Due) (s : State) (held mid : H
       let p = err_from_is_err_and r is in
       let refused = starts.refused in
       let first = sym rests.works.listens.session.counted ∙ refused.0 in
-      let batch = batch_exists (limits_of head) task s.entries (instances_of dues) (all_work head.pools runnable.fit.pools.some) in
+      let batch = batch_exists (limits_of head) task s.entries (due_instances dues) (all_work head.pools runnable.fit.pools.some) in
       let legal = subst (λ v. IsLegal v task s.entries) rests.works.of.version rests.works.listens.session.legal in
       rw (p.1, p.2) (record {
         same = record { task = refl; head = refl };
@@ -97,7 +97,7 @@ module _ (task : Task) (head : Head) (dues : List Due) (s : State) (held mid : H
         adds = tt;
         stopped = stopped_hearing head.version task (workers_in head) half.spoken (IsFrontOfBatch task head s.entries dues) s.entries fault
             was.taken (RunBreaks task head s.entries fault was.host.log half.log) legal
-            (front_first s.entries batch.0 (IsBatch (limits_of head) task s.entries (instances_of dues)) batch.1)
+            (front_first s.entries batch.0 (IsBatch (limits_of head) task s.entries (due_instances dues)) batch.1)
             (dialogue_unasked task head.version (workers_in head) s.entries half.spoken first)
             (start_refused task head (IsFrontOfBatch task head s.entries dues) s.entries fault was.host.log half.log first refused.2)
             refused.1;

@@ -3,7 +3,7 @@ use Rattle.std.proofs.Common.{◌≡◌, ℕ, zero, suc, ◌+◌, arith, Bool, t
 use Rattle.std.proofs.lemmas.Bool.{lt-ltb, le-ltb}
 use Rattle.std.proofs.lemmas.Option.{slice_get-map, slice_get_within}
 use Rattle.std.specs.List.{cons_option}
-use Rattle.instance_queue.specs.Level.{instances_of}
+use Rattle.instance_queue.specs.Level.{due_instances}
 use Rattle.instance_queue.specs.declared.due.Due.{Due}
 use Rattle.task_model.specs.declared.task.Task.{Task}
 use Rattle.transcript_model.specs.Rounds.{IsRound}
@@ -11,19 +11,19 @@ use Rattle.transcript_model.specs.declared.entry.Entry.{Entry}
 use Rattle.transcript_model.specs.declared.entry.Entry.TheVariants as entry
 use Rattle.session_core.proofs.RoundBeginLemmas.{child_served, children_distinct}
 use Rattle.pools.specs.Pools.{HasChild, Workers}
-use Rattle.session_core.specs.Session.{IsSession, MayBeginRound, begun}
+use Rattle.session_core.specs.Session.{IsSession, MayBeginRound, round_begun}
 use Rattle.session_core.specs.Slots.{Slot, answers_of, all_answered, asks_from, slot_for, slots_from}
 use Rattle.session_core.specs.State.{State, with_slots}
 use Rattle.round_run.proofs.RollingPrintLemmas.{round_is}
 use Rattle.round_run.proofs.StoppedLemmas.{goes_then}
-use Rattle.round_run.specs.Rolling.{Goes, IsRolling, IsSameRound, finished}
+use Rattle.round_run.specs.Rolling.{Goes, IsRolling, IsSameRound, finished_round}
 use Rattle.round_run.specs.Batches.{AllRun}
 
 -- ---- a round that is answered
 
 with_answer : (t : Slot) (ts : List Slot) (o : Option Entry) → t.answer ≡ o
     → is_none t.answer ≡ false
-    → (all_answered ts ≡ true) × (finished ts ≡ answers_of ts) → (all_answered (t ∷ ts) ≡ true) × (finished (t ∷ ts) ≡ answers_of (t ∷ ts))
+    → (all_answered ts ≡ true) × (finished_round ts ≡ answers_of ts) → (all_answered (t ∷ ts) ≡ true) × (finished_round (t ∷ ts) ≡ answers_of (t ∷ ts))
 with_answer t ts None is some rest =
     absurd (let bad : true ≡ false = sym (ap is_none is) ∙ some in cc)
 with_answer t ts (Some e) is some rest = (
@@ -33,14 +33,14 @@ with_answer t ts (Some e) is some rest = (
 
 all_by : (slots : List Slot)
     → ((k : ℕ) (t : Slot) → slice_get slots k ≡ Some t → is_none t.answer ≡ false)
-    → (all_answered slots ≡ true) × (finished slots ≡ answers_of slots)
+    → (all_answered slots ≡ true) × (finished_round slots ≡ answers_of slots)
 all_by [] each = (refl, refl)
 all_by (t ∷ ts) each =
     with_answer t ts t.answer refl (each 0 t refl) (all_by ts (λ k u at. each (suc k) u at))
 
 pub all_heard : (s : State) (running : ℕ → Bool) (count : ℕ) → count ≡ length s.slots
     → IsRolling s running count count
-    → (all_answered s.slots ≡ true) × (finished s.slots ≡ answers_of s.slots)
+    → (all_answered s.slots ≡ true) × (finished_round s.slots ≡ answers_of s.slots)
 all_heard s running count is r =
     all_by s.slots (λ k t at. r.each_open k t at ∙ ap not (lt-ltb k count (omega (arith, is, slice_get_within s.slots k t at))))
 
@@ -70,7 +70,7 @@ slots_long task names version pools n before (d ∷ ds) =
 
 pub rolling_begun : (task : Task) (s : State) (dues : List Due) (running : ℕ → Bool)
     → s.failed ≡ false → MayBeginRound task s dues
-    → IsSession task s → AllRun s.pools running → IsRolling (begun task s dues) running 0 0
+    → IsSession task s → AllRun s.pools running → IsRolling (round_begun task s dues) running 0 0
 rolling_begun task s dues running works may h all = record {
   working = works;
   begun = refl;
@@ -101,40 +101,40 @@ pub record RoundEnd (task : Task) (s x : State) (dues : List Due) (old new : Opt
   pub pools : x.pools ≡ s.pools
   pub more : List Entry
   pub entries : x.entries ++ x.asks ++ answers_of x.slots ≡ s.entries ++ more
-  pub round : IsRound task s.entries (instances_of dues) more
+  pub round : IsRound task s.entries (due_instances dues) more
   pub goes : Goes s.entries (x.entries ++ x.asks ++ answers_of x.slots) old new
 
 pub round_end : (task : Task) (s b m x : State) (dues : List Due) (old mid new : Option (List ℕ))
-    → b ≡ begun task s dues → IsSameRound b m
-    → IsSameRound m x → x.is_open ≡ true → IsSession task x → finished x.slots ≡ answers_of x.slots
-    → Goes b.entries (b.entries ++ b.asks) old mid → Goes (m.entries ++ m.asks) (m.entries ++ m.asks ++ finished x.slots) mid new
+    → b ≡ round_begun task s dues → IsSameRound b m
+    → IsSameRound m x → x.is_open ≡ true → IsSession task x → finished_round x.slots ≡ answers_of x.slots
+    → Goes b.entries (b.entries ++ b.asks) old mid → Goes (m.entries ++ m.asks) (m.entries ++ m.asks ++ finished_round x.slots) mid new
     → RoundEnd task s x dues old new
 round_end task s b m x dues old mid new starts first second is_open_now h all goes later = record {
   version = ap (λ (y : State). y.version) x_is;
   pools = ap (λ (y : State). y.pools) x_is;
-  more = (begun task s dues).asks ++ finished x.slots;
-  entries = entries_are ∙ append_assoc s.entries (begun task s dues).asks (finished x.slots);
-  round = subst (λ (y : State). IsRound task y.entries y.instances (y.asks ++ finished x.slots)) x_is (round_is task x is_open_now h);
+  more = (round_begun task s dues).asks ++ finished_round x.slots;
+  entries = entries_are ∙ append_assoc s.entries (round_begun task s dues).asks (finished_round x.slots);
+  round = subst (λ (y : State). IsRound task y.entries y.instances (y.asks ++ finished_round x.slots)) x_is (round_is task x is_open_now h);
   goes = subst (λ es. Goes s.entries es old new) (sym entries_are)
-      (goes_then s.entries (s.entries ++ (begun task s dues).asks) (s.entries ++ (begun task s dues).asks ++ finished x.slots) old mid new
+      (goes_then s.entries (s.entries ++ (round_begun task s dues).asks) (s.entries ++ (round_begun task s dues).asks ++ finished_round x.slots) old mid new
       (subst (λ (y : State). Goes y.entries (y.entries ++ y.asks) old mid) starts goes)
-      (subst (λ (y : State). Goes (y.entries ++ y.asks) (y.entries ++ y.asks ++ finished x.slots) mid new) m_is later));
+      (subst (λ (y : State). Goes (y.entries ++ y.asks) (y.entries ++ y.asks ++ finished_round x.slots) mid new) m_is later));
 }
   where
-    m_is : m ≡ with_slots (begun task s dues) m.slots m.failed
+    m_is : m ≡ with_slots (round_begun task s dues) m.slots m.failed
     m_is = first ∙ ap (λ (y : State). with_slots y m.slots m.failed) starts
 
-    x_is : x ≡ with_slots (begun task s dues) x.slots x.failed
+    x_is : x ≡ with_slots (round_begun task s dues) x.slots x.failed
     x_is = second ∙ ap (λ (y : State). with_slots y x.slots x.failed) m_is
 
-    entries_are : x.entries ++ x.asks ++ answers_of x.slots ≡ s.entries ++ (begun task s dues).asks ++ finished x.slots
+    entries_are : x.entries ++ x.asks ++ answers_of x.slots ≡ s.entries ++ (round_begun task s dues).asks ++ finished_round x.slots
     entries_are =
         ap (λ es. x.entries ++ x.asks ++ es) (sym all)
-        ∙ ap (λ (y : State). y.entries ++ y.asks ++ finished x.slots) x_is
+        ∙ ap (λ (y : State). y.entries ++ y.asks ++ finished_round x.slots) x_is
 
 -- a round has as many slots as asks
 pub count_is : (task : Task) (s b : State) (dues : List Due) (count : ℕ) → count ≡ length dues
-    → b ≡ begun task s dues
+    → b ≡ round_begun task s dues
     → count ≡ length b.slots
 count_is task s b dues count is starts =
     is ∙ sym (ap (λ (x : State). length x.slots) starts ∙ slots_long task s.known.names s.version s.pools (length s.asked + 1) [] dues)

@@ -3,7 +3,7 @@ use Rattle.std.proofs.Common.{◌≡◌, ℕ, suc, ◌+◌, ◌<◌, ◌≤◌, 
 use Rattle.std.proofs.lemmas.List.Elements.{All-nil, All-cons}
 use Rattle.std.proofs.lemmas.List.{append-nil, append_cancel_left, length-map, length-take-le}
 use Rattle.lemmas.proofs.Numbers.{plus_zero}
-use Rattle.instance_queue.specs.Level.{instances_of}
+use Rattle.instance_queue.specs.Level.{due_instances}
 use Rattle.instance_queue.specs.declared.due.Due.{Due}
 use Rattle.transcript_model.proofs.RoundsFrontLemmas.{batch_exists}
 use Rattle.pools.specs.Pools.{Workers, workers_of}
@@ -88,8 +88,8 @@ front_asks_some head task before list more f (e, rest, is) =
 pub so_far_front : (head : Head) (task : Task) (first : List Entry) (list : List Instance) (s : State) (dues : List Due)
     (count : ℕ) (es : List Entry)
     → IsOf head s → IsSession task s → IsNextRound s dues count → 0 < count → All (λ (p : Share). 1 ≤ p.workers) (map share_of head.pools)
-    → SoFar head task first list s.entries (instances_of dues)
-    → IsFrontPart s.entries (IsRound task s.entries (instances_of (take count dues))) es
+    → SoFar head task first list s.entries (due_instances dues)
+    → IsFrontPart s.entries (IsRound task s.entries (due_instances (take count dues))) es
     → IsFrontPart first (IsBatch (limits_of head) task first list) es
 so_far_front head task first list s dues count es of h n some work so f = record {
   part = so.more ++ f.part;
@@ -102,12 +102,12 @@ so_far_front head task first list s dues count es of h n some work so f = record
     now : List Entry
     now = f.part ++ f.rest
 
-    tail : (entries : List Entry) × IsBatch (limits_of head) task (s.entries ++ now) (instances_of (drop count dues)) entries
+    tail : (entries : List Entry) × IsBatch (limits_of head) task (s.entries ++ now) (due_instances (drop count dues)) entries
     tail =
-        batch_exists (limits_of head) task (s.entries ++ now) (instances_of (drop count dues)) work
+        batch_exists (limits_of head) task (s.entries ++ now) (due_instances (drop count dues)) work
 
     counted : asks_of (s.entries ++ now) ≡ asks_of s.entries + count
-    counted = round_asks task s.entries now (instances_of (take count dues)) f.whole
+    counted = round_asks task s.entries now (due_instances (take count dues)) f.whole
         ∙ ap (λ m. asks_of s.entries + m) (length-map (take count dues) (λ (d : Due). d.instance) ∙ length-take-le count dues n.within)
 
     regrouped : so.more ++ (now ++ tail.0) ≡ (so.more ++ f.part) ++ (f.rest ++ tail.0)

@@ -23,7 +23,7 @@ use Rattle.session_core.specs.Slots.{Slot, IsUnsent, IsAwaited, sent_slot, heard
 use Rattle.session_core.specs.State.{State, after_sent, after_line}
 use Rattle.round_run.proofs.RollingPrintLemmas.{round_legal, answers_legal, one_more, open_there, front_answers}
 use Rattle.io_world.specs.Talks.{Talk}
-use Rattle.round_run.specs.Rolling.{IsFrontPart, IsRolling, finished}
+use Rattle.round_run.specs.Rolling.{IsFrontPart, IsRolling, finished_round}
 use Rattle.round_run.specs.Talking.{TakesAnswer}
 
 -- ---- options
@@ -158,14 +158,14 @@ number_is slots child t e = rw e refl
 -- what is printed at a place
 pub printed_there : (slots : List Slot) (k : ℕ) (t : Slot) (e : Entry) → slice_get slots k ≡ Some t
     → t.answer ≡ Some e
-    → slice_get (finished slots) k ≡ Some e
+    → slice_get (finished_round slots) k ≡ Some e
 printed_there slots k t e at is =
     slice_get-map (λ (v : Slot). unwrap_or v.answer (entry.End v.number)) slots k
     ∙ ap (option_map (λ (v : Slot). unwrap_or v.answer (entry.End v.number))) at ∙ ap (λ o. Some (unwrap_or o (entry.End t.number))) is
 
 pub unprinted_there : (slots : List Slot) (k : ℕ) (t : Slot) → slice_get slots k ≡ Some t
     → t.answer ≡ None
-    → slice_get (finished slots) k ≡ Some (entry.End t.number)
+    → slice_get (finished_round slots) k ≡ Some (entry.End t.number)
 unprinted_there slots k t at is =
     slice_get-map (λ (v : Slot). unwrap_or v.answer (entry.End v.number)) slots k
     ∙ ap (option_map (λ (v : Slot). unwrap_or v.answer (entry.End v.number))) at ∙ ap (λ o. Some (unwrap_or o (entry.End t.number))) is
@@ -184,12 +184,12 @@ module _ (s : State) (running : ℕ → Bool) (sent place : ℕ) (r : IsRolling 
   }
 
   pub blamed_there : (version : ℕ) (task : Task)
-      → IsLegal version task (s.entries ++ s.asks ++ finished s.slots)
-      → is_open (s.entries ++ s.asks ++ take place (finished s.slots)) (number_at s.slots t.child) ≡ true
+      → IsLegal version task (s.entries ++ s.asks ++ finished_round s.slots)
+      → is_open (s.entries ++ s.asks ++ take place (finished_round s.slots)) (number_at s.slots t.child) ≡ true
   blamed_there version task legal =
-      ap (is_open (s.entries ++ s.asks ++ take place (finished s.slots)))
+      ap (is_open (s.entries ++ s.asks ++ take place (finished_round s.slots)))
       (number_is s.slots t.child t (own_slot s.slots place t r.apart at))
-      ∙ open_there version task s.entries s.asks (finished s.slots) place t.number legal (unprinted_there s.slots place t at open_now)
+      ∙ open_there version task s.entries s.asks (finished_round s.slots) place t.number legal (unprinted_there s.slots place t at open_now)
 
   module _ (line : List ℕ) (good : is_bad_at s.slots t.child line ≡ false) where
     pub answered_now : is_none (heard_slot line t).answer ≡ false
@@ -224,7 +224,7 @@ module _ (s : State) (running : ℕ → Bool) (sent place : ℕ) (r : IsRolling 
       ];
     }
 
-    pub front_same : take place (finished (map (at_child t.child (heard_slot line)) s.slots)) ≡ take place (finished s.slots)
+    pub front_same : take place (finished_round (map (at_child t.child (heard_slot line)) s.slots)) ≡ take place (finished_round s.slots)
     front_same =
         take-map printed place (map g s.slots) ∙ ap (map printed) (take-map g place s.slots) ∙ map-map printed g (take place s.slots)
         ∙ map_at (λ u. printed (g u)) printed (take place s.slots)
@@ -268,13 +268,13 @@ pub record HeardMore (s : State) (running : ℕ → Bool) (place : ℕ) (new : S
   pub at : slice_get new.slots place ≡ Some slot
   pub said : slot.answer ≡ Some entry
   pub rolling : IsRolling new running (length new.slots) (place + 1)
-  pub front : take place (finished new.slots) ≡ take place (finished s.slots)
+  pub front : take place (finished_round new.slots) ≡ take place (finished_round s.slots)
   pub legal : (task : Task) → IsSession task new
-      → IsLegal s.version task ((s.entries ++ s.asks ++ take place (finished s.slots)) ++ entry ∷ [])
+      → IsLegal s.version task ((s.entries ++ s.asks ++ take place (finished_round s.slots)) ++ entry ∷ [])
   pub part : (task : Task) → IsSession task new
-      → IsFrontPart s.entries (IsRound task s.entries s.instances) ((s.entries ++ s.asks ++ take place (finished s.slots)) ++ entry ∷ [])
-  pub more : s.entries ++ s.asks ++ take (place + 1) (finished new.slots)
-      ≡ (s.entries ++ s.asks ++ take place (finished new.slots)) ++ entry ∷ []
+      → IsFrontPart s.entries (IsRound task s.entries s.instances) ((s.entries ++ s.asks ++ take place (finished_round s.slots)) ++ entry ∷ [])
+  pub more : s.entries ++ s.asks ++ take (place + 1) (finished_round new.slots)
+      ≡ (s.entries ++ s.asks ++ take place (finished_round new.slots)) ++ entry ∷ []
 
 pub heard_more : (s : State) (running : ℕ → Bool) (place child : ℕ) (new : State) (kept left : List ℕ) (before after : ℕ → Option Talk)
     → IsRolling s running (length s.slots) place → place < length s.slots → (t : Slot) → slice_get s.slots place ≡ Some t → child ≡ t.child
@@ -294,16 +294,16 @@ heard_more s running place child new kept left before after r within t at own ta
         ∙ ap (option_map (at_child t.child (heard_slot takes.line))) at
         ∙ ap Some (at_own t.child (heard_slot takes.line) t (eq-eqb t.child t.child refl))
 
-    printed : slice_get (finished (map (at_child t.child (heard_slot takes.line)) s.slots)) place ≡ Some said_one.0
+    printed : slice_get (finished_round (map (at_child t.child (heard_slot takes.line)) s.slots)) place ≡ Some said_one.0
     printed = printed_there (map (at_child t.child (heard_slot takes.line)) s.slots) place
         (heard_slot takes.line t) said_one.0 place_is said_one.1
 
-    front_is : take place (finished (map (at_child t.child (heard_slot takes.line)) s.slots)) ≡ take place (finished s.slots)
+    front_is : take place (finished_round (map (at_child t.child (heard_slot takes.line)) s.slots)) ≡ take place (finished_round s.slots)
     front_is = front_same s running (length s.slots) place r within t at takes.line good
 
-    more_is : s.entries ++ s.asks ++ take (place + 1) (finished (map (at_child t.child (heard_slot takes.line)) s.slots))
-        ≡ (s.entries ++ s.asks ++ take place (finished (map (at_child t.child (heard_slot takes.line)) s.slots))) ++ said_one.0 ∷ []
-    more_is = one_more (s.entries ++ s.asks) (finished (map (at_child t.child (heard_slot takes.line)) s.slots)) place said_one.0 printed
+    more_is : s.entries ++ s.asks ++ take (place + 1) (finished_round (map (at_child t.child (heard_slot takes.line)) s.slots))
+        ≡ (s.entries ++ s.asks ++ take place (finished_round (map (at_child t.child (heard_slot takes.line)) s.slots))) ++ said_one.0 ∷ []
+    more_is = one_more (s.entries ++ s.asks) (finished_round (map (at_child t.child (heard_slot takes.line)) s.slots)) place said_one.0 printed
 
     here : HeardMore s running place (after_line s t.child takes.line false)
     here = record {
@@ -317,7 +317,7 @@ heard_more s running place child new kept left before after r within t at own ta
       front = front_is;
       legal = λ task h. subst (λ es. IsLegal s.version task ((s.entries ++ s.asks ++ es) ++ said_one.0 ∷ [])) front_is
           (subst (IsLegal s.version task) more_is
-          (answers_legal s.version task s.entries s.asks (finished (map (at_child t.child (heard_slot takes.line)) s.slots))
+          (answers_legal s.version task s.entries s.asks (finished_round (map (at_child t.child (heard_slot takes.line)) s.slots))
           (place + 1) (round_legal task (after_line s t.child takes.line false) r.begun h)));
       part = λ task h. subst
           (λ es. IsFrontPart s.entries (IsRound task s.entries s.instances) ((s.entries ++ s.asks ++ es) ++ said_one.0 ∷ []))

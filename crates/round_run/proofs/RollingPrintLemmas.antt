@@ -6,7 +6,7 @@ use Rattle.gen_lines.specs.Reply as reply
 use Rattle.gen_lines.specs.Reply.{Reply, reply_of}
 use Rattle.gen_lines.specs.declared.answer.Wanted.{Wanted}
 use Rattle.gen_lines.specs.declared.answer.Wanted.TheVariants as wanted
-use Rattle.instance_queue.specs.Level.{instances_of}
+use Rattle.instance_queue.specs.Level.{due_instances}
 use Rattle.instance_queue.specs.declared.due.Due.{Due}
 use Rattle.task_model.specs.declared.task.Task.{Task}
 use Rattle.transcript_model.proofs.LegalLemmas.{grows}
@@ -18,10 +18,10 @@ use Rattle.transcript_model.specs.Transcript.{names_of, notes_of}
 use Rattle.transcript_model.specs.declared.entry.Entry.{Entry}
 use Rattle.transcript_model.specs.declared.entry.Entry.TheVariants as entry
 use Rattle.session_core.proofs.RoundWholeLemmas.{close_kept}
-use Rattle.session_core.specs.Session.{IsSession, AreSlotsFor, begun}
+use Rattle.session_core.specs.Session.{IsSession, AreSlotsFor, round_begun}
 use Rattle.session_core.specs.Slots.{Slot, replied_entry, answers_of, all_answered, asks_from}
 use Rattle.session_core.specs.State.{State, with_slots}
-use Rattle.round_run.specs.Rolling.{IsFrontPart, finished}
+use Rattle.round_run.specs.Rolling.{IsFrontPart, finished_round}
 use Rattle.lemmas.proofs.Members.{next_taken}
 
 -- ---- what is printed of a round is legal
@@ -36,7 +36,7 @@ complete t = record {
   answer = Some (unwrap_or t.answer (entry.End t.number));
 }
 
-complete_answers : (slots : List Slot) → answers_of (map complete slots) ≡ finished slots
+complete_answers : (slots : List Slot) → answers_of (map complete slots) ≡ finished_round slots
 complete_answers [] = refl
 complete_answers (t ∷ ts) =
     ap (λ es. unwrap_or t.answer (entry.End t.number) ∷ es) (complete_answers ts)
@@ -70,9 +70,9 @@ complete_slots task version n (d ∷ ds) (t ∷ ts) h = (
 )
 
 pub round_legal : (task : Task) (s : State) → s.is_open ≡ true → IsSession task s
-    → IsLegal s.version task (s.entries ++ s.asks ++ finished s.slots)
-round_legal task s begun h =
-    let r = h.round begun in
+    → IsLegal s.version task (s.entries ++ s.asks ++ finished_round s.slots)
+round_legal task s round_begun h =
+    let r = h.round round_begun in
     let whole : IsSession task (with_slots s (map complete s.slots) s.failed) = record {
       fit = h.fit;
       version = h.version;
@@ -95,7 +95,7 @@ round_legal task s begun h =
         slots = complete_slots task s.version (length s.asked + 1) r.dues s.slots r.slots;
       };
     } in
-    let closed = close_kept task (with_slots s (map complete s.slots) s.failed) begun (complete_all s.slots) whole in
+    let closed = close_kept task (with_slots s (map complete s.slots) s.failed) round_begun (complete_all s.slots) whole in
     subst (λ es. IsLegal s.version task (s.entries ++ s.asks ++ es)) (complete_answers s.slots) closed.legal
 
 -- the front of a legal transcript
@@ -143,7 +143,7 @@ open_there version task es asks rest n number legal at =
 
 asks_are : (task : Task) (before : List Entry) (n : ℕ) (dues : List Due)
     → All (λ (d : Due). d.turn ≡ yields_of (notes_of task before) d.instance) dues
-    → asks_from task (names_of task before) n dues ≡ requests_from task before n (instances_of dues)
+    → asks_from task (names_of task before) n dues ≡ requests_from task before n (due_instances dues)
 asks_are task before n [] turns = refl
 asks_are task before n (d ∷ ds) turns =
     λ i. entry.Ask n (All-head (λ (u : Due). u.turn ≡ yields_of (notes_of task before) u.instance) d ds turns i)
@@ -169,7 +169,7 @@ answer_right t n is right (Some x) e =
 
 are_answers : (task : Task) (version n : ℕ) (dues : List Due) (slots : List Slot)
     → AreSlotsFor task version n dues slots
-    → AreAnswers n (length (instances_of dues)) (finished slots)
+    → AreAnswers n (length (due_instances dues)) (finished_round slots)
 are_answers task version n [] [] h = tt
 are_answers task version n [] (t ∷ ts) h = absurd h
 are_answers task version n (d ∷ ds) [] h = absurd h
@@ -177,41 +177,41 @@ are_answers task version n (d ∷ ds) (t ∷ ts) h =
     (answer_right t n h.0.numbered h.0.right t.answer refl, are_answers task version (n + 1) ds ts h.1)
 
 pub round_is : (task : Task) (s : State) → s.is_open ≡ true → IsSession task s
-    → IsRound task s.entries s.instances (s.asks ++ finished s.slots)
-round_is task s begun h =
-    let r = h.round begun in
+    → IsRound task s.entries s.instances (s.asks ++ finished_round s.slots)
+round_is task s round_begun h =
+    let r = h.round round_begun in
     let first : length s.asked + 1 ≡ asks_of s.entries + 1 = ap (λ n. n + 1) h.counted in
     let asks : s.asks ≡ requests task s.entries s.instances =
     r.asks ∙ asks_are task s.entries (length s.asked + 1) r.dues r.ready.turns
     ∙ (λ i. requests_from task s.entries (first i) (sym r.instances i)) in
-    let answers : AreAnswers (asks_of s.entries + 1) (length s.instances) (finished s.slots) =
-    subst (λ n. AreAnswers n (length s.instances) (finished s.slots)) first
-    (subst (λ is. AreAnswers (length s.asked + 1) (length is) (finished s.slots))
+    let answers : AreAnswers (asks_of s.entries + 1) (length s.instances) (finished_round s.slots) =
+    subst (λ n. AreAnswers n (length s.instances) (finished_round s.slots)) first
+    (subst (λ is. AreAnswers (length s.asked + 1) (length is) (finished_round s.slots))
     (sym r.instances) (are_answers task s.version (length s.asked + 1) r.dues s.slots r.slots)) in
-    (finished s.slots, ap (λ es. es ++ finished s.slots) asks, answers)
+    (finished_round s.slots, ap (λ es. es ++ finished_round s.slots) asks, answers)
 
 -- ---- fronts of the round
 
 -- the requests so far are the first of a round
 pub front_asks : (task : Task) (s : State) (n : ℕ) → s.is_open ≡ true → IsSession task s
     → IsFrontPart s.entries (IsRound task s.entries s.instances) (s.entries ++ take n s.asks)
-front_asks task s n begun h = record {
+front_asks task s n round_begun h = record {
   part = take n s.asks;
-  rest = drop n s.asks ++ finished s.slots;
+  rest = drop n s.asks ++ finished_round s.slots;
   is = refl;
   whole = subst (IsRound task s.entries s.instances)
-      (sym (sym (append_assoc (take n s.asks) (drop n s.asks) (finished s.slots))
-      ∙ ap (λ xs. xs ++ finished s.slots) (take-append-drop n s.asks))) (round_is task s begun h);
+      (sym (sym (append_assoc (take n s.asks) (drop n s.asks) (finished_round s.slots))
+      ∙ ap (λ xs. xs ++ finished_round s.slots) (take-append-drop n s.asks))) (round_is task s round_begun h);
 }
 
 -- and so are all requests and the answers so far
 pub front_answers : (task : Task) (s : State) (n : ℕ) → s.is_open ≡ true → IsSession task s
-    → IsFrontPart s.entries (IsRound task s.entries s.instances) (s.entries ++ s.asks ++ take n (finished s.slots))
-front_answers task s n begun h = record {
-  part = s.asks ++ take n (finished s.slots);
-  rest = drop n (finished s.slots);
-  is = append_assoc s.entries s.asks (take n (finished s.slots));
+    → IsFrontPart s.entries (IsRound task s.entries s.instances) (s.entries ++ s.asks ++ take n (finished_round s.slots))
+front_answers task s n round_begun h = record {
+  part = s.asks ++ take n (finished_round s.slots);
+  rest = drop n (finished_round s.slots);
+  is = append_assoc s.entries s.asks (take n (finished_round s.slots));
   whole = subst (IsRound task s.entries s.instances)
-      (sym (append_assoc s.asks (take n (finished s.slots)) (drop n (finished s.slots))
-      ∙ ap (λ xs. s.asks ++ xs) (take-append-drop n (finished s.slots)))) (round_is task s begun h);
+      (sym (append_assoc s.asks (take n (finished_round s.slots)) (drop n (finished_round s.slots))
+      ∙ ap (λ xs. s.asks ++ xs) (take-append-drop n (finished_round s.slots)))) (round_is task s round_begun h);
 }

@@ -25,7 +25,7 @@ use Rattle.round_run.proofs.DialogueLemmas.{talks_heard, talks_more, with_more}
 use Rattle.round_run.proofs.DialogueEndLemmas.{bad_line, dialogue_of}
 use Rattle.round_run.proofs.StoppedLemmas.{MayBlame}
 use Rattle.round_run.specs.Dialogue.{Dialogue, HasBadLine, Request, replies_of, requests_of, wanted_by}
-use Rattle.round_run.specs.Rolling.{IsRolling, finished}
+use Rattle.round_run.specs.Rolling.{IsRolling, finished_round}
 use Rattle.round_run.specs.Talking.{IsBadFirst, IsBlamed, IsSlotOf, IsTalking, Misheard, TakesAnswer, Talks}
 use Rattle.round_run.specs.declared.fault.RunFault.{RunFault}
 use Rattle.round_run.specs.declared.fault.RunFault.TheVariants.{Answer, Generator, Write, Memory}
@@ -35,33 +35,33 @@ use Rattle.round_run.proofs.TalkingRoundLemmas.{all_taken, front_each, replies_h
 
 -- how many answers are printed
 printed_many : (slots : List Slot) (place : ℕ) → place < length slots
-    → length (take place (finished slots)) ≡ place
+    → length (take place (finished_round slots)) ≡ place
 printed_many slots place within =
-    length-take-le place (finished slots) (omega (arith, within, length-map slots (λ (v : Slot). unwrap_or v.answer (entry.End v.number))))
+    length-take-le place (finished_round slots) (omega (arith, within, length-map slots (λ (v : Slot). unwrap_or v.answer (entry.End v.number))))
 
 module _ (task : Task) (s : State) (running : ℕ → Bool) (place : ℕ) (r : IsRolling s running (length s.slots) place)
     (within : place < length s.slots) (t : Slot) (at : slice_get s.slots place ≡ Some t) where
   -- the request that is answered next
   next_is : (a : List Request) (b : List Entry) (q : Request) → length b ≡ length a
       → slice_get (requests_of task s.pools s.asks) place ≡ Some q
-      → slice_get (a ++ requests_of task s.pools s.asks) (length (b ++ take place (finished s.slots))) ≡ Some q
+      → slice_get (a ++ requests_of task s.pools s.asks) (length (b ++ take place (finished_round s.slots))) ≡ Some q
   next_is a b q even at_q =
       ap (slice_get (a ++ requests_of task s.pools s.asks))
-      (length-append b (take place (finished s.slots)) ∙ (λ i. even i + printed_many s.slots place within i))
+      (length-append b (take place (finished_round s.slots)) ∙ (λ i. even i + printed_many s.slots place within i))
       ∙ get_behind a (requests_of task s.pools s.asks) place q at_q
 
   -- it stands behind the answers that are printed
   pub next_asked : (kept : ℕ → List ℕ) (old : ℕ → Option Talk) → IsSession task s
       → (k : IsTalking task s (length s.slots) place kept old)
-      → slice_get (requests_of task s.pools (s.entries ++ s.asks ++ take place (finished s.slots)))
-      (length (replies_of (s.entries ++ s.asks ++ take place (finished s.slots))))
+      → slice_get (requests_of task s.pools (s.entries ++ s.asks ++ take place (finished_round s.slots)))
+      (length (replies_of (s.entries ++ s.asks ++ take place (finished_round s.slots))))
       ≡ Some (request_at task s place kept old old t at k.slots).0
   next_asked kept old h k =
       let asks = round_asks task s r.begun h in
-      let each = front_each (finished s.slots) place (round_replies task s r.begun h) in
+      let each = front_each (finished_round s.slots) place (round_replies task s r.begun h) in
       let q = request_at task s place kept old old t at k.slots in
-      (λ i. slice_get (requests_heard task s.pools s.entries s.asks k.closed asks (take place (finished s.slots)) each i)
-      (length (replies_heard task s.pools s.entries s.asks k.closed asks (take place (finished s.slots)) each i)))
+      (λ i. slice_get (requests_heard task s.pools s.entries s.asks k.closed asks (take place (finished_round s.slots)) each i)
+      (length (replies_heard task s.pools s.entries s.asks k.closed asks (take place (finished_round s.slots)) each i)))
       ∙ next_is (requests_of task s.pools s.entries) (replies_of s.entries) q.0 k.even q.1
 
   module _ (line : List ℕ) (good : is_bad_at s.slots t.child line ≡ false) where
@@ -73,10 +73,10 @@ module _ (task : Task) (s : State) (running : ℕ → Bool) (place : ℕ) (r : I
         slice_get-map (at_child t.child (heard_slot line)) s.slots place ∙ ap (option_map (at_child t.child (heard_slot line))) at
         ∙ ap Some (at_own t.child (heard_slot line) t (eq-eqb t.child t.child refl))
 
-    printed_next : take (place + 1) (finished (map (at_child t.child (heard_slot line)) s.slots))
-        ≡ take place (finished s.slots) ++ answer_is.0 ∷ []
+    printed_next : take (place + 1) (finished_round (map (at_child t.child (heard_slot line)) s.slots))
+        ≡ take place (finished_round s.slots) ++ answer_is.0 ∷ []
     printed_next =
-        next_taken (finished (map (at_child t.child (heard_slot line)) s.slots)) place answer_is.0
+        next_taken (finished_round (map (at_child t.child (heard_slot line)) s.slots)) place answer_is.0
         (printed_there (map (at_child t.child (heard_slot line)) s.slots) place (heard_slot line t) answer_is.0 heard_there answer_is.1)
         ∙ ap (λ es. es ++ answer_is.0 ∷ []) (front_same s running (length s.slots) place r within t at line good)
 
@@ -90,9 +90,9 @@ module _ (task : Task) (s : State) (running : ℕ → Bool) (place : ℕ) (r : I
     talking_line kept left old new more h first short here others k =
         let q = request_at task s place kept old new t at k.slots in
         let rest : Talks task s.version s.pools (requests_of task s.pools s.entries ++ requests_of task s.pools s.asks)
-        (replies_of s.entries ++ take place (finished s.slots)) kept old =
+        (replies_of s.entries ++ take place (finished_round s.slots)) kept old =
         subst (λ rs. Talks task s.version s.pools
-        (requests_of task s.pools s.entries ++ rs) (replies_of s.entries ++ take place (finished s.slots)) kept old)
+        (requests_of task s.pools s.entries ++ rs) (replies_of s.entries ++ take place (finished_round s.slots)) kept old)
         (all_taken (length s.slots) (requests_of task s.pools s.asks) k.slots.many) k.talks in
         let c : t.child ≡ q.0.child = q.2.child in
         record {
@@ -101,14 +101,14 @@ module _ (task : Task) (s : State) (running : ℕ → Bool) (place : ℕ) (r : I
           slots = slots_still (heard_slot line) (λ u. refl) (λ u. refl) (λ u. refl) (λ u. refl) task s t.child false k.slots;
           talks =
               subst (λ rs. Talks task s.version s.pools (requests_of task s.pools s.entries ++ rs)
-              (replies_of s.entries ++ take (place + 1) (finished (map (at_child t.child (heard_slot line)) s.slots))) left new)
+              (replies_of s.entries ++ take (place + 1) (finished_round (map (at_child t.child (heard_slot line)) s.slots))) left new)
               (sym (all_taken (length s.slots) (requests_of task s.pools s.asks) k.slots.many))
               (subst
               (λ es. Talks task s.version s.pools (requests_of task s.pools s.entries ++ requests_of task s.pools s.asks) es left new)
-              (append_assoc (replies_of s.entries) (take place (finished s.slots)) (answer_is.0 ∷ [])
+              (append_assoc (replies_of s.entries) (take place (finished_round s.slots)) (answer_is.0 ∷ [])
               ∙ ap (λ es. replies_of s.entries ++ es) (sym printed_next))
               (talks_heard task s.version s.pools (requests_of task s.pools s.entries ++ requests_of task s.pools s.asks)
-              (replies_of s.entries ++ take place (finished s.slots)) old new kept left q.0 answer_is.0 more line
+              (replies_of s.entries ++ take place (finished_round s.slots)) old new kept left q.0 answer_is.0 more line
               (next_is (requests_of task s.pools s.entries) (replies_of s.entries) q.0 k.even q.1)
               (subst (λ d. Hears d more old new) c h)
               (subst (λ d. lines_of (kept d ++ more) ≡ line ∷ lines_of (after_first is_feed (kept d ++ more))) c first)
@@ -148,27 +148,27 @@ module _ (task : Task) (s : State) (running : ℕ → Bool) (place : ℕ) (r : I
 
   pub may_blame : (kept : ℕ → List ℕ) (old new : ℕ → Option Talk) (fault : RunFault)
       → s.is_open ≡ true → IsSession task s
-      → IsLegal s.version task (s.entries ++ s.asks ++ finished s.slots) → IsTalking task s (length s.slots) place kept old
+      → IsLegal s.version task (s.entries ++ s.asks ++ finished_round s.slots) → IsTalking task s (length s.slots) place kept old
       → Misheard s.slots t.child (kept t.child) old new fault
-      → MayBlame s.version task s.pools new fault (s.entries ++ s.asks ++ take place (finished s.slots))
+      → MayBlame s.version task s.pools new fault (s.entries ++ s.asks ++ take place (finished_round s.slots))
   may_blame kept old new fault opened h legal k m = by fault m.blamed
     where
       by : (f : RunFault) → IsBlamed s.slots t.child (kept t.child ++ m.more) f
-          → MayBlame s.version task s.pools new f (s.entries ++ s.asks ++ take place (finished s.slots))
+          → MayBlame s.version task s.pools new f (s.entries ++ s.asks ++ take place (finished_round s.slots))
       by Generator b = tt
       by Memory b = tt
       by Write b = absurd b
       by (Answer number why) b =
           let q = request_at task s place kept old old t at k.slots in
           let numbered : number_at s.slots t.child ≡ t.number = number_is s.slots t.child t (own_slot s.slots place t r.apart at) in
-          let bad : HasBadLine task s.version s.pools (s.entries ++ s.asks ++ take place (finished s.slots)) new q.0.number why =
-          bad_line task s.version s.pools (s.entries ++ s.asks ++ take place (finished s.slots)) q.0 m.more why kept old new q.2.one
+          let bad : HasBadLine task s.version s.pools (s.entries ++ s.asks ++ take place (finished_round s.slots)) new q.0.number why =
+          bad_line task s.version s.pools (s.entries ++ s.asks ++ take place (finished_round s.slots)) q.0 m.more why kept old new q.2.one
           (next_asked kept old h k)
           (subst (λ d. Hears d m.more old new) q.2.child m.heard) (first q.0 q.2 number why b.1)
           (talks_at_heard task s place kept old opened h k) in (
-            ap (is_open (s.entries ++ s.asks ++ take place (finished s.slots))) b.0
+            ap (is_open (s.entries ++ s.asks ++ take place (finished_round s.slots))) b.0
                 ∙ blamed_there s running (length s.slots) place r within t at s.version task legal,
-            subst (λ n. HasBadLine task s.version s.pools (s.entries ++ s.asks ++ take place (finished s.slots)) new n why)
+            subst (λ n. HasBadLine task s.version s.pools (s.entries ++ s.asks ++ take place (finished_round s.slots)) new n why)
                 (sym (b.0 ∙ numbered ∙ q.2.number)) bad,
           )
         where
@@ -192,9 +192,9 @@ module _ (task : Task) (s : State) (running : ℕ → Bool) (place : ℕ) (r : I
 
   pub dialogue_hearing : (kept : ℕ → List ℕ) (old new : ℕ → Option Talk) (child : ℕ) (more : List ℕ)
       → s.is_open ≡ true → IsSession task s → IsTalking task s (length s.slots) place kept old
-      → Hears child more old new → Dialogue task s.version s.pools (s.entries ++ s.asks ++ take place (finished s.slots)) new
+      → Hears child more old new → Dialogue task s.version s.pools (s.entries ++ s.asks ++ take place (finished_round s.slots)) new
   dialogue_hearing kept old new child more opened h k hears =
-      dialogue_of task s.version s.pools (s.entries ++ s.asks ++ take place (finished s.slots)) new (with_more kept child more)
-      (talks_more task s.version s.pools (requests_of task s.pools (s.entries ++ s.asks ++ take place (finished s.slots)))
-      (replies_of (s.entries ++ s.asks ++ take place (finished s.slots))) old new kept child more hears
+      dialogue_of task s.version s.pools (s.entries ++ s.asks ++ take place (finished_round s.slots)) new (with_more kept child more)
+      (talks_more task s.version s.pools (requests_of task s.pools (s.entries ++ s.asks ++ take place (finished_round s.slots)))
+      (replies_of (s.entries ++ s.asks ++ take place (finished_round s.slots))) old new kept child more hears
       (talks_at_heard task s place kept old opened h k))

@@ -5,12 +5,12 @@ use Rattle.std.proofs.lemmas.List.{append-nil, length-append, length-map}
 use Rattle.std.proofs.lemmas.Option.{slice_get_within, slice_get-map}
 use Rattle.gen_lines.specs.Reply as reply
 use Rattle.gen_lines.specs.Reply.{Reply, reply_of}
-use Rattle.instance_queue.specs.Level.{instances_of}
+use Rattle.instance_queue.specs.Level.{due_instances}
 use Rattle.instance_queue.specs.declared.due.Due.{Due}
 use Rattle.io_world.specs.Talks.{Talk, Writes}
 use Rattle.session_core.proofs.RoundBeginLemmas.{child_served}
 use Rattle.session_core.proofs.SlotsLemmas.{at_own, at_other}
-use Rattle.session_core.specs.Session.{IsSession, AreSlotsFor, MayBeginRound, begun}
+use Rattle.session_core.specs.Session.{IsSession, AreSlotsFor, MayBeginRound, round_begun}
 use Rattle.session_core.specs.Slots.{Slot, answers_of, asks_from, at_child, replied_entry, is_slot_of, sent_slot, slots_from}
 use Rattle.session_core.specs.State.{State, after_sent, with_slots}
 use Rattle.pools.specs.Pools.{Workers}
@@ -27,7 +27,7 @@ use Rattle.round_run.proofs.RollingEndLemmas.{as_long}
 use Rattle.round_run.proofs.DialogueLemmas.{talks_sent}
 use Rattle.round_run.proofs.DialogueEndLemmas.{broken_one, dialogue_of}
 use Rattle.round_run.specs.Dialogue.{BrokenOff, Dialogue, IsOneOf, Request, last_round, replies_of, requests_after, requests_of, text_of_request}
-use Rattle.round_run.specs.Rolling.{IsFrontPart, finished}
+use Rattle.round_run.specs.Rolling.{IsFrontPart, finished_round}
 use Rattle.round_run.specs.Stops.{MayHear}
 use Rattle.round_run.specs.Talking.{AreSlotsOf, IsSlotOf, IsTalk, IsTalking, IsTold, Talks}
 use Rattle.round_run.specs.Batches.{AllRun}
@@ -49,7 +49,7 @@ says_reply n (reply.bad why) e is = absurd (cc)
 
 finished_each : (task : Task) (version n : ℕ) (dues : List Due) (slots : List Slot)
     → AreSlotsFor task version n dues slots
-    → AreReplies (finished slots)
+    → AreReplies (finished_round slots)
 finished_each task version n [] [] h k e at = absurd (cc)
 finished_each task version n [] (t ∷ ts) h k e at = absurd h
 finished_each task version n (d ∷ ds) [] h k e at = absurd h
@@ -66,7 +66,7 @@ finished_each task version n (d ∷ ds) (t ∷ ts) h (suc k) e at =
     finished_each task version (n + 1) ds ts h.1 k e at
 
 pub round_replies : (task : Task) (s : State) → s.is_open ≡ true → IsSession task s
-    → AreReplies (finished s.slots)
+    → AreReplies (finished_round s.slots)
 round_replies task s opened h = let r = h.round opened in finished_each task s.version (length s.asked + 1) r.dues s.slots r.slots
 
 pub front_each : (es : List Entry) (n : ℕ) → AreReplies es → AreReplies (take n es)
@@ -143,24 +143,24 @@ all_taken n xs e = ap (λ m. take m xs) (sym e) ∙ take-length xs
 pub talks_at_heard : (task : Task) (s : State) (place : ℕ) (kept : ℕ → List ℕ) (spoken : ℕ → Option Talk)
     → s.is_open ≡ true
     → IsSession task s → IsTalking task s (length s.slots) place kept spoken
-    → Talks task s.version s.pools (requests_of task s.pools (s.entries ++ s.asks ++ take place (finished s.slots)))
-    (replies_of (s.entries ++ s.asks ++ take place (finished s.slots))) kept spoken
+    → Talks task s.version s.pools (requests_of task s.pools (s.entries ++ s.asks ++ take place (finished_round s.slots)))
+    (replies_of (s.entries ++ s.asks ++ take place (finished_round s.slots))) kept spoken
 talks_at_heard task s place kept spoken opened h t =
     let asks = round_asks task s opened h in
-    let each = front_each (finished s.slots) place (round_replies task s opened h) in
-    subst (λ rs. Talks task s.version s.pools rs (replies_of (s.entries ++ s.asks ++ take place (finished s.slots))) kept spoken)
-    (sym (requests_heard task s.pools s.entries s.asks t.closed asks (take place (finished s.slots)) each))
+    let each = front_each (finished_round s.slots) place (round_replies task s opened h) in
+    subst (λ rs. Talks task s.version s.pools rs (replies_of (s.entries ++ s.asks ++ take place (finished_round s.slots))) kept spoken)
+    (sym (requests_heard task s.pools s.entries s.asks t.closed asks (take place (finished_round s.slots)) each))
     (subst (λ es. Talks task s.version s.pools (requests_of task s.pools s.entries ++ requests_of task s.pools s.asks) es kept spoken)
-    (sym (replies_heard task s.pools s.entries s.asks t.closed asks (take place (finished s.slots)) each))
+    (sym (replies_heard task s.pools s.entries s.asks t.closed asks (take place (finished_round s.slots)) each))
     (subst (λ rs. Talks task s.version s.pools
-    (requests_of task s.pools s.entries ++ rs) (replies_of s.entries ++ take place (finished s.slots)) kept spoken)
+    (requests_of task s.pools s.entries ++ rs) (replies_of s.entries ++ take place (finished_round s.slots)) kept spoken)
     (all_taken (length s.slots) (requests_of task s.pools s.asks) t.slots.many) t.talks))
 
 -- ---- a round that is begun
 
 pub talking_begun : (task : Task) (s : State) (dues : List Due) (running : ℕ → Bool) (kept : ℕ → List ℕ) (spoken : ℕ → Option Talk)
     → s.failed ≡ false → MayBeginRound task s dues → IsSession task s → AllRun s.pools running
-    → IsTold task s.version s.pools s.entries running kept spoken → IsTalking task (begun task s dues) 0 0 kept spoken
+    → IsTold task s.version s.pools s.entries running kept spoken → IsTalking task (round_begun task s dues) 0 0 kept spoken
 talking_begun task s dues running kept spoken works may h all told = record {
   closed = told.closed;
   even = told.even;
@@ -183,7 +183,7 @@ talking_begun task s dues running kept spoken works may h all told = record {
   where
     within : (k : ℕ) (d : Due) → slice_get dues k ≡ Some d → d.instance.stream < length task.streams
     within k d at =
-        let due = may.askable.due d.instance (member_at (instances_of dues) k d.instance
+        let due = may.askable.due d.instance (member_at (due_instances dues) k d.instance
         (slice_get-map (λ (u : Due). u.instance) dues k ∙ ap (option_map (λ (u : Due). u.instance)) at)) in
         slice_get_within task.streams d.instance.stream due.stream due.named
 
@@ -289,19 +289,19 @@ module _ (task : Task) (s : State) (place : ℕ) (kept : ℕ → List ℕ) (old 
 -- ---- a round that is answered
 
 pub told_closed : (task : Task) (x : State) (count : ℕ) (running : ℕ → Bool) (kept : ℕ → List ℕ) (spoken : ℕ → Option Talk)
-    → x.is_open ≡ true → IsSession task x → count ≡ length x.slots → length x.asks ≡ length x.slots → finished x.slots ≡ answers_of x.slots
+    → x.is_open ≡ true → IsSession task x → count ≡ length x.slots → length x.asks ≡ length x.slots → finished_round x.slots ≡ answers_of x.slots
     → ((k : ℕ) → running k ≡ false → kept k ≡ []) → IsTalking task x count count kept spoken
     → IsTold task x.version x.pools (x.entries ++ x.asks ++ answers_of x.slots) running kept spoken
 told_closed task x count running kept spoken opened h is asks_long all idle k =
     subst (λ es. IsTold task x.version x.pools (x.entries ++ x.asks ++ es) running kept spoken) all (record {
-      closed = closed_heard task x.pools x.entries x.asks k.closed asks (finished x.slots) each (long ∙ sym asks_long);
+      closed = closed_heard task x.pools x.entries x.asks k.closed asks (finished_round x.slots) each (long ∙ sym asks_long);
       even =
-          ap length replies ∙ length-append (replies_of x.entries) (finished x.slots) ∙ (λ i. k.even i + (long ∙ sym k.slots.many) i)
+          ap length replies ∙ length-append (replies_of x.entries) (finished_round x.slots) ∙ (λ i. k.even i + (long ∙ sym k.slots.many) i)
           ∙ sym (length-append (requests_of task x.pools x.entries) (requests_of task x.pools x.asks)) ∙ ap length (sym requests);
       idle = idle;
       each = λ child one runs.
           subst (λ rs. IfSome (spoken child)
-          (IsTalk task x.version rs (replies_of (x.entries ++ x.asks ++ finished x.slots)) child (kept child))) (sym requests)
+          (IsTalk task x.version rs (replies_of (x.entries ++ x.asks ++ finished_round x.slots)) child (kept child))) (sym requests)
           (subst (λ es. IfSome (spoken child)
           (IsTalk task x.version (requests_of task x.pools x.entries ++ requests_of task x.pools x.asks) es child (kept child)))
           (sym replies) (talks.each child one));
@@ -310,28 +310,28 @@ told_closed task x count running kept spoken opened h is asks_long all idle k =
     asks : AreAsks x.asks
     asks = round_asks task x opened h
 
-    each : AreReplies (finished x.slots)
+    each : AreReplies (finished_round x.slots)
     each = round_replies task x opened h
 
-    long : length (finished x.slots) ≡ length x.slots
+    long : length (finished_round x.slots) ≡ length x.slots
     long = length-map x.slots (λ (v : Slot). unwrap_or v.answer (entry.End v.number))
 
-    requests : requests_of task x.pools (x.entries ++ x.asks ++ finished x.slots)
+    requests : requests_of task x.pools (x.entries ++ x.asks ++ finished_round x.slots)
         ≡ requests_of task x.pools x.entries ++ requests_of task x.pools x.asks
-    requests = requests_heard task x.pools x.entries x.asks k.closed asks (finished x.slots) each
+    requests = requests_heard task x.pools x.entries x.asks k.closed asks (finished_round x.slots) each
 
-    replies : replies_of (x.entries ++ x.asks ++ finished x.slots) ≡ replies_of x.entries ++ finished x.slots
-    replies = replies_heard task x.pools x.entries x.asks k.closed asks (finished x.slots) each
+    replies : replies_of (x.entries ++ x.asks ++ finished_round x.slots) ≡ replies_of x.entries ++ finished_round x.slots
+    replies = replies_heard task x.pools x.entries x.asks k.closed asks (finished_round x.slots) each
 
     talks : Talks task x.version x.pools (requests_of task x.pools x.entries ++ requests_of task x.pools x.asks)
-        (replies_of x.entries ++ finished x.slots) kept spoken
+        (replies_of x.entries ++ finished_round x.slots) kept spoken
     talks =
         subst (λ rs. Talks task x.version x.pools (requests_of task x.pools x.entries ++ rs)
-        (replies_of x.entries ++ finished x.slots) kept spoken)
+        (replies_of x.entries ++ finished_round x.slots) kept spoken)
         (all_taken count (requests_of task x.pools x.asks) (k.slots.many ∙ sym is))
         (subst (λ es. Talks task x.version x.pools
         (requests_of task x.pools x.entries ++ take count (requests_of task x.pools x.asks)) (replies_of x.entries ++ es) kept spoken)
-        (all_taken count (finished x.slots) (long ∙ sym is)) k.talks)
+        (all_taken count (finished_round x.slots) (long ∙ sym is)) k.talks)
 
 -- ---- one request, as its function has it
 
@@ -349,7 +349,7 @@ module _ (task : Task) (s : State) (place : ℕ) (kept : ℕ → List ℕ) (old 
   pub next_legal : IsLegal s.version task ((s.entries ++ take place s.asks) ++ e ∷ [])
   next_legal =
       subst (IsLegal s.version task) (one_more s.entries s.asks place e at_e)
-      (asks_legal s.version task s.entries s.asks (finished s.slots) (place + 1) (round_legal task s opened h))
+      (asks_legal s.version task s.entries s.asks (finished_round s.slots) (place + 1) (round_legal task s opened h))
 
   -- with it they are a front of the round
   pub next_front : IsFrontPart s.entries (IsRound task s.entries s.instances) ((s.entries ++ take place s.asks) ++ e ∷ [])

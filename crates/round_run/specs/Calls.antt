@@ -85,7 +85,7 @@ module _ (task : Task) (pools : List Workers) where
       × Follows past before more events
 
 -- Entries came behind the others, by the calls that came to the log.
-pub record Calls (task : Task) (pools : List Workers) (before after : List Entry)
+pub record AddsCalls (task : Task) (pools : List Workers) (before after : List Entry)
     (old new : Option (List Event)) : Type 0 where
   pub more : List Entry
   pub pushed : after ≡ before ++ more

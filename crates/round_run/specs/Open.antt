@@ -1,15 +1,15 @@
 -- What is done in an open round, in a whole round, and in the rounds of a batch.
 use Rattle.std.specs.Prelude.{◌≡◌, ◌++◌, ℕ, ◌<◌, List, length, take, Result, IfErr, IfOk, OnOk}
-use Rattle.instance_queue.specs.Level.{instances_of}
+use Rattle.instance_queue.specs.Level.{due_instances}
 use Rattle.instance_queue.specs.declared.due.Due.{Due}
 use Rattle.io_world.specs.Faults.{HasCause}
 use Rattle.io_world.specs.Talks.{Same}
 use Rattle.round_run.specs.Breaking.{LogBreaks}
-use Rattle.round_run.specs.Calls.{Calls, LogStartsPart, starts_of}
+use Rattle.round_run.specs.Calls.{AddsCalls, LogStartsPart, starts_of}
 use Rattle.round_run.specs.Dialogue.{workers_in}
 use Rattle.round_run.specs.Held.{Held, is_child_running}
 use Rattle.round_run.specs.Resting.{AreCaused, GoesInOrder, HasStarted, IsFrontOfBatch, Listens, RanBatch, RanRound, Rolled, Stays, StaysIdle, Works}
-use Rattle.round_run.specs.Rolling.{Goes, IsFrontPart, Stopped, finished}
+use Rattle.round_run.specs.Rolling.{Goes, IsFrontPart, Stopped, finished_round}
 use Rattle.round_run.specs.Stops.{MayHear}
 use Rattle.round_run.specs.Talking.{IsTalking, held_of}
 use Rattle.round_run.specs.Told.{Course, Stretch}
@@ -32,7 +32,7 @@ asked_to s sent = s.entries ++ take sent s.asks
 
 -- the same with all of its requests, and so many of the answers that these slots have
 abbrev pub heard_to : State → List Slot → ℕ → List Entry
-heard_to s slots answered = s.entries ++ s.asks ++ take answered (finished slots)
+heard_to s slots answered = s.entries ++ s.asks ++ take answered (finished_round slots)
 
 -- the first entries of what would be the open round, behind those before it
 abbrev pub IsFrontOfOpen : Task → State → List Entry → Type 0
@@ -48,7 +48,7 @@ pub record SendsOn (old new : State) (c : Stretch) (sent sent_now : ℕ) (before
   pub said : (task : Task) (kept : ℕ → List ℕ) → IsSession task old
       → IsTalking task old sent 0 kept c.was.host.spoken
       → OnOk result (IsTalking task new sent_now 0 kept c.now.host.spoken
-      × Calls task old.pools before after c.was.host.log c.now.host.log)
+      × AddsCalls task old.pools before after c.was.host.log c.now.host.log)
   pub stopped : (task : Task) (kept : ℕ → List ℕ) → IsSession task old
       → IsTalking task old sent 0 kept c.was.host.spoken
       → IfErr result (λ fault. Stopped old.version task old.pools (IsFrontOfOpen task old) before fault c.was.taken
@@ -66,7 +66,7 @@ pub record HearsOn (old new : State) (held left : Held) (c : Stretch) (heard hea
   pub said : (task : Task) → IsSession task old
       → IsTalking task old (length old.slots) heard (held_of held) c.was.host.spoken
       → OnOk result (IsTalking task new (length new.slots) heard_now (held_of left) c.now.host.spoken
-      × Calls task old.pools before after c.was.host.log c.now.host.log)
+      × AddsCalls task old.pools before after c.was.host.log c.now.host.log)
   pub stopped : (task : Task) → IsSession task old
       → IsTalking task old (length old.slots) heard (held_of held) c.was.host.spoken
       → IfErr result (λ fault. Stopped old.version task old.pools (IsFrontOfOpen task old) before fault c.was.taken
@@ -84,9 +84,9 @@ pub record RunsRound (task : Task) (dues : List Due) (old new : State) (held lef
   pub listens : OnOk result (Listens task new left c.now.host.running c.now.host.spoken)
   pub ran : OnOk result (RanRound task dues old new)
   pub adds : OnOk result (GoesInOrder old.entries new.entries c.was.taken c.now.taken
-      (Calls task old.pools old.entries new.entries c.was.host.log c.now.host.log))
+      (AddsCalls task old.pools old.entries new.entries c.was.host.log c.now.host.log))
   pub stopped : IfErr result (λ fault. Stopped old.version task old.pools
-      (IsFrontPart old.entries (IsRound task old.entries (instances_of dues))) old.entries fault c.was.taken c.now.taken
+      (IsFrontPart old.entries (IsRound task old.entries (due_instances dues))) old.entries fault c.was.taken c.now.taken
       c.now.host.spoken (LogBreaks task old.version old.pools old.entries fault c.was.host.log c.now.host.log))
   pub same : Stays held left c.was.host.running c.now.host.running
   pub causes : AreCaused c.last c.was.host.faults c.now.host.faults c.was.lost c.now.lost result
@@ -99,7 +99,7 @@ pub record RunsRounds (task : Task) (head : Head) (dues : List Due) (old new : S
   pub works : OnOk result (Works task head new left c.now.host.running c.now.host.spoken)
   pub ran : IfOk result (RanBatch task head dues old new)
   pub adds : OnOk result (GoesInOrder old.entries new.entries c.was.taken c.now.taken
-      (Calls task (workers_in head) old.entries new.entries c.was.host.log c.now.host.log))
+      (AddsCalls task (workers_in head) old.entries new.entries c.was.host.log c.now.host.log))
   pub stopped : IfErr result (λ fault. (0 < length dues) × Stopped head.version task (workers_in head)
       (IsFrontOfBatch task head old.entries dues) old.entries fault c.was.taken c.now.taken c.now.host.spoken
       (LogBreaks task head.version (workers_in head) old.entries fault c.was.host.log c.now.host.log))

@@ -1,6 +1,6 @@
 -- What the session, the lines and the children are to one another, and what a part of a run has done.
 use Rattle.std.specs.Prelude.{◌≡◌, ◌≢◌, ◌+◌, ◌++◌, ℕ, ◌<◌, ◌≤◌, List, [], length, take, drop, Bool, true, false, Option, Result}
-use Rattle.instance_queue.specs.Level.{instances_of}
+use Rattle.instance_queue.specs.Level.{due_instances}
 use Rattle.instance_queue.specs.declared.due.Due.{Due}
 use Rattle.io_world.specs.Faults.{Extends, HasCause, last_count}
 use Rattle.io_world.specs.Talks.{Event, Same, Talk}
@@ -44,7 +44,7 @@ pub record Rests (task : Task) (head : Head) (s : State) (held : Held) (running 
   pub started : AreStarted s.pools (length s.asked) running
 
 -- No child runs, and nothing is kept of any.
-pub record IsStill (held : Held) (running : ℕ → Bool) : Type 0 where
+pub record IsAtRest (held : Held) (running : ℕ → Bool) : Type 0 where
   pub idle : (k : ℕ) → running k ≡ false
   pub state : Same running (is_child_running held)
   pub empty : (k : ℕ) → held_of held k ≡ []
@@ -58,14 +58,14 @@ pub record GoesInOrder (before after : List Entry) (old new : Option (List ℕ))
 pub record RanBatch (task : Task) (head : Head) (dues : List Due) (old new : State) (b : Batch) : Type 0 where
   pub more : List Entry
   pub pushed : new.entries ≡ old.entries ++ more
-  pub batch : IsBatch (limits_of head) task old.entries (instances_of dues) more
+  pub batch : IsBatch (limits_of head) task old.entries (due_instances dues) more
   pub grows : length old.asked ≤ length new.asked
   pub ends : EndsBatch task new.entries (length old.asked) (length new.asked) head.calls (length dues) b
 
 -- The first entries of what would be a batch of these dues.
 abbrev pub IsFrontOfBatch : Task → Head → List Entry → List Due → List Entry → Type 0
 IsFrontOfBatch task head before dues =
-    IsFrontPart before (IsBatch (limits_of head) task before (instances_of dues))
+    IsFrontPart before (IsBatch (limits_of head) task before (due_instances dues))
 
 -- No child was started or stopped.
 pub record Stays (before after : Held) (was now : ℕ → Bool) : Type 0 where
@@ -110,7 +110,7 @@ pub record RanRound (task : Task) (dues : List Due) (old new : State) : Type 0 w
   pub asked : length new.asked ≡ length old.asked + length dues
   pub more : List Entry
   pub pushed : new.entries ≡ old.entries ++ more
-  pub round : IsRound task old.entries (instances_of dues) more
+  pub round : IsRound task old.entries (due_instances dues) more
   pub rest : (rest : List Due) (count : ℕ) → dues ≡ take count rest → AreReady task old.entries rest
       → AreReady task new.entries (drop count rest)
 

@@ -46,8 +46,8 @@ abbrev pub IsSameRound : State → State → Type 0
 IsSameRound old new = new ≡ with_slots old new.slots new.failed
 
 -- the answers of the round, where a request that isn't answered is taken to end
-abbrev pub finished : List Slot → List Entry
-finished = map (λ (t : Slot). unwrap_or t.answer (entry.End t.number))
+abbrev pub finished_round : List Slot → List Entry
+finished_round = map (λ (t : Slot). unwrap_or t.answer (entry.End t.number))
 
 -- ---- how a run goes on and stops
 

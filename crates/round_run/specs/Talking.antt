@@ -15,7 +15,7 @@ use Rattle.task_model.specs.declared.task.Task.{Task}
 use Rattle.transcript_model.specs.declared.entry.Entry.{Entry}
 use Rattle.round_run.specs.Dialogue.{AreSaid, AreShort, IsOneOf, Request, bytes_to, count_to, last_round, replies_of, requests_of, text_of_request, wanted_by}
 use Rattle.round_run.specs.Held.{Held}
-use Rattle.round_run.specs.Rolling.{finished}
+use Rattle.round_run.specs.Rolling.{finished_round}
 use Rattle.round_run.specs.declared.fault.RunFault.{RunFault}
 use Rattle.round_run.specs.declared.fault.RunFault.TheVariants.{Answer, Generator, Write, Memory}
 
@@ -86,7 +86,7 @@ pub record IsTalking (task : Task) (s : State) (sent answered : ℕ) (kept : ℕ
   pub slots : AreSlotsOf task s
   pub talks : Talks task s.version s.pools
       (requests_of task s.pools s.entries ++ take sent (requests_of task s.pools s.asks))
-      (replies_of s.entries ++ take answered (finished s.slots)) kept spoken
+      (replies_of s.entries ++ take answered (finished_round s.slots)) kept spoken
 
 -- ---- a line that is heard
 

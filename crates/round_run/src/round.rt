@@ -6,7 +6,7 @@ ghost use Rattle.round_run.specs.Children.{HearsLine};
 ghost use Rattle.round_run.specs.Held.{is_child_running};
 ghost use Rattle.round_run.specs.Open.{HearsOn, RunsRound, SendsOn, asked_to, heard_to};
 ghost use Rattle.round_run.specs.Resting.{Awaits, IsUp, KeepsOthers, Listens};
-ghost use Rattle.round_run.specs.Rolling.{IsRolling, finished};
+ghost use Rattle.round_run.specs.Rolling.{IsRolling, finished_round};
 ghost use Rattle.round_run.specs.Talking.{held_of};
 ghost use Rattle.round_run.specs.Told.{course, stretch};
 ghost use Rattle.round_run.specs.Batches.{AllRun};
@@ -122,7 +122,7 @@ fn hear_all<H: Host, O: Sink>(
     ensures hears { HearsOn session.old session.new lines.old lines.new (stretch H.last H.running
         H.spoken H.log H.faults O.taken O.faults host.old host.new out.old out.new) 0 count
         (session.old.entries ++ session.old.asks)
-        (session.old.entries ++ session.old.asks ++ finished session.new.slots) result }
+        (session.old.entries ++ session.old.asks ++ finished_round session.new.slots) result }
 {
     for place in 0..count {
         hear_one(session, lines, host, out, place)?;

@@ -5,7 +5,7 @@ use Rattle.std.proofs.lemmas.List.Splits.{slice_split_none}
 use Rattle.std.specs.Cmp.{first_so, second_so}
 use Rattle.std.specs.List.{list_all, slice_split}
 use Rattle.std.specs.Option.{is_none}
-use Rattle.gen_lines.specs.Reply.{Reply, are_of_width, bad, ends, fields, has_bars, is_bar, is_value, is_value_byte, joined, number, parted, reply_of, reply_of_fields, yield_reply, yields}
+use Rattle.gen_lines.specs.Reply.{Reply, are_of_width, bad, ends, fields, has_bars, is_bar, is_value, is_value_byte, joined_tuples, number, parted, reply_of, reply_of_fields, yield_reply, yields}
 use Rattle.gen_lines.specs.declared.answer.Wanted.TheVariants as wanted
 use Rattle.gen_lines.specs.declared.answer.Why.{Why}
 use Rattle.gen_lines.specs.declared.answer.Why.TheVariants.{Count, Value}

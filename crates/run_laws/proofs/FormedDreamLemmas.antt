@@ -69,7 +69,7 @@ placeholders_formed j i (suc n) some one low high =
     (inr (record { j = j; i = i; is = refl; from = (some, one); upto = (low, omega (arith, high)) }))
     (placeholders_formed j (i + 1) n some (omega arith) low (omega (arith, high)))
 
-entry_names_formed : (j : ℕ) (list : List dreams.Entry) → HaveFew list → 0 < j → j + length list ≤ 4294967295
+entry_names_formed : (j : ℕ) (list : List dreams.SupposedEntry) → HaveFew list → 0 < j → j + length list ≤ 4294967295
     → All IsTerm (entry_names j list)
 entry_names_formed j [] few some high = All-nil IsTerm
 entry_names_formed j (e ∷ es) few some high =
@@ -94,7 +94,7 @@ object_real name (inr made) at =
 -- ---- a dream
 
 module _ (limits : Limits) (task : Task) (fit : IsFit task) (before : List Entry) (legal : IsLegal limits.version task before)
-    (tried : List Instance) (uses : List DreamUse) (steps : List Call) (entries : List dreams.Entry)
+    (tried : List Instance) (uses : List DreamUse) (steps : List Call) (entries : List dreams.SupposedEntry)
     (d : IsDreamAfter limits task before tried uses steps entries) where
   enough : length task.problem.objects ≤ length (names_of task before)
   enough =
@@ -121,7 +121,7 @@ module _ (limits : Limits) (task : Task) (fit : IsFit task) (before : List Entry
       (omega (arith, d.dream.few)))
 
   -- where an entry of the dream stands in the list
-  chosen_at : (k : ℕ) (e : dreams.Entry) → slice_get entries k ≡ Some e → (p : ℕ) × (slice_get d.list p ≡ Some e)
+  chosen_at : (k : ℕ) (e : dreams.SupposedEntry) → slice_get entries k ≡ Some e → (p : ℕ) × (slice_get d.list p ≡ Some e)
   chosen_at k e at =
       let there = maps_meet Some (slice_get d.list) entries d.dream.places (sym d.dream.chosen) k e at in
       (there.0, sym there.2)
@@ -135,8 +135,8 @@ module _ (limits : Limits) (task : Task) (fit : IsFit task) (before : List Entry
       maps_meet (λ (x : DreamUse). x.call) (call_of_instance task names) uses (instances_of entries) d.calls k u at in
       let same : call.0 ≡ chosen.0.instance =
       same_Some call.0 chosen.0.instance
-      (sym call.1 ∙ slice_get-map (λ (e : dreams.Entry). e.instance) entries k
-      ∙ ap (option_map (λ (e : dreams.Entry). e.instance)) chosen.1) in
+      (sym call.1 ∙ slice_get-map (λ (e : dreams.SupposedEntry). e.instance) entries k
+      ∙ ap (option_map (λ (e : dreams.SupposedEntry). e.instance)) chosen.1) in
       let plain =
       supposed.plain task (known_of task before) (notes_of task before) tried fit enough
       (coherent limits.version task before fit legal) real limits.depth d.list d.supposed d.dream.few place.0 chosen.0 chosen.2 in (

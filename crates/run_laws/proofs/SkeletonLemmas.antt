@@ -18,7 +18,7 @@ use Rattle.task_model.specs.declared.task.Task.{Task}
 use Rattle.transcript_model.proofs.LegalNumberLemmas.{asks_more}
 use Rattle.transcript_model.proofs.LegalPrefixLemmas.{legal_front}
 use Rattle.transcript_model.proofs.LegalStepLemmas.{mark_adds}
-use Rattle.transcript_model.specs.Dreaming.{Sent, all_replaced, become, next_sent, ready, replaced, sent_instances}
+use Rattle.transcript_model.specs.Dreaming.{Sent, all_replaced, become, next_sent, ready_instance, replaced, sent_instances}
 use Rattle.transcript_model.specs.Laws.{AddsMark}
 use Rattle.transcript_model.specs.Legal.{IsLegal, asks_of}
 use Rattle.transcript_model.specs.Rounds.{IsBatch, Limits, calls_left}
@@ -35,7 +35,7 @@ pub record IsCarried (kept : Kept) (before : List Entry) : Type 0 where
   pub picked : (k : ℕ) (s : Skeleton) → slice_get kept.skeletons k ≡ Some s → s.retired ≡ false → 1 ≤ s.picks
 
 -- a dream that is kept now
-abbrev pub skeleton_of : Task → List Entry → List dreams.Entry → Skeleton
+abbrev pub skeleton_of : Task → List Entry → List dreams.SupposedEntry → Skeleton
 skeleton_of task before entries =
     record { entries = entries; real = length (names_of task before); picks = 0; retired = false }
 
@@ -59,16 +59,16 @@ module _ (task : Task) (a b : List Entry) (real : ℕ) (known : known_of task a 
   all_same (o ∷ os) =
       ap (λ rest. option_and_then (λ object. option_map (λ objects. object ∷ objects) rest) (replaced task a real [] o)) (all_same os)
 
-  become_same : (e : dreams.Entry) → become task a real [] e ≡ become task b real [] e
+  become_same : (e : dreams.SupposedEntry) → become task a real [] e ≡ become task b real [] e
   become_same e =
       ap (option_map (λ inputs. record { stream = e.instance.stream; inputs = inputs })) (all_same e.instance.inputs)
 
-  ready_same : (taken : List Instance) (e : dreams.Entry) → ready task a real [] taken e ≡ ready task b real [] taken e
+  ready_same : (taken : List Instance) (e : dreams.SupposedEntry) → ready_instance task a real [] taken e ≡ ready_instance task b real [] taken e
   ready_same taken e =
       λ j. option_and_then (λ i.
       if is_due task (known j) (notes j) i && not (list_any (same_instance i) taken) then Some i else None) (become_same e j)
 
-  next_same : (number : ℕ) (taken : List Instance) (entries : List dreams.Entry)
+  next_same : (number : ℕ) (taken : List Instance) (entries : List dreams.SupposedEntry)
       → next_sent task a real [] number taken entries ≡ next_sent task b real [] number taken entries
   next_same number taken [] = refl
   next_same number taken (e ∷ es) =
@@ -94,7 +94,7 @@ module _ (limits : Limits) (task : Task) where
             omega (arith, count, taken, many, some, least)
       ]
 
-  batches_ask : (real : ℕ) (entries : List dreams.Entry) (before now : List Entry) (after : List Sent) (cut : Bool)
+  batches_ask : (real : ℕ) (entries : List dreams.SupposedEntry) (before now : List Entry) (after : List Sent) (cut : Bool)
       → cut ≡ false → 0 < length (next_sent task before real [] (asks_of before + 1) [] entries)
       → AreBatches limits task real entries [] before now after cut → 1 ≤ asks_of now
   batches_ask real entries before now after cut whole some (finished none) = absurd (omega (arith, some, ap length none))
@@ -105,7 +105,7 @@ module _ (limits : Limits) (task : Task) where
   -- ---- picks
 
   -- a new skeleton is picked at once
-  new_picked : (kept : Kept) (before : List Entry) (entries : List dreams.Entry) (place : ℕ) (s : Skeleton) → IsCarried kept before
+  new_picked : (kept : Kept) (before : List Entry) (entries : List dreams.SupposedEntry) (place : ℕ) (s : Skeleton) → IsCarried kept before
       → IsPicked (kept.skeletons ++ skeleton_of task before entries ∷ []) place s
       → (place ≡ length kept.skeletons) × (s ≡ skeleton_of task before entries)
   new_picked kept before entries place s carried picked =

@@ -27,7 +27,7 @@ use Rattle.transcript_model.specs.declared.head.Mode.TheVariants.{Incremental, F
 -- A dream is one after the entries before it, and a pick's number is at most the next request's.
 abbrev pub IsRightMark : Mode → Limits → Task → List Entry → Entry → Type 0
 IsRightMark mode limits task before (entry.Dream uses steps) =
-    ¬ (mode ≡ Incremental) × (tried : List Instance) × (entries : List dreams.Entry)
+    ¬ (mode ≡ Incremental) × (tried : List Instance) × (entries : List dreams.SupposedEntry)
     × IsDreamAfter limits task before tried uses steps entries
 IsRightMark mode limits task before (entry.Pick number) =
     ¬ (mode ≡ Incremental) × (number ≤ asks_of before + 1)
@@ -127,7 +127,7 @@ module _ (mode : Mode) (limits : Limits) (task : Task) where
       marked_right before [] entry.Reset refl tt (none_right (before ++ entry.Reset ∷ []))
   fallback_right before tried now cut (level this) = level_right before now cut this
 
-  batches_right : (real : ℕ) (entries : List dreams.Entry) (sent : List Sent) (before now : List Entry) (after : List Sent) (cut : Bool)
+  batches_right : (real : ℕ) (entries : List dreams.SupposedEntry) (sent : List Sent) (before now : List Entry) (after : List Sent) (cut : Bool)
       → AreBatches limits task real entries sent before now after cut → AreRight mode limits task before now
   batches_right real entries sent before now after cut (finished none) = none_right before
   batches_right real entries sent before now after cut (last next is more batch) = batch_right before now _ batch
@@ -138,9 +138,9 @@ module _ (mode : Mode) (limits : Limits) (task : Task) where
   -- ---- turns
 
   module _ (dreams_too : ¬ (mode ≡ Incremental)) where
-    dream_right : (asks : ℕ → List dreams.Entry → List Entry → List Entry → List Sent → Bool → Type 0)
+    dream_right : (asks : ℕ → List dreams.SupposedEntry → List Entry → List Entry → List Sent → Bool → Type 0)
         (tried : List Instance) (before now : List Entry) (next : List Instance) (cut : Bool)
-        → ((real : ℕ) (entries : List dreams.Entry) (b n : List Entry) (s : List Sent) (c : Bool) → asks real entries b n s c
+        → ((real : ℕ) (entries : List dreams.SupposedEntry) (b n : List Entry) (s : List Sent) (c : Bool) → asks real entries b n s c
         → AreRight mode limits task b n)
         → IsDreamTurn limits task asks tried before now next cut → AreRight mode limits task before now
     dream_right asks tried before now next cut each this =

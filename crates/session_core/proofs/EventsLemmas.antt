@@ -9,20 +9,20 @@ use Rattle.gen_lines.specs.Reply.{Reply, reply_of}
 use Rattle.lemmas.specs.Lists.{AreDistinct}
 use Rattle.transcript_model.specs.declared.entry.Entry.{Entry}
 use Rattle.session_core.proofs.SlotsLemmas.{map_same}
-use Rattle.session_core.specs.Events.{Event, sends, says, change_by, after, IsPlayed, lines_said, IsFresh, own_answer, AnswersAreOwn, OrderDoesNotMatter, EachSaysOne}
+use Rattle.session_core.specs.Events.{SessionEvent, sends, says, change_by, after, IsPlayed, lines_said, IsFresh, own_answer, AnswersAreOwn, OrderDoesNotMatter, EachSaysOne}
 use Rattle.session_core.specs.Slots.{Slot, sent_slot, heard_slot, is_slot_of, slot_of, replied_entry, reply_fault, reply_to, answers_of}
 use Rattle.session_core.proofs.SlotsLemmas.{children_of, map_at, at_own, at_other, child_kept, children_kept, slot_of-map, own_slot, answered_at, slot_place}
 
 -- a slot after the events
-abbrev pub slot_after : Slot → List Event → Slot
+abbrev pub slot_after : Slot → List SessionEvent → Slot
 slot_after s [] = s
 slot_after s (e ∷ events) = slot_after (change_by e s) events
 
-keeps_child : (e : Event) (s : Slot) → (change_by e s).child ≡ s.child
+keeps_child : (e : SessionEvent) (s : Slot) → (change_by e s).child ≡ s.child
 keeps_child (sends child) s = child_kept child sent_slot (λ t. refl) s
 keeps_child (says child line) s = child_kept child (heard_slot line) (λ t. refl) s
 
-pub after_each : (slots : List Slot) (events : List Event)
+pub after_each : (slots : List Slot) (events : List SessionEvent)
     → after slots events ≡ map (λ s. slot_after s events) slots
 after_each slots [] = sym (map_same slots)
 after_each slots (e ∷ events) =
@@ -30,7 +30,7 @@ after_each slots (e ∷ events) =
     ∙ map-map (λ s. slot_after s events) (change_by e) slots
 
 -- what still comes to a slot: nothing if it is answered, and else its one line
-abbrev OutcomeBy : Option Entry → Bool → Slot → List Event → Type 0
+abbrev OutcomeBy : Option Entry → Bool → Slot → List SessionEvent → Type 0
 OutcomeBy (Some e) sent s events = (lines_said s.child events ≡ []) × (slot_after s events ≡ s)
 OutcomeBy None true s events =
     (line : List ℕ) × (lines_said s.child events ≡ line ∷ [])
@@ -38,7 +38,7 @@ OutcomeBy None true s events =
 OutcomeBy None false s events =
     (line : List ℕ) × (lines_said s.child events ≡ line ∷ []) × (slot_after s events ≡ heard_slot line (sent_slot s))
 
-carry : (a : Option Entry) (b : Bool) (s : Slot) (es fs : List Event)
+carry : (a : Option Entry) (b : Bool) (s : Slot) (es fs : List SessionEvent)
     → lines_said s.child fs ≡ lines_said s.child es
     → slot_after s fs ≡ slot_after s es → OutcomeBy a b s es → OutcomeBy a b s fs
 carry (Some e) b s es fs lines ends o = (lines ∙ o.0, ends ∙ o.1)
@@ -57,7 +57,7 @@ has_entry n (reply.bad why) none = absurd (cc)
 
 module _ (s : Slot) where
   -- the slot's own request is sent
-  sent_own : (events : List Event) → s.answer ≡ None → s.sent ≡ false
+  sent_own : (events : List SessionEvent) → s.answer ≡ None → s.sent ≡ false
       → OutcomeBy (sent_slot s).answer true (sent_slot s) events
       → OutcomeBy s.answer s.sent s (sends s.child ∷ events)
   sent_own events none unsent o =
@@ -67,7 +67,7 @@ module _ (s : Slot) where
       (subst (λ b. OutcomeBy None b s (sends s.child ∷ events)) (sym unsent) (r.0, r.1, ap (λ t. slot_after t events) own ∙ r.2))
 
   -- the slot's own line is heard
-  heard_own : (line : List ℕ) (events : List Event) (e : Entry) → s.answer ≡ None → s.sent ≡ true
+  heard_own : (line : List ℕ) (events : List SessionEvent) (e : Entry) → s.answer ≡ None → s.sent ≡ true
       → replied_entry s.number (reply_to line s) ≡ Some e → OutcomeBy (heard_slot line s).answer s.sent (heard_slot line s) events
       → OutcomeBy s.answer s.sent s (says s.child line ∷ events)
   heard_own line events e none sent is o =
@@ -80,13 +80,13 @@ module _ (s : Slot) where
       (subst (λ b. OutcomeBy None b s (says s.child line ∷ events)) (sym sent) (line, lines, ap (λ t. slot_after t events) own ∙ r.1))
 
   -- an event of another child
-  sent_other : (child : ℕ) (events : List Event) → is_slot_of child s ≡ false
+  sent_other : (child : ℕ) (events : List SessionEvent) → is_slot_of child s ≡ false
       → OutcomeBy s.answer s.sent s events
       → OutcomeBy s.answer s.sent s (sends child ∷ events)
   sent_other child events apart o =
       carry s.answer s.sent s events (sends child ∷ events) refl (ap (λ t. slot_after t events) (at_other child sent_slot s apart)) o
 
-  heard_other : (child : ℕ) (line : List ℕ) (events : List Event) → is_slot_of child s ≡ false
+  heard_other : (child : ℕ) (line : List ℕ) (events : List SessionEvent) → is_slot_of child s ≡ false
       → OutcomeBy s.answer s.sent s events
       → OutcomeBy s.answer s.sent s (says child line ∷ events)
   heard_other child line events apart o =
@@ -95,14 +95,14 @@ module _ (s : Slot) where
       (ap (λ t. slot_after t events) (at_other child (heard_slot line) s apart)) o
 
 -- the slot in the changed list
-moved : (slots : List Slot) (e : Event) (s t : Slot) → slot_of slots s.child ≡ Some s
+moved : (slots : List Slot) (e : SessionEvent) (s t : Slot) → slot_of slots s.child ≡ Some s
     → change_by e s ≡ t → t.child ≡ s.child
     → slot_of (map (change_by e) slots) t.child ≡ Some t
 moved slots e s t at is child =
     ap (slot_of (map (change_by e) slots)) child ∙ slot_of-map (change_by e) (keeps_child e) slots s.child
     ∙ ap (option_map (change_by e)) at ∙ ap Some is
 
-pub outcome : (slots : List Slot) (events : List Event) → AreDistinct (children_of slots)
+pub outcome : (slots : List Slot) (events : List SessionEvent) → AreDistinct (children_of slots)
     → IsPlayed slots events → (s : Slot)
     → slot_of slots s.child ≡ Some s → OutcomeBy s.answer s.sent s events
 outcome slots [] d all s at = let p = slot_place slots s.child s at in answered_end s.answer s.sent s (answered_at slots p.0 s all p.1)
@@ -146,12 +146,12 @@ outcome slots (says child line ∷ events) d played s at =
 -- ---- from the beginning
 
 -- the one line of a slot's child, and the slot in the end
-record Plays (s : Slot) (events : List Event) : Type 0 where
+record Plays (s : Slot) (events : List SessionEvent) : Type 0 where
   line : List ℕ
   lines : lines_said s.child events ≡ line ∷ []
   ends : slot_after s events ≡ heard_slot line (sent_slot s)
 
-plays : (slots : List Slot) (events : List Event) → IsFresh slots → IsPlayed slots events
+plays : (slots : List Slot) (events : List SessionEvent) → IsFresh slots → IsPlayed slots events
     → (k : ℕ) (s : Slot) → slice_get slots k ≡ Some s
     → Plays s events
 plays slots events fresh played k s at =
@@ -186,7 +186,7 @@ answers_are_own slots events fresh played =
     let p = plays slots events fresh played k s at in
     ap (λ (t : Slot). t.answer) p.ends ∙ sym (own_is events s p.line p.lines))
   where
-    own_is : (events : List Event) (s : Slot) (line : List ℕ) → lines_said s.child events ≡ line ∷ []
+    own_is : (events : List SessionEvent) (s : Slot) (line : List ℕ) → lines_said s.child events ≡ line ∷ []
         → own_answer events s ≡ replied_entry s.number (reply_of line s.wanted)
     own_is events s line e = rw e refl
 

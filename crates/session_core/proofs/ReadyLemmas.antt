@@ -10,7 +10,7 @@ use Rattle.std.proofs.lemmas.List.Concat.{flat_map-append}
 use Rattle.gen_lines.specs.Reply as reply
 use Rattle.gen_lines.specs.Reply.{Reply, reply_of}
 use Rattle.instance_queue.proofs.NotesLemmas.{about, tally_stays, yielded_some}
-use Rattle.instance_queue.specs.Level.{instances_of, AreDueInTurn}
+use Rattle.instance_queue.specs.Level.{due_instances, AreDueInTurn}
 use Rattle.instance_queue.specs.Notes.{tally_of}
 use Rattle.instance_queue.specs.declared.due.Due.{Due}
 use Rattle.instance_queue.specs.declared.queue.Tally.{Tally}
@@ -42,9 +42,9 @@ use Rattle.lemmas.proofs.Distinct.{ascending_distinct, distinct_apart, distinct_
 -- ---- lists
 
 two_parts : (n : ℕ) (dues : List Due)
-    → instances_of dues ≡ instances_of (take n dues) ++ instances_of (drop n dues)
+    → due_instances dues ≡ due_instances (take n dues) ++ due_instances (drop n dues)
 two_parts n dues =
-    ap instances_of (sym (take-append-drop n dues))
+    ap due_instances (sym (take-append-drop n dues))
     ∙ map-append (λ (d : Due). d.instance) (take n dues) (drop n dues)
 
 -- ---- levels
@@ -55,7 +55,7 @@ level_ready task entries dues level = record {
   due = λ i m. (level.due.each i).0 m;
   turns = level.turns;
   distinct = ascending_distinct (instance_cmp (known_of task entries).names)
-      (instances_total (known_of task entries).names) (instances_of dues) level.due.ascend;
+      (instances_total (known_of task entries).names) (due_instances dues) level.due.ascend;
 }
 
 -- ---- the next round may begin
@@ -75,9 +75,9 @@ may_begin task s dues count h works learnt ready next =
           (subst (λ ns. AreAskable task (known_of task s.entries) ns front) (sym notes)
           (record {
             due = λ i m. ready.due i
-                (subst (λ is. Contains is i) (sym parts) (Contains-append_left (instances_of front) (instances_of (drop count dues)) i m));
+                (subst (λ is. Contains is i) (sym parts) (Contains-append_left (due_instances front) (due_instances (drop count dues)) i m));
             turns = All-take (λ (d : Due). d.turn ≡ yields_of (notes_of task s.entries) d.instance) count dues ready.turns;
-            distinct = distinct_left (instances_of front) (instances_of (drop count dues)) (subst AreDistinct parts ready.distinct);
+            distinct = distinct_left (due_instances front) (due_instances (drop count dues)) (subst AreDistinct parts ready.distinct);
           }));
       fit = next.fit;
       left = omega (arith, next.left, length-front);
@@ -249,27 +249,27 @@ module _ (task : Task) (s : State) (open_now : s.is_open ≡ true) (answered : a
           unfinished = (λ j. ends j || (is_test due.stream && yielded j)) ∙ due.unfinished;
         }
 
-  pub rest_ready : (dues : List Due) (count : ℕ) → s.instances ≡ instances_of (take count dues)
+  pub rest_ready : (dues : List Due) (count : ℕ) → s.instances ≡ due_instances (take count dues)
       → AreReady task s.entries dues
       → AreReady task (after_close s).entries (drop count dues)
   rest_ready dues count front ready =
       let parts = two_parts count dues in
       let distinct = subst AreDistinct parts ready.distinct in
-      let apart : (i : Instance) → Contains (instances_of (drop count dues)) i → ¬ (Contains s.instances i) =
-      λ i m in_front. distinct_apart (instances_of (take count dues))
-      (instances_of (drop count dues)) i distinct (subst (λ is. Contains is i) front in_front) m in
+      let apart : (i : Instance) → Contains (due_instances (drop count dues)) i → ¬ (Contains s.instances i) =
+      λ i m in_front. distinct_apart (due_instances (take count dues))
+      (due_instances (drop count dues)) i distinct (subst (λ is. Contains is i) front in_front) m in
       subst (λ es. AreReady task es (drop count dues)) (sym entries_are)
       (record {
         due = λ i m. due_kept i (apart i m) (ready.due i
             (subst (λ is. Contains is i) (sym parts)
-            (Contains-append_right (instances_of (take count dues)) (instances_of (drop count dues)) i m)));
+            (Contains-append_right (due_instances (take count dues)) (due_instances (drop count dues)) i m)));
         turns = turns_kept (drop count dues) apart
             (All-drop (λ (d : Due). d.turn ≡ yields_of (notes_of task s.entries) d.instance) count dues ready.turns);
-        distinct = distinct_right (instances_of (take count dues)) (instances_of (drop count dues)) distinct;
+        distinct = distinct_right (due_instances (take count dues)) (due_instances (drop count dues)) distinct;
       })
     where
       turns_kept : (us : List Due)
-          → ((i : Instance) → Contains (instances_of us) i → ¬ (Contains s.instances i))
+          → ((i : Instance) → Contains (due_instances us) i → ¬ (Contains s.instances i))
           → All (λ (d : Due). d.turn ≡ yields_of (notes_of task s.entries) d.instance) us
           → All (λ (d : Due). d.turn ≡ yields_of (notes_of task all) d.instance) us
       turns_kept [] apart turns =
@@ -277,6 +277,6 @@ module _ (task : Task) (s : State) (open_now : s.is_open ≡ true) (answered : a
       turns_kept (u ∷ us) apart turns =
           All-cons (λ (d : Due). d.turn ≡ yields_of (notes_of task all) d.instance) u us
           (All-head (λ (d : Due). d.turn ≡ yields_of (notes_of task s.entries) d.instance) u us turns
-          ∙ sym (yields_kept u.instance (apart u.instance (contains_here u.instance (instances_of us)))))
-          (turns_kept us (λ i m. apart i (contains_later u.instance (instances_of us) i m))
+          ∙ sym (yields_kept u.instance (apart u.instance (contains_here u.instance (due_instances us)))))
+          (turns_kept us (λ i m. apart i (contains_later u.instance (due_instances us) i m))
           (All-tail (λ (d : Due). d.turn ≡ yields_of (notes_of task s.entries) d.instance) u us turns))

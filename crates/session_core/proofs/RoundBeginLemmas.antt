@@ -7,11 +7,11 @@ use Rattle.std.proofs.lemmas.Option.{slice_get_within, slice_get-get_or, slice_g
 use Rattle.std.proofs.lemmas.List.Elements.{All-nil, All-cons}
 use Rattle.gen_lines.specs.Request.{IsNamed}
 use Rattle.instance_queue.proofs.LevelLemmas.{due_in}
-use Rattle.instance_queue.specs.Level.{instances_of}
+use Rattle.instance_queue.specs.Level.{due_instances}
 use Rattle.instance_queue.specs.declared.due.Due.{Due}
 use Rattle.lemmas.proofs.Members.{member_at}
 use Rattle.pools.proofs.PoolsLemmas.{server_is, workers_fit}
-use Rattle.pools.specs.Pools.{AreFitPools, HasChild, Workers, child_for, has_stream, server, shares_of, streams_of}
+use Rattle.pools.specs.Pools.{AreFitPools, HasChild, Workers, child_for, has_stream, server, shares_of, asked_streams}
 use Rattle.task_model.specs.Known.{Known, IsCoherent}
 use Rattle.lemmas.specs.Lists.{AreDistinct}
 use Rattle.task_model.specs.Streams.{IsDue}
@@ -24,7 +24,7 @@ use Rattle.transcript_model.specs.declared.entry.Entry.{Entry}
 use Rattle.lemmas.proofs.Counts.{count_passes, count_whole}
 use Rattle.session_core.proofs.SlotsLemmas.{children_of}
 use Rattle.session_core.specs.Events.{IsFresh}
-use Rattle.session_core.specs.Session.{IsSession, AreSlotsFor, MayBeginRound, begun}
+use Rattle.session_core.specs.Session.{IsSession, AreSlotsFor, MayBeginRound, round_begun}
 use Rattle.session_core.specs.Slots.{Slot, ask_for, asks_from, slot_for, slots_from}
 use Rattle.session_core.specs.State.{State, IsSound}
 use Rattle.task_model.proofs.KnownLemmas.{below_names}
@@ -49,7 +49,7 @@ module _ (task : Task) (names : List (List ℕ)) where
         → slice_get dues k ≡ Some d
         → slots_from task names version pools n before (take (k + 1) dues)
         ≡ slots_from task names version pools n before (take k dues)
-        ++ slot_for task names version pools (n + k) (before ++ streams_of (take k dues)) d ∷ []
+        ++ slot_for task names version pools (n + k) (before ++ asked_streams (take k dues)) d ∷ []
     slots_step n before [] k d at = absurd (cc)
     slots_step n before (u ∷ us) zero d at =
         let same : u ≡ d = cc in
@@ -59,13 +59,13 @@ module _ (task : Task) (names : List (List ℕ)) where
         ∙ ap (λ es. slot_for task names version pools n before u ∷ es) (slots_step (n + 1) (before ++ u.instance.stream ∷ []) us k d at
         ∙ (λ i. slots_from task names version pools (n + 1) (before ++ u.instance.stream ∷ []) (take k us)
         ++ slot_for task names version pools ((let e : (n + 1) + k ≡ n + suc k = omega arith in e) i)
-        (append_assoc before (u.instance.stream ∷ []) (streams_of (take k us)) i) d
+        (append_assoc before (u.instance.stream ∷ []) (asked_streams (take k us)) i) d
         ∷ []))
 
     -- the child of each slot
     child_at : (n : ℕ) (before : List ℕ) (dues : List Due) (k c : ℕ)
         → slice_get (children_of (slots_from task names version pools n before dues)) k ≡ Some c
-        → (d : Due) × (slice_get dues k ≡ Some d) × (c ≡ child_for pools (before ++ streams_of (take k dues)) d.instance.stream)
+        → (d : Due) × (slice_get dues k ≡ Some d) × (c ≡ child_for pools (before ++ asked_streams (take k dues)) d.instance.stream)
     child_at n before [] k c at = absurd (cc)
     child_at n before (u ∷ us) zero c at = (
       u,
@@ -77,7 +77,7 @@ module _ (task : Task) (names : List (List ℕ)) where
         let r = child_at (n + 1) (before ++ u.instance.stream ∷ []) us k c at in (
           r.0,
           r.1,
-          r.2 ∙ ap (λ b. child_for pools b r.0.instance.stream) (append_assoc before (u.instance.stream ∷ []) (streams_of (take k us))),
+          r.2 ∙ ap (λ b. child_for pools b r.0.instance.stream) (append_assoc before (u.instance.stream ∷ []) (asked_streams (take k us))),
         )
 
     fresh_slots : (n : ℕ) (before : List ℕ) (dues : List Due)
@@ -96,16 +96,16 @@ module _ (task : Task) (names : List (List ℕ)) where
   long_asks n (d ∷ ds) = ap suc (long_asks (n + 1) ds)
 
 pub instances_step : (dues : List Due) (k : ℕ) (d : Due) → slice_get dues k ≡ Some d
-    → instances_of (take (k + 1) dues) ≡ instances_of (take k dues) ++ d.instance ∷ []
+    → due_instances (take (k + 1) dues) ≡ due_instances (take k dues) ++ d.instance ∷ []
 instances_step [] k d at = absurd (cc)
 instances_step (u ∷ us) zero d at = let same : u ≡ d = cc in λ i. (same i).instance ∷ []
 instances_step (u ∷ us) (suc k) d at =
-    ap (λ m. instances_of (take m (u ∷ us))) (let e : suc k + 1 ≡ suc (k + 1) = omega arith in e)
+    ap (λ m. due_instances (take m (u ∷ us))) (let e : suc k + 1 ≡ suc (k + 1) = omega arith in e)
     ∙ ap (λ is. u.instance ∷ is) (instances_step us k d at)
 
 -- ---- children
 
-take_streams : (dues : List Due) (k : ℕ) → streams_of (take k dues) ≡ take k (streams_of dues)
+take_streams : (dues : List Due) (k : ℕ) → asked_streams (take k dues) ≡ take k (asked_streams dues)
 take_streams dues zero = refl
 take_streams [] (suc k) = refl
 take_streams (d ∷ ds) (suc k) = ap (λ ss. d.instance.stream ∷ ss) (take_streams ds k)
@@ -116,18 +116,18 @@ record Served (pools : List Workers) (dues : List Due) (k : ℕ) (d : Due) : Typ
   place : ℕ
   at : slice_get pools place ≡ Some pool
   serving : has_stream pool d.instance.stream ≡ true
-  child : child_for pools (streams_of (take k dues)) d.instance.stream ≡ pool.first + count_by (has_stream pool) (take k (streams_of dues))
-  inside : count_by (has_stream pool) (take k (streams_of dues)) + 1 ≤ pool.workers
+  child : child_for pools (asked_streams (take k dues)) d.instance.stream ≡ pool.first + count_by (has_stream pool) (take k (asked_streams dues))
+  inside : count_by (has_stream pool) (take k (asked_streams dues)) + 1 ≤ pool.workers
 
 served_at : (task : Task) (pools : List Workers) (dues : List Due) → AreFitPools task pools
-    → fits (shares_of pools) (instances_of dues) ≡ true
+    → fits (shares_of pools) (due_instances dues) ≡ true
     → (k : ℕ) (d : Due) → slice_get dues k ≡ Some d → d.instance.stream < length task.streams → Served pools dues k d
 served_at task pools dues fit few k d at below =
     let found = fit.served d.instance.stream below in
     let is = server_is pools d.instance.stream found.0 found.1 in
-    let stream_at : slice_get (streams_of dues) k ≡ Some d.instance.stream =
+    let stream_at : slice_get (asked_streams dues) k ≡ Some d.instance.stream =
     slice_get-map (λ (u : Due). u.instance.stream) dues k ∙ ap (option_map (λ (u : Due). u.instance.stream)) at in
-    let enough = count_whole (has_stream found.0) (streams_of dues) k d.instance.stream stream_at is.2 in
+    let enough = count_whole (has_stream found.0) (asked_streams dues) k d.instance.stream stream_at is.2 in
     record {
       pool = found.0;
       place = is.0;
@@ -140,7 +140,7 @@ served_at task pools dues fit few k d at below =
     }
   where
     child_is : (p : Workers) → server pools d.instance.stream ≡ Some p
-        → child_for pools (streams_of (take k dues)) d.instance.stream ≡ p.first + count_by (has_stream p) (streams_of (take k dues))
+        → child_for pools (asked_streams (take k dues)) d.instance.stream ≡ p.first + count_by (has_stream p) (asked_streams (take k dues))
     child_is p e = rw e refl
 
 -- ---- the state with the round
@@ -158,7 +158,7 @@ module _ (task : Task) (s : State) (dues : List Due) (works : s.failed ≡ false
 
   due_at : (k : ℕ) (d : Due) → slice_get dues k ≡ Some d → IsDue task s.known s.notes d.instance
   due_at k d at =
-      may.askable.due d.instance (member_at (instances_of dues) k d.instance
+      may.askable.due d.instance (member_at (due_instances dues) k d.instance
       (slice_get-map (λ (u : Due). u.instance) dues k ∙ ap (option_map (λ (u : Due). u.instance)) at))
 
   known_coherent : IsCoherent s.known
@@ -184,7 +184,7 @@ module _ (task : Task) (s : State) (dues : List Due) (works : s.failed ≡ false
       served_at task s.pools dues h.pools may.fit k d at (slice_get_within task.streams d.instance.stream due.stream due.named)
 
   pub children_fit : (k : ℕ) (d : Due) → slice_get dues k ≡ Some d
-      → child_for s.pools (streams_of (take k dues)) d.instance.stream ≤ 16
+      → child_for s.pools (asked_streams (take k dues)) d.instance.stream ≤ 16
   children_fit k d at =
       let p = served k d at in omega (arith, p.child, p.inside, h.pools.few p.place p.pool p.at)
 
@@ -195,7 +195,7 @@ module _ (task : Task) (s : State) (dues : List Due) (works : s.failed ≡ false
   child_served names version n k c at_k =
       let x = child_at task names version s.pools n [] dues k c at_k in
       let p = served k x.0 x.1 in
-      let is : c ≡ p.pool.first + count_by (has_stream p.pool) (take k (streams_of dues)) = x.2 ∙ p.child in
+      let is : c ≡ p.pool.first + count_by (has_stream p.pool) (take k (asked_streams dues)) = x.2 ∙ p.child in
       (p.place, p.pool, p.at, record { from = omega (arith, is); to = omega (arith, is, p.inside) })
 
   children_apart : (names : List (List ℕ)) (version n j k c : ℕ) → j < k
@@ -206,18 +206,18 @@ module _ (task : Task) (s : State) (dues : List Due) (works : s.failed ≡ false
       let y = child_at task names version s.pools n [] dues k c at_k in
       let p = served j x.0 x.1 in
       let q = served k y.0 y.1 in
-      let c_p : c ≡ p.pool.first + count_by (has_stream p.pool) (take j (streams_of dues)) = x.2 ∙ p.child in
-      let c_q : c ≡ q.pool.first + count_by (has_stream q.pool) (take k (streams_of dues)) = y.2 ∙ q.child in
+      let c_p : c ≡ p.pool.first + count_by (has_stream p.pool) (take j (asked_streams dues)) = x.2 ∙ p.child in
+      let c_q : c ≡ q.pool.first + count_by (has_stream q.pool) (take k (asked_streams dues)) = y.2 ∙ q.child in
       let in_p : HasChild p.pool c = record { from = omega (arith, c_p); to = omega (arith, c_p, p.inside) } in
       let in_q : HasChild q.pool c = record { from = omega (arith, c_q); to = omega (arith, c_q, q.inside) } in
       let place : p.place ≡ q.place = h.pools.apart p.place q.place c p.pool q.pool p.at q.at in_p in_q in
       let same : p.pool ≡ q.pool = same_pool (slice_get s.pools q.place) p.pool q.pool (ap (slice_get s.pools) (sym place) ∙ p.at) q.at in
-      let stream_at : slice_get (streams_of dues) j ≡ Some x.0.instance.stream =
+      let stream_at : slice_get (asked_streams dues) j ≡ Some x.0.instance.stream =
       slice_get-map (λ (u : Due). u.instance.stream) dues j ∙ ap (option_map (λ (u : Due). u.instance.stream)) x.1 in
-      let rises = count_passes (has_stream p.pool) (streams_of dues) j k x.0.instance.stream below stream_at p.serving in
-      let moved : q.pool.first + count_by (has_stream q.pool) (take k (streams_of dues)) ≡ p.pool.first + count_by
-      (has_stream p.pool) (take k (streams_of dues)) =
-      ap (λ (w : Workers). w.first + count_by (has_stream w) (take k (streams_of dues))) (sym same) in
+      let rises = count_passes (has_stream p.pool) (asked_streams dues) j k x.0.instance.stream below stream_at p.serving in
+      let moved : q.pool.first + count_by (has_stream q.pool) (take k (asked_streams dues)) ≡ p.pool.first + count_by
+      (has_stream p.pool) (take k (asked_streams dues)) =
+      ap (λ (w : Workers). w.first + count_by (has_stream w) (take k (asked_streams dues))) (sym same) in
       absurd (omega (arith, c_p, c_q, moved, rises))
     where
       same_pool : (o : Option Workers) (a b : Workers) → o ≡ Some a → o ≡ Some b → a ≡ b
@@ -235,13 +235,13 @@ module _ (task : Task) (s : State) (dues : List Due) (works : s.failed ≡ false
 
   pub begun_sound : (entries_room asked_room : ℕ)
       → length s.entries + 2 * length dues ≤ entries_room
-      → length s.asked + length dues ≤ asked_room → s.calls ≤ 100000 → IsSound (begun task s dues) entries_room asked_room
+      → length s.asked + length dues ≤ asked_room → s.calls ≤ 100000 → IsSound (round_begun task s dues) entries_room asked_room
   begun_sound entries_room asked_room room more calls =
       let names = s.known.names in
       let first = length s.asked + 1 in
       let asks = long_asks task names first dues in
       let slots = long_slots task names s.version s.pools first [] dues in
-      let instances : length (instances_of dues) ≡ length dues = length-map dues (λ (d : Due). d.instance) in
+      let instances : length (due_instances dues) ≡ length dues = length-map dues (λ (d : Due). d.instance) in
       record {
         entries_fit = omega (arith, asks, slots, room);
         asked_fit = omega (arith, instances, more);
@@ -262,11 +262,11 @@ module _ (task : Task) (s : State) (dues : List Due) (works : s.failed ≡ false
       (slots_from task names s.version s.pools (n + 1) (before ++ u.instance.stream ∷ []) us) (refl, refl)
       (unsent names (n + 1) (before ++ u.instance.stream ∷ []) us)
 
-  pub begun_fresh : IsFresh (begun task s dues).slots
+  pub begun_fresh : IsFresh (round_begun task s dues).slots
   begun_fresh = record
       { unsent = unsent s.known.names (length s.asked + 1) [] dues; apart = children_distinct s.known.names s.version (length s.asked + 1) }
 
-  pub begin_kept : IsSession task (begun task s dues)
+  pub begin_kept : IsSession task (round_begun task s dues)
   begin_kept =
       record {
         fit = h.fit;
@@ -295,7 +295,7 @@ module _ (task : Task) (s : State) (dues : List Due) (works : s.failed ≡ false
 -- the state whose round has these lists
 pub the_state : (s : State) (entries : List Entry) (asked : List Instance) (asks : List Entry)
     (instances : List Instance) (slots : List Slot) (task : Task) (dues : List Due)
-    → entries ≡ s.entries → asked ≡ s.asked → asks ≡ asks_from task s.known.names (length s.asked + 1) dues → instances ≡ instances_of dues
+    → entries ≡ s.entries → asked ≡ s.asked → asks ≡ asks_from task s.known.names (length s.asked + 1) dues → instances ≡ due_instances dues
     → slots ≡ slots_from task s.known.names s.version s.pools (length s.asked + 1) [] dues
     → record {
       version = s.version;
@@ -311,7 +311,7 @@ pub the_state : (s : State) (entries : List Entry) (asked : List Instance) (asks
       instances = instances;
       slots = slots;
       failed = s.failed;
-    } ≡ begun task s dues
+    } ≡ round_begun task s dues
 the_state s entries asked asks instances slots task dues e1 e2 e3 e4 e5 =
     λ k. record {
       version = s.version;

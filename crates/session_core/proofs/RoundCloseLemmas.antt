@@ -14,7 +14,7 @@ use Rattle.task_model.specs.Numbers.{is_number}
 use Rattle.gen_lines.specs.Reply.{Reply, reply_of}
 use Rattle.gen_lines.specs.declared.answer.Wanted.TheVariants as wanted
 use Rattle.instance_queue.proofs.LevelLemmas.{due_in}
-use Rattle.instance_queue.specs.Level.{instances_of}
+use Rattle.instance_queue.specs.Level.{due_instances}
 use Rattle.instance_queue.specs.declared.due.Due.{Due}
 use Rattle.task_model.specs.Fit.{IsFit}
 use Rattle.task_model.specs.Known.{IsIn}
@@ -77,9 +77,9 @@ module _ (version : ℕ) (task : Task) (fit : IsFit task) (entries : List Entry)
   pub requested : (dues : List Due) (before : List Entry) (n : ℕ) → IsLegal version task before
       → known_of task before ≡ known_of task entries
       → notes_of task before ≡ notes_of task entries → n ≡ asks_of before + 1
-      → ((i : Instance) → Contains (instances_of dues) i → IsDue task (known_of task entries) (notes_of task entries) i)
-      → All (λ (d : Due). d.turn ≡ yields_of (notes_of task entries) d.instance) dues → AreDistinct (instances_of dues)
-      → ((m : ℕ) (a : Asked) → asked task before m ≡ Some a → is_open before m ≡ true → ¬ (Contains (instances_of dues) a.instance))
+      → ((i : Instance) → Contains (due_instances dues) i → IsDue task (known_of task entries) (notes_of task entries) i)
+      → All (λ (d : Due). d.turn ≡ yields_of (notes_of task entries) d.instance) dues → AreDistinct (due_instances dues)
+      → ((m : ℕ) (a : Asked) → asked task before m ≡ Some a → is_open before m ≡ true → ¬ (Contains (due_instances dues) a.instance))
       → Requested before (before ++ asks_from task (names_of task entries) n dues) n dues
   requested [] before n ok known notes next due turns distinct apart =
       let same : before ++ [] ≡ before = append-nil before in
@@ -89,7 +89,7 @@ module _ (version : ℕ) (task : Task) (fit : IsFit task) (entries : List Entry)
   requested (d ∷ ds) before n ok known notes next due turns distinct apart =
       let names = names_of task entries in
       let i = d.instance in
-      let here = due i (contains_here i (instances_of ds)) in
+      let here = due i (contains_here i (due_instances ds)) in
       let call = call_of_instance task names i in
       let e = entry.Ask n d.turn call in
       let named : instance_of task (names_of task before) call ≡ Some i =
@@ -103,7 +103,7 @@ module _ (version : ℕ) (task : Task) (fit : IsFit task) (entries : List Entry)
             (sym notes) (subst (λ k. IsDue task k (notes_of task entries) i) (sym known) here);
         closed = λ m a is same.
             false_from_ne_true (is_open before m)
-            (λ o. apart m a is o (subst (Contains (instances_of (d ∷ ds))) (sym same) (contains_here i (instances_of ds))));
+            (λ o. apart m a is o (subst (Contains (due_instances (d ∷ ds))) (sym same) (contains_here i (due_instances ds))));
         turned =
             All-head (λ (u : Due). u.turn ≡ yields_of (notes_of task entries) u.instance) d ds turns
             ∙ ap (λ ns. yields_of ns i) (sym notes);
@@ -113,20 +113,20 @@ module _ (version : ℕ) (task : Task) (fit : IsFit task) (entries : List Entry)
       here.named in
       let after = before ++ e ∷ [] in
       let apart_after : (m : ℕ) (a : Asked) → asked task after m ≡ Some a → is_open after m ≡ true → ¬
-      (Contains (instances_of ds) a.instance) =
+      (Contains (due_instances ds) a.instance) =
       λ m a is o there.
       elim (or_cases (is_open before m) (m == n) (sym (adds.waiting m) ∙ o)) [
         | inl old ↦ still_apart m a is old there n adds.others next ok
         | inr own ↦
             let at : m ≡ n = eqb-true m n own in
             let same : a.instance ≡ i = same_instance_of (asked task after n) a _ (ap (asked task after) (sym at) ∙ is) adds.here in
-            head_is_new i (instances_of ds) distinct (subst (Contains (instances_of ds)) same there)
+            head_is_new i (due_instances ds) distinct (subst (Contains (due_instances ds)) same there)
       ] in
       let rest = requested ds after (n + 1) ((grows version task before).next e ok right) (adds.same.known ∙ known)
       (adds.same.notes ∙ notes) (let c : n + 1 ≡ asks_of after + 1 = omega (arith, next, adds.asks) in c)
-      (λ j m. due j (contains_later i (instances_of ds) j m))
+      (λ j m. due j (contains_later i (due_instances ds) j m))
       (All-tail (λ (u : Due). u.turn ≡ yields_of (notes_of task entries) u.instance) d ds turns)
-      (distinct_tail i (instances_of ds) distinct) apart_after in
+      (distinct_tail i (due_instances ds) distinct) apart_after in
       let whole : before ++ asks_from task names n (d ∷ ds) ≡ after ++ asks_from task names (n + 1) ds =
       sym (append_assoc before (e ∷ []) (asks_from task names (n + 1) ds)) in
       subst (λ all. Requested before all n (d ∷ ds)) (sym whole)
@@ -159,7 +159,7 @@ module _ (version : ℕ) (task : Task) (fit : IsFit task) (entries : List Entry)
 
       still_apart : (m : ℕ) (a : Asked)
           → asked task (before ++ entry.Ask n d.turn (call_of_instance task (names_of task entries) d.instance) ∷ []) m ≡ Some a
-          → is_open before m ≡ true → Contains (instances_of ds) a.instance → (k : ℕ)
+          → is_open before m ≡ true → Contains (due_instances ds) a.instance → (k : ℕ)
           → ((j : ℕ) → ¬ (j ≡ k)
           → asked task (before ++ entry.Ask n d.turn (call_of_instance task (names_of task entries) d.instance) ∷ []) j
           ≡ asked task before j)
@@ -169,7 +169,7 @@ module _ (version : ℕ) (task : Task) (fit : IsFit task) (entries : List Entry)
           (number_below version task before m ok
           (and_parts (list_any (is_ask_of m) before) (not (list_any (is_answer_to m) before)) old).0).1 in
           apart m a (sym (others m (λ f. absurd (omega (arith, f, older, is_next)))) ∙ is) old
-          (contains_later d.instance (instances_of ds) a.instance there)
+          (contains_later d.instance (due_instances ds) a.instance there)
 
 -- ---- answers
 

@@ -4,7 +4,7 @@ use Rattle.std.proofs.lemmas.List.{take-append-le, length-map}
 use Rattle.std.proofs.lemmas.List.Sums.{count_by-le-length}
 use Rattle.std.specs.List.{cons_option}
 use Rattle.lemmas.proofs.Members.{append_cases}
-use Rattle.instance_queue.specs.Level.{instances_of}
+use Rattle.instance_queue.specs.Level.{due_instances}
 use Rattle.instance_queue.specs.declared.due.Due.{Due}
 use Rattle.task_model.specs.declared.stream.Instance.{Instance}
 use Rattle.task_model.specs.declared.task.Task.{Task}
@@ -23,7 +23,7 @@ use Rattle.session_core.proofs.RoundCloseLemmas.{AllWait, Requested, answered_al
 
 wait_at : (task : Task) (before : List Entry) (n : ℕ) (dues : List Due) (j : ℕ) (i : Instance)
     → AllWait task before n dues
-    → slice_get (instances_of dues) j ≡ Some i → Asks task before (n + j) i
+    → slice_get (due_instances dues) j ≡ Some i → Asks task before (n + j) i
 wait_at task before n [] j i w at = absurd (cc)
 wait_at task before n (d ∷ ds) zero i w at =
     let same : d.instance ≡ i = cc in

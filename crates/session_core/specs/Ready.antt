@@ -1,6 +1,6 @@
 -- Asks that wait for their round, and how many of them make the next.
 use Rattle.std.specs.Prelude.{◌≡◌, ℕ, ◌+◌, ◌-◌, ◌≤◌, List, length, take, drop, All, true, Contains}
-use Rattle.instance_queue.specs.Level.{instances_of}
+use Rattle.instance_queue.specs.Level.{due_instances}
 use Rattle.instance_queue.specs.declared.due.Due.{Due}
 use Rattle.lemmas.specs.Lists.{AreDistinct}
 use Rattle.pools.specs.Pools.{shares_of}
@@ -15,9 +15,9 @@ use Rattle.session_core.specs.State.{State}
 
 -- The asks are due over what is known and noted, each with its turn, and of different instances.
 pub record AreAskable (task : Task) (known : Known) (notes : List Note) (dues : List Due) : Type 0 where
-  pub due : (i : Instance) → Contains (instances_of dues) i → IsDue task known notes i
+  pub due : (i : Instance) → Contains (due_instances dues) i → IsDue task known notes i
   pub turns : All (λ (d : Due). d.turn ≡ yields_of notes d.instance) dues
-  pub distinct : AreDistinct (instances_of dues)
+  pub distinct : AreDistinct (due_instances dues)
 
 -- the asks may be made after the transcript
 abbrev pub AreReady : Task → List Entry → List Due → Type 0
@@ -33,6 +33,6 @@ session_calls_left s = s.calls - length s.asked
 pub record IsNextRound (s : State) (dues : List Due) (count : ℕ) : Type 0 where
   pub within : count ≤ length dues
   pub left : length s.asked + count ≤ s.calls
-  pub fit : fits (shares_of s.pools) (instances_of (take count dues)) ≡ true
+  pub fit : fits (shares_of s.pools) (due_instances (take count dues)) ≡ true
   pub full : IsFull (shares_of s.pools)
-      (instances_of (take count dues)) (instances_of (drop count (take (session_calls_left s) dues)))
+      (due_instances (take count dues)) (due_instances (drop count (take (session_calls_left s) dues)))

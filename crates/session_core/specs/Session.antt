@@ -1,7 +1,7 @@
 -- What holds of a session of a task, and what its calls ask for.
 use Rattle.std.specs.Prelude.{◌≡◌, ℕ, ◌+◌, ◌≤◌, List, [], ◌∷◌, map, length, take, true, false, Some, slice_get, count_by}
 use Rattle.gen_lines.specs.Reply.{reply_of}
-use Rattle.instance_queue.specs.Level.{instances_of}
+use Rattle.instance_queue.specs.Level.{due_instances}
 use Rattle.instance_queue.specs.declared.due.Due.{Due}
 use Rattle.learning.specs.Learning.{Asks}
 use Rattle.pools.specs.Pools.{AreFitPools, shares_of, workers_of}
@@ -50,7 +50,7 @@ AreSlotsFor task version number (due ∷ dues) [] = ⊥
 pub record IsRoundOf (task : Task) (s : State) : Type 0 where
   pub dues : List Due
   pub ready : AreReady task s.entries dues
-  pub instances : s.instances ≡ instances_of dues
+  pub instances : s.instances ≡ due_instances dues
   pub asks : s.asks ≡ asks_from task (names_of task s.entries) (length s.asked + 1) dues
   pub slots : AreSlotsFor task s.version (length s.asked + 1) dues s.slots
 
@@ -96,14 +96,14 @@ pub record IsLearnt (s : State) : Type 0 where
 pub record MayBeginRound (task : Task) (s : State) (dues : List Due) : Type 0 where
   pub ready : IsLearnt s
   pub askable : AreAskable task s.known s.notes dues
-  pub fit : fits (shares_of s.pools) (instances_of dues) ≡ true
+  pub fit : fits (shares_of s.pools) (due_instances dues) ≡ true
   pub left : length s.asked + length dues ≤ s.calls
 
 -- a round of these asks is open, of which nothing was sent
-abbrev pub begun : Task → State → List Due → State
-begun task s dues =
+abbrev pub round_begun : Task → State → List Due → State
+round_begun task s dues =
     with_round s true (asks_from task s.known.names (length s.asked + 1) dues)
-    (instances_of dues) (slots_from task s.known.names s.version s.pools (length s.asked + 1) [] dues)
+    (due_instances dues) (slots_from task s.known.names s.version s.pools (length s.asked + 1) [] dues)
 
 -- ---- learning
 
@@ -115,6 +115,6 @@ after_learn task s =
 -- ---- faults
 
 -- the session had failed before, or memory is wanting
-abbrev pub ComesOf : State → CoreFault → Type 0
-ComesOf s Failed = s.failed ≡ true
-ComesOf s Memory = s.failed ≡ false
+abbrev pub HasSessionCause : State → CoreFault → Type 0
+HasSessionCause s Failed = s.failed ≡ true
+HasSessionCause s Memory = s.failed ≡ false

@@ -2,8 +2,8 @@
 use Rattle.session_core.specs.State.{State}
 use Rattle.session_core.specs.declared.session.Session.TheInside.{Inside}
 
-abbrev pub shown : Inside → State
-shown s =
+abbrev pub shown_session : Inside → State
+shown_session s =
     record {
       version = s.version;
       calls = s.calls;

@@ -8,7 +8,7 @@ use Rattle.gen_lines.specs.declared.answer.Wanted.{Wanted}
 use Rattle.gen_lines.specs.declared.answer.Wanted.TheVariants as wanted
 use Rattle.gen_lines.specs.declared.answer.Why.{Why}
 use Rattle.instance_queue.specs.declared.due.Due.{Due}
-use Rattle.pools.specs.Pools.{Workers, child_for, streams_of}
+use Rattle.pools.specs.Pools.{Workers, child_for, asked_streams}
 use Rattle.task_model.specs.declared.stream.Stream.{Stream}
 use Rattle.task_model.specs.declared.task.Task.{Task}
 use Rattle.transcript_model.specs.Legal.{has_several}
@@ -70,7 +70,7 @@ module _ (task : Task) (names : List (List ℕ)) where
 -- each due has a child, whose number is at most 16
 abbrev pub AreFitChildren : List Workers → List Due → Type 0
 AreFitChildren pools dues =
-    (k : ℕ) (d : Due) → slice_get dues k ≡ Some d → child_for pools (streams_of (take k dues)) d.instance.stream ≤ 16
+    (k : ℕ) (d : Due) → slice_get dues k ≡ Some d → child_for pools (asked_streams (take k dues)) d.instance.stream ≤ 16
 
 -- ---- what was heard
 

@@ -2,9 +2,9 @@
 ghost use Rattle.std.specs.Prelude.{◌≡◌, ◌≤◌, ◌+◌, ◌^◌, ◌<◌, ◌++◌, [], IfOk, IfSome, IfNone, None, length, All, Some, slice_get, vec_capacity, option_copied};
 ghost use Rattle.gen_lines.specs.Request.{IsNamed};
 ghost use Rattle.gen_lines.specs.Told.{IsNarrow};
-ghost use Rattle.instance_queue.specs.Level.{instances_of};
+ghost use Rattle.instance_queue.specs.Level.{due_instances};
 ghost use Rattle.task_model.specs.Fit.{IsFit};
-ghost use Rattle.pools.specs.Pools.{child_for, streams_of};
+ghost use Rattle.pools.specs.Pools.{child_for, asked_streams};
 ghost use Rattle.session_core.specs.Slots.{wanted_at, ask_for as ask_of, asks_from, slots_from, slot_for, answers_of, slot_of, all_answered};
 ghost use Rattle.session_core.specs.Slots.{AreFitChildren};
 
@@ -83,11 +83,11 @@ fn ask_for(scene: &Scene<'_>, number: u32, due: &Due) -> Result<Entry, AllocErro
 fn cell_for(scene: &Scene<'_>, number: u32, before: &[Due], due: &Due) -> Result<Cell, AllocError>
     requires fit { IsFit scene.now.task.now }
     requires named { IsNamed scene.now.task.now scene.now.facts.now.known.names due.now.instance }
-    requires child { child_for scene.now.pools.now (streams_of before.now)
+    requires child { child_for scene.now.pools.now (asked_streams before.now)
         due.now.instance.stream ≤ 16 }
     ensures { IfOk result (λ cell. cell
         ≡ slot_for scene.now.task.now scene.now.facts.now.known.names scene.now.version
-        scene.now.pools.now number (streams_of before.now) due.now) }
+        scene.now.pools.now number (asked_streams before.now) due.now) }
 {
     let request = request_text(
         scene.alloc,
@@ -110,7 +110,7 @@ pub(crate) fn round_of(scene: &Scene<'_>, first: u32, dues: &[Due]) -> Result<Ro
     requires children { AreFitChildren scene.now.pools.now dues.now }
     ensures asks { IfOk result (λ round. round.asks.items
         ≡ asks_from scene.now.task.now scene.now.facts.now.known.names first dues.now) }
-    ensures instances { IfOk result (λ round. round.instances.items ≡ instances_of dues.now) }
+    ensures instances { IfOk result (λ round. round.instances.items ≡ due_instances dues.now) }
     ensures cells { IfOk result (λ round. round.cells.items
         ≡ slots_from scene.now.task.now scene.now.facts.now.known.names scene.now.version
         scene.now.pools.now first [] dues.now) }

@@ -39,12 +39,12 @@ impl Model for Session {
 
     ghost Value = { State };
 
-    ghost use Rattle.session_core.specs.Shown.{shown};
+    ghost use Rattle.session_core.specs.Shown.{shown_session};
     ghost use Rattle.session_core.specs.State.{IsSound};
 
-    ghost view = { shown };
+    ghost view = { shown_session };
 
-    ghost invariant = { λ s. IsSound (shown s) (vec_capacity s.entries)
+    ghost invariant = { λ s. IsSound (shown_session s) (vec_capacity s.entries)
         (vec_capacity s.ledger.asked) };
 }
 
@@ -52,7 +52,7 @@ impl Session {
     ghost use Rattle.std.specs.Prelude.{◌≡◌, ◌+◌, ◌<◌, ◌≤◌, ◌==◌, ℕ, List, true, false, length, take, drop, slice_get, Some, option_copied, IfSome, IfOk, IfErr, OnOk, OnErr, if◌then◌else◌};
     ghost use Rattle.fact_store.specs.Growth.{IsBetween, LiesBetween};
     ghost use Rattle.instance_queue.specs.Level as level;
-    ghost use Rattle.instance_queue.specs.Level.{instances_of};
+    ghost use Rattle.instance_queue.specs.Level.{due_instances};
     ghost use Rattle.instance_queue.specs.declared.due.Due.{Due as AnyDue};
     ghost use Rattle.task_model.specs.Fit.{IsFit};
     ghost use Rattle.task_model.specs.declared.task.Task.{Task as AnyTask};
@@ -61,7 +61,7 @@ impl Session {
     ghost use Rattle.session_core.specs.Events.{IsFresh};
     ghost use Rattle.session_core.specs.Heard.{heard_at, is_bad_at, number_at};
     ghost use Rattle.session_core.specs.Ready.{AreReady, IsNextRound};
-    ghost use Rattle.session_core.specs.Session.{IsFitHead, IsSession, IsOf, IsNew, IsLearnt, MayBeginRound, begun, after_learn, ComesOf};
+    ghost use Rattle.session_core.specs.Session.{IsFitHead, IsSession, IsOf, IsNew, IsLearnt, MayBeginRound, round_begun, after_learn, HasSessionCause};
     ghost use Rattle.session_core.specs.declared.fault.CoreFault.TheVariants.{Failed};
     ghost use Rattle.session_core.specs.Slots.{IsUnsent, IsAwaited, all_answered};
     ghost use Rattle.session_core.specs.State.{after_sent, after_line, after_failure, after_close, after_mark, with_learnt};
@@ -116,12 +116,12 @@ impl Session {
     pub fn begin_round(&mut self, task: &Task, dues: &[Due]) -> Result<usize, CoreFault>
         requires session { IsSession task.now self.old }
         requires round { self.old.failed ≡ false → MayBeginRound task.now self.old dues.now }
-        ensures begun { OnOk result (self.new ≡ begun task.now self.old dues.now) }
+        ensures begun { OnOk result (self.new ≡ round_begun task.now self.old dues.now) }
         ensures count { IfOk result (λ count. count ≡ length dues.now) }
         ensures fresh { OnOk result (IsFresh self.new.slots) }
         ensures working { OnOk result (self.old.failed ≡ false) }
         ensures err { OnErr result (self.new ≡ self.old) }
-        ensures fault { IfErr result (ComesOf self.old) }
+        ensures fault { IfErr result (HasSessionCause self.old) }
         ensures kept { IsSession task.now self.new }
     {
         if self.failed {
@@ -264,7 +264,7 @@ impl Session {
         ensures after { self.new ≡ after_close self.old }
         ensures kept { (task : AnyTask) → IsSession task self.old → IsSession task self.new }
         ensures rest { (task : AnyTask) (dues : List AnyDue) (count : ℕ) → IsSession task self.old
-            → self.old.instances ≡ instances_of (take count dues)
+            → self.old.instances ≡ due_instances (take count dues)
             → AreReady task self.old.entries dues
             → AreReady task self.new.entries (drop count dues) }
     {
@@ -295,7 +295,7 @@ impl Session {
         ensures notes { OnErr result (self.old.failed ≡ false → IsBetween self.old.notes
             self.new.notes (notes_of task.now self.old.entries)) }
         ensures failed { IfErr result (λ fault. fault ≡ Failed → self.new ≡ self.old) }
-        ensures fault { IfErr result (ComesOf self.old) }
+        ensures fault { IfErr result (HasSessionCause self.old) }
         ensures kept { IsSession task.now self.new }
     {
         if self.failed {
@@ -346,7 +346,7 @@ impl Session {
             (known_of task.now self.now.entries) (notes_of task.now self.now.entries) dues.items) }
         ensures ready { IfOk result (λ dues. AreReady task.now self.now.entries dues.items) }
         ensures fault { IfErr result
-            (level.ComesOf task.now (known_of task.now self.now.entries)
+            (level.HasLevelCause task.now (known_of task.now self.now.entries)
             (notes_of task.now self.now.entries)) }
     {
         self.ledger.queue.next_level(task, &self.ledger.facts)

@@ -3,7 +3,7 @@ use Rattle.std.proofs.Common.{◌≡◌, ◌≢◌, ℕ, ◌+◌, Bool, true, fa
 use Rattle.std.proofs.lemmas.Bool.{eqb-true, eqb-false, ne_eqb}
 use Rattle.sexpr_text.specs.declared.class.Class.{Class}
 use Rattle.sexpr_text.specs.declared.class.Class.TheVariants.{Blank, Semicolon, Left, Right, Letter, Bad}
-use Rattle.sexpr_text.specs.Tokens.{Token, tokens, class_of, folded, is_letter, begins_word, opens_comment, joined, letter_then, token_then}
+use Rattle.sexpr_text.specs.Tokens.{Token, tokens, class_of, folded, is_letter_class, begins_word, opens_comment, joined, letter_then, token_then}
 use Rattle.sexpr_text.specs.Lexing.{AreLetters, HasNoLineFeed, Lexes, no_bytes, blank, comment, last_comment, left, right, bad, word}
 
 -- bytes that begin in a comment
@@ -35,12 +35,12 @@ begun b place next e k (to_end h) = last_comment k h
 grown : {bs : List ℕ} {ts : List Token} (b place next : ℕ) → next ≡ place + 1 → class_of b ≡ Letter
     → begins_word bs ≡ true → Lexes next bs ts → Lexes place (b ∷ bs) (joined (folded b) place ts)
 grown b place next e k f no_bytes = cc
-grown b place next e k f (blank h l) = let g = ap is_letter h in cc
-grown b place next e k f (comment body bs h n l) = let g = ap is_letter h in cc
-grown b place next e k f (last_comment h n) = let g = ap is_letter h in cc
-grown b place next e k f (left h l) = let g = ap is_letter h in cc
-grown b place next e k f (right h l) = let g = ap is_letter h in cc
-grown b place next e k f (bad h l) = let g = ap is_letter h in cc
+grown b place next e k f (blank h l) = let g = ap is_letter_class h in cc
+grown b place next e k f (comment body bs h n l) = let g = ap is_letter_class h in cc
+grown b place next e k f (last_comment h n) = let g = ap is_letter_class h in cc
+grown b place next e k f (left h l) = let g = ap is_letter_class h in cc
+grown b place next e k f (right h l) = let g = ap is_letter_class h in cc
+grown b place next e k f (bad h l) = let g = ap is_letter_class h in cc
 grown b place next e k f (word {b = c} letters bs ls h l) =
     word (c ∷ letters) bs (k, ls) h (moved (place + length (b ∷ c ∷ letters)) (omega arith) l)
 
@@ -110,7 +110,7 @@ word_tokens b place [] bs ls f =
 word_tokens b place (c ∷ letters) bs ls f =
     let e : place + 1 + length (c ∷ letters) ≡ place + length (b ∷ c ∷ letters) = omega arith in
     class_tokens Letter b place (c ∷ (letters ++ bs)) ls.0
-    ∙ ap (λ k. letter_then b place (is_letter k) (tokens false (place + 1) (c ∷ (letters ++ bs)))) ls.1.0
+    ∙ ap (λ k. letter_then b place (is_letter_class k) (tokens false (place + 1) (c ∷ (letters ++ bs)))) ls.1.0
     ∙ ap (joined (folded b) place) (word_tokens c (place + 1) letters bs ls.1 f)
     ∙ ap (λ p. Token.word (map folded (b ∷ c ∷ letters)) place ∷ tokens false p bs) e
 

@@ -73,6 +73,6 @@ Fails (Extra place) read = read ≡ Err (Extra place)
 Fails (TooDeep place) read = read ≡ Err (TooDeep place)
 
 -- What was answered, seen so, is what the definition gives, unless memory ran out.
-abbrev pub Gives : {X Y : Type 0} → (X → Y) → Result X TextFault → Result Y TextFault → Type 0
-Gives view (Ok x) read = read ≡ Ok (view x)
-Gives view (Err e) read = Fails e read
+abbrev pub GivesRead : {X Y : Type 0} → (X → Y) → Result X TextFault → Result Y TextFault → Type 0
+GivesRead view (Ok x) read = read ≡ Ok (view x)
+GivesRead view (Err e) read = Fails e read

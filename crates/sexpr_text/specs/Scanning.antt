@@ -6,7 +6,7 @@ use Rattle.sexpr_text.specs.declared.class.Class.TheVariants.{Blank, Semicolon}
 use Rattle.sexpr_text.specs.declared.scanner.Lexeme.{Lexeme}
 use Rattle.sexpr_text.specs.declared.scanner.Lexeme.TheVariants as lexemes
 use Rattle.sexpr_text.specs.declared.scanner.Placed.{Placed}
-use Rattle.sexpr_text.specs.Tokens.{Token, class_of, is_letter, folded, tokens}
+use Rattle.sexpr_text.specs.Tokens.{Token, class_of, is_letter_class, folded, tokens}
 
 abbrev pub IsToken : Class → Type 0
 IsToken Blank = ⊥
@@ -34,7 +34,7 @@ TakesToken old (Some p) new = old ≡ token p ∷ new
 
 -- the letters at the front of these bytes, in lower case
 abbrev pub folded_word : List ℕ → List ℕ
-folded_word bs = map folded (take_while (λ b. is_letter (class_of b)) bs)
+folded_word bs = map folded (take_while (λ b. is_letter_class (class_of b)) bs)
 
 -- The first token of these bytes takes this many of them, whatever the place that they begin at.
 pub record BeginsWith (lexeme : Lexeme) (taken : ℕ) (bs : List ℕ) : Type 0 where

@@ -27,9 +27,9 @@ class_of b =
 unfoldable pub folded : ℕ → ℕ
 folded b = if nat_le 65 b && nat_le b 90 then b + 32 else b
 
-abbrev pub is_letter : Class → Bool
-is_letter Letter = true
-is_letter _ = false
+abbrev pub is_letter_class : Class → Bool
+is_letter_class Letter = true
+is_letter_class _ = false
 
 abbrev pub opens_comment : Class → Bool
 opens_comment Semicolon = true
@@ -37,7 +37,7 @@ opens_comment _ = false
 
 abbrev pub begins_word : List ℕ → Bool
 begins_word [] = false
-begins_word (b ∷ bs) = is_letter (class_of b)
+begins_word (b ∷ bs) = is_letter_class (class_of b)
 
 -- the word with one more letter at its front
 abbrev pub joined : ℕ → ℕ → List Token → List Token

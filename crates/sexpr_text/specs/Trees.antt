@@ -48,7 +48,7 @@ size (word text place rest) = length text + size rest
 size (list items place rest) = size items + 2 + size rest
 
 -- the place of the first tree
-abbrev pub place_of : Trees → ℕ
-place_of nothing = 0
-place_of (word text place rest) = place
-place_of (list items place rest) = place
+abbrev pub place_of_first : Trees → ℕ
+place_of_first nothing = 0
+place_of_first (word text place rest) = place
+place_of_first (list items place rest) = place

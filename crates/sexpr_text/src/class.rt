@@ -37,7 +37,7 @@ pub fn class_of(byte: u8) -> Class
 /// Whether this byte belongs to a word, outside comments.
 #[tactic(auto, unfolding(crate::specs::Tokens::class_of))]
 pub fn is_letter(byte: u8) -> bool
-    ensures { result ≡ specs.is_letter (specs.class_of byte) }
+    ensures { result ≡ specs.is_letter_class (specs.class_of byte) }
 {
     b'!' <= byte && byte <= b'~' && byte != b'(' && byte != b')' && byte != b';'
 }

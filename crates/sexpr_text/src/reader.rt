@@ -3,7 +3,7 @@ ghost use Rattle.std.specs.Prelude.{◌≡◌, ◌≤◌, length, IfOk, IfErr, O
 ghost use Rattle.sexpr_text.specs.Trees.{Trees, tree, size};
 ghost use Rattle.sexpr_text.specs.Spelling.{Spells};
 ghost use Rattle.sexpr_text.specs.Faults.{BlamesPlace, HasNoFault};
-ghost use Rattle.sexpr_text.specs.Reading.{Gives, outside_fault, reading};
+ghost use Rattle.sexpr_text.specs.Reading.{GivesRead, outside_fault, reading};
 ghost use Rattle.sexpr_text.specs.Scanning.{token_of};
 ghost use Rattle.sexpr_text.specs.Nesting.{NestEnds};
 
@@ -40,13 +40,13 @@ pub fn read_tree(alloc: Global, bytes: &[u8]) -> Result<Tree, TextFault>
     // What is read is spelled so.
     ensures found { IfOk result (λ t. Spells bytes.now (tree t)) }
     // What is spelled so is read, unless memory runs out.
-    ensures only { (t : Trees) → Spells bytes.now t → Gives tree result (Ok t) }
+    ensures only { (t : Trees) → Spells bytes.now t → GivesRead tree result (Ok t) }
     // A text that is read has no fault, and a fault that is told is the first one of the text.
     ensures clean { IfOk result (λ t. HasNoFault bytes.now) }
     ensures first { IfErr result (BlamesPlace bytes.now) }
 
     // Tree and fault as one function of the bytes, for the layers above.
-    ensures exact { Gives tree result (reading bytes.now) }
+    ensures exact { GivesRead tree result (reading bytes.now) }
     // The tree is no larger than its text.
     ensures small { IfOk result (λ t. size (tree t) ≤ length bytes.now) }
 {
@@ -56,7 +56,7 @@ pub fn read_tree(alloc: Global, bytes: &[u8]) -> Result<Tree, TextFault>
 /// The tree or the first fault.
 #[tactic(auto, unfolding(crate::specs::Reading::reading))]
 fn read(alloc: Global, bytes: &[u8]) -> Result<Tree, TextFault>
-    ensures { Gives tree result (reading bytes.now) }
+    ensures { GivesRead tree result (reading bytes.now) }
 {
     let end = bytes.len();
     let mut scanner = Scanner::new(bytes);

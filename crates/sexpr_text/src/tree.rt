@@ -1,6 +1,6 @@
 //! Words and lists.
 ghost use Rattle.std.specs.Prelude.{◌≡◌};
-ghost use Rattle.sexpr_text.specs.Trees.{tree, place_of};
+ghost use Rattle.sexpr_text.specs.Trees.{tree, place_of_first};
 
 use crate::text::Text;
 
@@ -16,7 +16,7 @@ pub enum Tree {
 impl Tree {
     /// Where the tree begins, in bytes from the text's beginning.
     pub fn place(&self) -> usize
-        ensures { result ≡ place_of (tree self.now) }
+        ensures { result ≡ place_of_first (tree self.now) }
     {
         match self {
             Tree::Word { place, .. } => *place,

@@ -8,7 +8,7 @@ use Rattle.std.specs.FinMap as finite
 use Rattle.std.specs.List.{flat_map, list_any}
 use Rattle.std.specs.Ordering.{eq_by_cmp}
 use Rattle.lemmas.proofs.Bools.{or_assoc, or_false}
-use Rattle.spread_state.specs.Cells.{IsSpread, atoms_of, cell_at, cell_of}
+use Rattle.spread_state.specs.Cells.{IsSpread, cell_atoms, cell_in, cell_of}
 use Rattle.spread_state.specs.declared.cells.TheConstants.{CELLS}
 use Rattle.task_model.proofs.StateLemmas.{contains-empty, contains-from_list, contains-insert, contains-remove, contains-with_atoms, same_atoms}
 use Rattle.task_model.proofs.StateOrderLemmas.{same_is, ties}
@@ -48,7 +48,7 @@ among (c ∷ cells) q =
     ∙ (λ i. sym (finite.contains_key-keys c q) i || among cells q i)
 
 -- where no cell has it, none does
-none_has : (cells : List Atoms) (q : Atom) → ((k : ℕ) → contains (cell_at cells k) q ≡ true → ⊥)
+none_has : (cells : List Atoms) (q : Atom) → ((k : ℕ) → contains (cell_in cells k) q ≡ true → ⊥)
     → list_any (λ (c : Atoms). contains c q) cells ≡ false
 none_has [] q none = refl
 none_has (c ∷ cells) q none = by (contains c q) refl (none_has cells q (λ k. none (suc k)))
@@ -60,8 +60,8 @@ none_has (c ∷ cells) q none = by (contains c q) refl (none_has cells q (λ k. 
 
 -- where only this one may have it, that one decides
 one_has : (cells : List Atoms) (q : Atom) (m : ℕ) → m < length cells
-    → ((k : ℕ) → contains (cell_at cells k) q ≡ true → m ≡ k)
-    → list_any (λ (c : Atoms). contains c q) cells ≡ contains (cell_at cells m) q
+    → ((k : ℕ) → contains (cell_in cells k) q ≡ true → m ≡ k)
+    → list_any (λ (c : Atoms). contains c q) cells ≡ contains (cell_in cells m) q
 one_has [] q m lt own = absurd (omega (arith, lt))
 one_has (c ∷ cells) q zero lt own =
     ap (λ b. contains c q || b) (none_has cells q (λ k has. let e = own (suc k) has in omega (arith, e))) ∙ or_false (contains c q)
@@ -69,14 +69,14 @@ one_has (c ∷ cells) q (suc m) lt own =
     by (contains c q) refl
     (one_has cells q m (omega (arith, lt)) (λ k has. let e : suc m ≡ suc k = own (suc k) has in omega (arith, e)))
   where
-    by : (b : Bool) → contains c q ≡ b → list_any (λ (d : Atoms). contains d q) cells ≡ contains (cell_at cells m) q
-        → (b || list_any (λ (d : Atoms). contains d q) cells) ≡ contains (cell_at cells m) q
+    by : (b : Bool) → contains c q ≡ b → list_any (λ (d : Atoms). contains d q) cells ≡ contains (cell_in cells m) q
+        → (b || list_any (λ (d : Atoms). contains d q) cells) ≡ contains (cell_in cells m) q
     by true is rest = absurd (let e = own zero is in omega (arith, e))
     by false is rest = rest
 
 -- an atom is there where its cell has it
 pub contains_in : (cells : List Atoms) → IsSpread cells → (q : Atom)
-    → contains (atoms_of cells) q ≡ contains (cell_at cells (cell_of q)) q
+    → contains (cell_atoms cells) q ≡ contains (cell_in cells (cell_of q)) q
 contains_in cells spread q =
     let lt = cell_within q in
     contains-from_list (flat_map items cells) q ∙ among cells q
@@ -92,8 +92,8 @@ decided j k = by (j == k) refl
     by false e = inr (λ is. false≢true (sym e ∙ eq-eqb j k is))
 
 module _ (cells : List Atoms) (spread : IsSpread cells) (k : ℕ) (lt : k < CELLS) (changed target : Atoms)
-    (test : Atom → Bool → Bool) (here : (q : Atom) → contains changed q ≡ test q (contains (cell_at cells k) q))
-    (there : (q : Atom) → contains target q ≡ test q (contains (atoms_of cells) q))
+    (test : Atom → Bool → Bool) (here : (q : Atom) → contains changed q ≡ test q (contains (cell_in cells k) q))
+    (there : (q : Atom) → contains target q ≡ test q (contains (cell_atoms cells) q))
     (others : (q : Atom) (b : Bool) → cell_of q ≢ k → test q b ≡ b)
     (owned : (q : Atom) → contains changed q ≡ true → cell_of q ≡ k) where
   abbrev after : List Atoms
@@ -102,32 +102,32 @@ module _ (cells : List Atoms) (spread : IsSpread cells) (k : ℕ) (lt : k < CELL
   inside : k < length cells
   inside = let many = spread.many in omega (arith, many, lt)
 
-  own_after : (j : ℕ) (q : Atom) → contains (cell_at after j) q ≡ true → cell_of q ≡ j
+  own_after : (j : ℕ) (q : Atom) → contains (cell_in after j) q ≡ true → cell_of q ≡ j
   own_after j q has = by (decided j k)
     where
       by : (j ≡ k) ⊎ (j ≢ k) → cell_of q ≡ j
       by (inl e) =
-          owned q (ap (λ c. contains c q) (sym (ap (cell_at after) e ∙ get_or-set_same cells k changed empty inside)) ∙ has) ∙ sym e
+          owned q (ap (λ c. contains c q) (sym (ap (cell_in after) e ∙ get_or-set_same cells k changed empty inside)) ∙ has) ∙ sym e
       by (inr n) = spread.own j q (ap (λ c. contains c q) (sym (get_or-set_other cells k j changed empty n)) ∙ has)
 
   pub spread_after : IsSpread after
   spread_after = record { many = length-set cells k changed ∙ spread.many; own = own_after }
 
-  pub changed_is : atoms_of after ≡ target
-  changed_is = same_atoms (atoms_of after) target (λ q. by q (decided (cell_of q) k))
+  pub changed_is : cell_atoms after ≡ target
+  changed_is = same_atoms (cell_atoms after) target (λ q. by q (decided (cell_of q) k))
     where
-      by : (q : Atom) → (cell_of q ≡ k) ⊎ (cell_of q ≢ k) → contains (atoms_of after) q ≡ contains target q
+      by : (q : Atom) → (cell_of q ≡ k) ⊎ (cell_of q ≢ k) → contains (cell_atoms after) q ≡ contains target q
       by q (inl e) =
           contains_in after spread_after q
-          ∙ ap (λ c. contains c q) (ap (cell_at after) e ∙ get_or-set_same cells k changed empty inside)
+          ∙ ap (λ c. contains c q) (ap (cell_in after) e ∙ get_or-set_same cells k changed empty inside)
           ∙ here q
-          ∙ ap (test q) (ap (λ m. contains (cell_at cells m) q) (sym e) ∙ sym (contains_in cells spread q))
+          ∙ ap (test q) (ap (λ m. contains (cell_in cells m) q) (sym e) ∙ sym (contains_in cells spread q))
           ∙ sym (there q)
       by q (inr n) =
           contains_in after spread_after q
           ∙ ap (λ c. contains c q) (get_or-set_other cells k (cell_of q) changed empty n)
           ∙ sym (contains_in cells spread q)
-          ∙ sym (others q (contains (atoms_of cells) q) n)
+          ∙ sym (others q (contains (cell_atoms cells) q) n)
           ∙ sym (there q)
 
 -- ---- an atom more, and one less
@@ -156,34 +156,34 @@ module _ (cells : List Atoms) (spread : IsSpread cells) (a : Atom) where
   remove_others : (q : Atom) (b : Bool) → cell_of q ≢ k → without_atom q b ≡ b
   remove_others q b other = ap (λ c. not c && b) (apart q other)
 
-  add_owned : (q : Atom) → contains (insert (cell_at cells k) a) q ≡ true → cell_of q ≡ k
+  add_owned : (q : Atom) → contains (insert (cell_in cells k) a) q ≡ true → cell_of q ≡ k
   add_owned q has = by (same q a) refl
     where
       by : (b : Bool) → same q a ≡ b → cell_of q ≡ k
       by true e = ap cell_of (same_atom_is q a e)
       by false e =
-          spread.own k q (ap (λ b. b || contains (cell_at cells k) q) (sym e) ∙ sym (contains-insert (cell_at cells k) a q) ∙ has)
+          spread.own k q (ap (λ b. b || contains (cell_in cells k) q) (sym e) ∙ sym (contains-insert (cell_in cells k) a q) ∙ has)
 
-  remove_owned : (q : Atom) → contains (remove (cell_at cells k) a) q ≡ true → cell_of q ≡ k
+  remove_owned : (q : Atom) → contains (remove (cell_in cells k) a) q ≡ true → cell_of q ≡ k
   remove_owned q has =
-      spread.own k q (second_so (not (same q a)) (contains (cell_at cells k) q) (sym (contains-remove (cell_at cells k) a q) ∙ has))
+      spread.own k q (second_so (not (same q a)) (contains (cell_in cells k) q) (sym (contains-remove (cell_in cells k) a q) ∙ has))
 
-  pub added : IsSpread (slice_set cells k (insert (cell_at cells k) a))
-      × (atoms_of (slice_set cells k (insert (cell_at cells k) a)) ≡ insert (atoms_of cells) a)
+  pub added : IsSpread (slice_set cells k (insert (cell_in cells k) a))
+      × (cell_atoms (slice_set cells k (insert (cell_in cells k) a)) ≡ insert (cell_atoms cells) a)
   added = (
-    spread_after cells spread k (cell_within a) (insert (cell_at cells k) a) (insert (atoms_of cells) a) with_atom
-        (contains-insert (cell_at cells k) a) (contains-insert (atoms_of cells) a) add_others add_owned,
-    changed_is cells spread k (cell_within a) (insert (cell_at cells k) a) (insert (atoms_of cells) a) with_atom
-        (contains-insert (cell_at cells k) a) (contains-insert (atoms_of cells) a) add_others add_owned,
+    spread_after cells spread k (cell_within a) (insert (cell_in cells k) a) (insert (cell_atoms cells) a) with_atom
+        (contains-insert (cell_in cells k) a) (contains-insert (cell_atoms cells) a) add_others add_owned,
+    changed_is cells spread k (cell_within a) (insert (cell_in cells k) a) (insert (cell_atoms cells) a) with_atom
+        (contains-insert (cell_in cells k) a) (contains-insert (cell_atoms cells) a) add_others add_owned,
   )
 
-  pub removed : IsSpread (slice_set cells k (remove (cell_at cells k) a))
-      × (atoms_of (slice_set cells k (remove (cell_at cells k) a)) ≡ remove (atoms_of cells) a)
+  pub removed : IsSpread (slice_set cells k (remove (cell_in cells k) a))
+      × (cell_atoms (slice_set cells k (remove (cell_in cells k) a)) ≡ remove (cell_atoms cells) a)
   removed = (
-    spread_after cells spread k (cell_within a) (remove (cell_at cells k) a) (remove (atoms_of cells) a) without_atom
-        (contains-remove (cell_at cells k) a) (contains-remove (atoms_of cells) a) remove_others remove_owned,
-    changed_is cells spread k (cell_within a) (remove (cell_at cells k) a) (remove (atoms_of cells) a) without_atom
-        (contains-remove (cell_at cells k) a) (contains-remove (atoms_of cells) a) remove_others remove_owned,
+    spread_after cells spread k (cell_within a) (remove (cell_in cells k) a) (remove (cell_atoms cells) a) without_atom
+        (contains-remove (cell_in cells k) a) (contains-remove (cell_atoms cells) a) remove_others remove_owned,
+    changed_is cells spread k (cell_within a) (remove (cell_in cells k) a) (remove (cell_atoms cells) a) without_atom
+        (contains-remove (cell_in cells k) a) (contains-remove (cell_atoms cells) a) remove_others remove_owned,
   )
 
 -- what stands in a list stands there whatever is said of places behind it
@@ -194,29 +194,29 @@ get_or_any (c ∷ cells) (suc k) d e lt = get_or_any cells k d e (omega (arith, 
 
 module _ (cells : List Atoms) (spread : IsSpread cells) (a : Atom) (k : ℕ) (is : k ≡ cell_of a) (old : Atoms)
     (was : old ≡ get_or cells k old) (new : Atoms) where
-  old_is : old ≡ cell_at cells (cell_of a)
+  old_is : old ≡ cell_in cells (cell_of a)
   old_is =
       let many = spread.many in
       let lt = cell_within a in
-      was ∙ get_or_any cells k old empty (omega (arith, many, lt, is)) ∙ ap (cell_at cells) is
+      was ∙ get_or_any cells k old empty (omega (arith, many, lt, is)) ∙ ap (cell_in cells) is
 
   pub added_at : new ≡ insert old a
-      → IsSpread (slice_set cells k new) × (atoms_of (slice_set cells k new) ≡ insert (atoms_of cells) a)
+      → IsSpread (slice_set cells k new) × (cell_atoms (slice_set cells k new) ≡ insert (cell_atoms cells) a)
   added_at so =
-      let there : new ≡ insert (cell_at cells (cell_of a)) a = so ∙ ap (λ s. insert s a) old_is in
-      subst (λ c. IsSpread c × (atoms_of c ≡ insert (atoms_of cells) a))
+      let there : new ≡ insert (cell_in cells (cell_of a)) a = so ∙ ap (λ s. insert s a) old_is in
+      subst (λ c. IsSpread c × (cell_atoms c ≡ insert (cell_atoms cells) a))
       (λ i. slice_set cells (sym is i) (sym there i)) (added cells spread a)
 
   pub removed_at : new ≡ remove old a
-      → IsSpread (slice_set cells k new) × (atoms_of (slice_set cells k new) ≡ remove (atoms_of cells) a)
+      → IsSpread (slice_set cells k new) × (cell_atoms (slice_set cells k new) ≡ remove (cell_atoms cells) a)
   removed_at so =
-      let there : new ≡ remove (cell_at cells (cell_of a)) a = so ∙ ap (λ s. remove s a) old_is in
-      subst (λ c. IsSpread c × (atoms_of c ≡ remove (atoms_of cells) a))
+      let there : new ≡ remove (cell_in cells (cell_of a)) a = so ∙ ap (λ s. remove s a) old_is in
+      subst (λ c. IsSpread c × (cell_atoms c ≡ remove (cell_atoms cells) a))
       (λ i. slice_set cells (sym is i) (sym there i)) (removed cells spread a)
 
 -- ---- no atoms
 
-no_cell : (n k : ℕ) → cell_at (replicate n empty) k ≡ empty
+no_cell : (n k : ℕ) → cell_in (replicate n empty) k ≡ empty
 no_cell zero k = refl
 no_cell (suc n) zero = refl
 no_cell (suc n) (suc k) = no_cell n k
@@ -228,8 +228,8 @@ empty_spread = record {
       absurd (false≢true (sym (contains-empty q) ∙ ap (λ c. contains c q) (sym (no_cell CELLS k)) ∙ has));
 }
 
-pub empty_is : atoms_of (replicate CELLS empty) ≡ empty
-empty_is = same_atoms (atoms_of (replicate CELLS empty)) empty (λ q.
+pub empty_is : cell_atoms (replicate CELLS empty) ≡ empty
+empty_is = same_atoms (cell_atoms (replicate CELLS empty)) empty (λ q.
     contains_in (replicate CELLS empty) empty_spread q ∙ ap (λ c. contains c q) (no_cell CELLS (cell_of q)))
 
 -- ---- all atoms of a state

@@ -10,14 +10,14 @@ abbrev pub cell_of : Atom → ℕ
 cell_of atom = fold (λ cell object. (cell * 1021 + object) % CELLS) (atom.pred % CELLS) atom.args
 
 -- what a cell holds
-abbrev pub cell_at : List Atoms → ℕ → Atoms
-cell_at cells k = get_or cells k empty
+abbrev pub cell_in : List Atoms → ℕ → Atoms
+cell_in cells k = get_or cells k empty
 
 -- all atoms of the cells
-abbrev pub atoms_of : List Atoms → Atoms
-atoms_of cells = from_list (flat_map items cells)
+abbrev pub cell_atoms : List Atoms → Atoms
+cell_atoms cells = from_list (flat_map items cells)
 
 -- Each atom stands in its cell.
 pub record IsSpread (cells : List Atoms) : Type 0 where
   pub many : length cells ≡ CELLS
-  pub own : (k : ℕ) (atom : Atom) → contains (cell_at cells k) atom ≡ true → cell_of atom ≡ k
+  pub own : (k : ℕ) (atom : Atom) → contains (cell_in cells k) atom ≡ true → cell_of atom ≡ k

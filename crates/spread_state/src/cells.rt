@@ -42,13 +42,13 @@ pub struct SpreadState {
 
 impl Model for SpreadState {
     ghost use Rattle.task_model.specs.State.{Atoms, atoms_code};
-    ghost use Rattle.spread_state.specs.Cells.{IsSpread, atoms_of};
+    ghost use Rattle.spread_state.specs.Cells.{IsSpread, cell_atoms};
 
     ghost Value = { Atoms };
 
     ghost coded = { atoms_code };
 
-    ghost view = { λ s. atoms_of s.cells.items };
+    ghost view = { λ s. cell_atoms s.cells.items };
 
     ghost invariant = { λ s. IsSpread s.cells.items };
 }

@@ -15,7 +15,7 @@ use Rattle.task_model.proofs.StateOrderLemmas.{Parts, searchable, any_found, any
 use Rattle.task_model.specs.AtomOrder.{atom_cmp}
 use Rattle.task_model.specs.State.{contains, insert, remove, from_list}
 use Rattle.task_model.specs.declared.fact.Atom.{Atom}
-use Rattle.state_store.specs.Rows.{no_atom, atoms_of, state_of, IsRow, Grows}
+use Rattle.state_store.specs.Rows.{no_atom, row_atoms, state_of, IsRow, AddsAtoms}
 use Rattle.state_store.proofs.RowsLemmas.{atoms_of-grown, known_grown}
 
 -- ---- a state's atoms ascend
@@ -45,15 +45,15 @@ keys_sorted (e ∷ es) t =
     (keys_above e.0 es both.0, keys_sorted es both.1)
 
 pub row_sorted : (atoms : List Atom) (row : List ℕ) → IsRow atoms row
-    → IsStrictlySortedBy atom_cmp (atoms_of atoms row)
+    → IsStrictlySortedBy atom_cmp (row_atoms atoms row)
 row_sorted atoms row is =
     subst (IsStrictlySortedBy atom_cmp) (sym is.in_order)
     (keys_sorted (finite.entries (state_of atoms row)) (finite.entries_sorted (state_of atoms row)))
 
 row_from : (atoms : List Atom) (row : List ℕ) → All (λ n. n < length atoms) row
-    → IsStrictlySortedBy atom_cmp (atoms_of atoms row) → IsRow atoms row
+    → IsStrictlySortedBy atom_cmp (row_atoms atoms row) → IsRow atoms row
 row_from atoms row known sorted =
-    record { known = known; in_order = sym (items-from_list (atoms_of atoms row) sorted) }
+    record { known = known; in_order = sym (items-from_list (row_atoms atoms row) sorted) }
 
 -- ---- where a search ends
 
@@ -97,7 +97,7 @@ module _ (k : Atom) (ks : List Atom) (sorted : IsStrictlySortedBy atom_cmp ks) (
 
 -- the atom of a row's number
 pub atom_at : (atoms : List Atom) (row : List ℕ) (m : ℕ) (a : Atom) → All (λ n. n < length atoms) row → m < length row
-    → a ≡ get_or atoms (get_or row m 0) a → slice_get (atoms_of atoms row) m ≡ Some a
+    → a ≡ get_or atoms (get_or row m 0) a → slice_get (row_atoms atoms row) m ≡ Some a
 atom_at atoms row m a known within is =
     let n = get_or row m 0 in
     slice_get-map (λ n. get_or atoms n no_atom) row m
@@ -106,16 +106,16 @@ atom_at atoms row m a known within is =
 
 -- what a search in a row found, where the row and the atoms were read through slices
 module _ (atoms listed : List Atom) (row read : List ℕ) (k : Atom) (i : ℕ) (e : listed ≡ atoms) (f : read ≡ row) where
-  pub place_at : HoldsAt (λ y. atom_cmp y k ≡ Equal) (atoms_of listed read) i
-      → HoldsAt (λ y. atom_cmp y k ≡ Equal) (atoms_of atoms row) i
-  place_at h = subst (λ ks. HoldsAt (λ y. atom_cmp y k ≡ Equal) ks i) (λ j. atoms_of (e j) (f j)) h
+  pub place_at : HoldsAt (λ y. atom_cmp y k ≡ Equal) (row_atoms listed read) i
+      → HoldsAt (λ y. atom_cmp y k ≡ Equal) (row_atoms atoms row) i
+  place_at h = subst (λ ks. HoldsAt (λ y. atom_cmp y k ≡ Equal) ks i) (λ j. row_atoms (e j) (f j)) h
 
   pub parts_at : IsRow atoms row
-      → (IsNonDecreasingBy (λ y. ordering_index (atom_cmp y k)) (atoms_of listed read) → Parts k (atoms_of listed read) i)
-      → Parts k (atoms_of atoms row) i
+      → (IsNonDecreasingBy (λ y. ordering_index (atom_cmp y k)) (row_atoms listed read) → Parts k (row_atoms listed read) i)
+      → Parts k (row_atoms atoms row) i
   parts_at is h =
-      subst (λ ks. IsNonDecreasingBy (λ y. ordering_index (atom_cmp y k)) ks → Parts k ks i) (λ j. atoms_of (e j) (f j)) h
-      (searchable (atoms_of atoms row) k (row_sorted atoms row is))
+      subst (λ ks. IsNonDecreasingBy (λ y. ordering_index (atom_cmp y k)) ks → Parts k ks i) (λ j. row_atoms (e j) (f j)) h
+      (searchable (row_atoms atoms row) k (row_sorted atoms row is))
 
 all_without : (P : ℕ → Type 0) (row : List ℕ) (i : ℕ) → All P row → All P (remove_at row i)
 all_without P row i all =
@@ -134,7 +134,7 @@ all_with P row i n all here =
 
 module _ (atoms : List Atom) (row : List ℕ) (is : IsRow atoms row) (k : Atom) (i : ℕ) where
   abbrev pub ks : List Atom
-  ks = atoms_of atoms row
+  ks = row_atoms atoms row
 
   long : length ks ≡ length row
   long = length-map row (λ n. get_or atoms n no_atom)
@@ -142,7 +142,7 @@ module _ (atoms : List Atom) (row : List ℕ) (is : IsRow atoms row) (k : Atom) 
   pub take_found : i < length row → HoldsAt (λ y. atom_cmp y k ≡ Equal) ks i
       → IsRow atoms (remove_at row i) × (state_of atoms (remove_at row i) ≡ remove (state_of atoms row) k)
   take_found within at =
-      let moved : atoms_of atoms (remove_at row i) ≡ remove_at ks i = map-remove (λ n. get_or atoms n no_atom) row i in
+      let moved : row_atoms atoms (remove_at row i) ≡ remove_at ks i = map-remove (λ n. get_or atoms n no_atom) row i in
       let inside : i < length ks = omega (arith, long, within) in (
         row_from atoms (remove_at row i) (all_without (λ n. n < length atoms) row i is.known)
             (subst (IsStrictlySortedBy atom_cmp) (sym moved) (sorted_without ks i (row_sorted atoms row is))),
@@ -164,11 +164,11 @@ module _ (atoms : List Atom) (row : List ℕ) (is : IsRow atoms row) (k : Atom) 
       contains-from_list ks k ∙ any_found ks k i (omega (arith, long, within)) at in
       sym (insert-there (state_of atoms row) k there)
 
-  pub put_missing : (new : List Atom) (n : ℕ) → Grows atoms new → slice_get new n ≡ Some k → i ≤ length row → Parts k ks i
+  pub put_missing : (new : List Atom) (n : ℕ) → AddsAtoms atoms new → slice_get new n ≡ Some k → i ≤ length row → Parts k ks i
       → IsRow new (insert_at row i n) × (state_of new (insert_at row i n) ≡ insert (state_of atoms row) k)
   put_missing new n grows at within parts =
-      let same : atoms_of new row ≡ ks = ap (λ xs. atoms_of xs row) grows.1 ∙ atoms_of-grown atoms grows.0 row is.known in
-      let moved : atoms_of new (insert_at row i n) ≡ insert_at ks i k =
+      let same : row_atoms new row ≡ ks = ap (λ xs. row_atoms xs row) grows.1 ∙ atoms_of-grown atoms grows.0 row is.known in
+      let moved : row_atoms new (insert_at row i n) ≡ insert_at ks i k =
       map-insert (λ n. get_or new n no_atom) row i n
       ∙ (λ j. insert_at (same j) i (get_or_from_slice_get new n k no_atom at j)) in
       let known : All (λ n. n < length new) row =

@@ -7,7 +7,7 @@ use Rattle.lemmas.specs.Lists.{AreDistinct}
 use Rattle.task_model.specs.State.{Atoms, empty, without_atoms, with_atoms}
 use Rattle.task_model.specs.declared.fact.Atom.{Atom}
 use Rattle.state_store.specs.Changed.{state_after}
-use Rattle.state_store.specs.Rows.{state_of, states_of, IsRow, AreRows, Grows}
+use Rattle.state_store.specs.Rows.{state_of, states_of, IsRow, AreRows, AddsAtoms}
 use Rattle.state_store.proofs.RowsLemmas.{rows_grown, states_of-grown, rows_with, states_with, new_only, keys_with, found_in, state_at, row_at}
 
 -- the row of a state was put into a set of rows, after atoms were put behind the others
@@ -15,7 +15,7 @@ pub record IsPutIn {V : Type 0} (row_in : V → List ℕ) (before atoms : List A
     (place : ℕ) (fresh : Bool) (states : List Atoms) (state : Atoms) : Type 0 where
   pub view : states_of before (map row_in old) ≡ states
   pub are : AreRows before (map row_in old)
-  pub grows : Grows before atoms
+  pub grows : AddsAtoms before atoms
   pub distinct : AreDistinct atoms
   pub is : IsRow atoms (row_in key)
   pub of : state_of atoms (row_in key) ≡ state
@@ -25,7 +25,7 @@ pub record IsPutIn {V : Type 0} (row_in : V → List ℕ) (before atoms : List A
   pub stored : (k : V) × (slice_get new place ≡ Some k) × (pointwise nat_eq (row_in key) (row_in k) ≡ true)
 
 module _ {V : Type 0} (row_in : V → List ℕ) (before atoms : List Atom) (rows : List V) (states : List Atoms)
-    (view : states_of before (map row_in rows) ≡ states) (are : AreRows before (map row_in rows)) (grows : Grows before atoms)
+    (view : states_of before (map row_in rows) ≡ states) (are : AreRows before (map row_in rows)) (grows : AddsAtoms before atoms)
     (distinct : AreDistinct atoms) where
   pub grown_rows : AreRows atoms (map row_in rows)
   grown_rows = rows_grown before atoms (map row_in rows) grows distinct are

@@ -18,7 +18,7 @@ use Rattle.lemmas.specs.Lists.{AreDistinct}
 use Rattle.task_model.specs.State.{Atoms, from_list, items}
 use Rattle.task_model.specs.declared.fact.Atom.{Atom}
 use Rattle.state_store.specs.Kept.{AreKept}
-use Rattle.state_store.specs.Rows.{no_atom, atoms_of, state_of, states_of, IsRow, AreRows, Grows}
+use Rattle.state_store.specs.Rows.{no_atom, row_atoms, state_of, states_of, IsRow, AreRows, AddsAtoms}
 use Rattle.lemmas.proofs.MappedTests.{any_mapped}
 
 -- a state is the set of the atoms that it lists
@@ -29,7 +29,7 @@ from_list-items s = same_atoms (from_list (items s)) s (λ q. contains-from_list
 
 module _ (atoms more : List Atom) where
   pub atoms_of-grown : (row : List ℕ) → All (λ n. n < length atoms) row
-      → atoms_of (atoms ++ more) row ≡ atoms_of atoms row
+      → row_atoms (atoms ++ more) row ≡ row_atoms atoms row
   atoms_of-grown [] known = refl
   atoms_of-grown (n ∷ row) known =
       let here : get_or (atoms ++ more) n no_atom ≡ get_or atoms n no_atom =
@@ -57,12 +57,12 @@ module _ (atoms more : List Atom) where
       let here : state_of (atoms ++ more) row ≡ state_of atoms row = ap from_list (atoms_of-grown row (each 0 row refl).known) in
       λ i. here i ∷ states_of-more rows (λ k. each (suc k)) i
 
-pub states_of-grown : (old new : List Atom) (rows : List (List ℕ)) → Grows old new
+pub states_of-grown : (old new : List Atom) (rows : List (List ℕ)) → AddsAtoms old new
     → AreRows old rows → states_of new rows ≡ states_of old rows
 states_of-grown old new rows grows are =
     ap (λ atoms. states_of atoms rows) grows.1 ∙ states_of-more old grows.0 rows are.each
 
-pub rows_grown : (old new : List Atom) (rows : List (List ℕ)) → Grows old new → AreDistinct new
+pub rows_grown : (old new : List Atom) (rows : List (List ℕ)) → AddsAtoms old new → AreDistinct new
     → AreRows old rows → AreRows new rows
 rows_grown old new rows grows distinct are = record {
   numbered = distinct;
@@ -70,14 +70,14 @@ rows_grown old new rows grows distinct are = record {
   kept = subst AreKept (sym (states_of-grown old new rows grows are)) are.kept;
 }
 
-pub grows_same : (atoms : List Atom) → Grows atoms atoms
+pub grows_same : (atoms : List Atom) → AddsAtoms atoms atoms
 grows_same atoms = ([], sym (append_nil atoms))
   where
     append_nil : (xs : List Atom) → xs ++ [] ≡ xs
     append_nil [] = refl
     append_nil (x ∷ xs) = ap (λ ys. x ∷ ys) (append_nil xs)
 
-pub grows_on : (a b c : List Atom) → Grows a b → Grows b c → Grows a c
+pub grows_on : (a b c : List Atom) → AddsAtoms a b → AddsAtoms b c → AddsAtoms a c
 grows_on a b c first second = (first.0 ++ second.0, second.1 ∙ ap (λ xs. xs ++ second.0) first.1 ∙ append_assoc a first.0 second.0)
   where
     append_assoc : (xs ys zs : List Atom) → (xs ++ ys) ++ zs ≡ xs ++ (ys ++ zs)
@@ -114,7 +114,7 @@ distinct_of (k ∷ ks) is (suc i) (suc j) x e f =
 
 same_numbers : (atoms : List Atom) → AreDistinct atoms → (xs ys : List ℕ)
     → All (λ n. n < length atoms) xs → All (λ n. n < length atoms) ys
-    → atoms_of atoms xs ≡ atoms_of atoms ys → xs ≡ ys
+    → row_atoms atoms xs ≡ row_atoms atoms ys → xs ≡ ys
 same_numbers atoms distinct [] [] kx ky e = refl
 same_numbers atoms distinct [] (y ∷ ys) kx ky e = absurd (omega (arith, ap length e))
 same_numbers atoms distinct (x ∷ xs) [] kx ky e = absurd (omega (arith, ap length e))
@@ -137,7 +137,7 @@ equal_rows xs ys e = (numbers_decided xs ys).0 e
 
 -- the row of a state's atoms
 pub row_of : (atoms : List Atom) (row : List ℕ) (state : Atoms) → All (λ n. n < length atoms) row
-    → atoms_of atoms row ≡ items state → (state_of atoms row ≡ state) × IsRow atoms row
+    → row_atoms atoms row ≡ items state → (state_of atoms row ≡ state) × IsRow atoms row
 row_of atoms row state known e =
     let is : state_of atoms row ≡ state = ap from_list e ∙ from_list-items state in
     (is, record { known = known; in_order = e ∙ ap items (sym is) })
@@ -218,14 +218,14 @@ state_at row_in atoms keys key place stored =
 
 -- ---- the row of a list of atoms, one atom after another
 
-pub numbers_more : (old new : List Atom) (row : List ℕ) (n : ℕ) (atom : Atom) → Grows old new
+pub numbers_more : (old new : List Atom) (row : List ℕ) (n : ℕ) (atom : Atom) → AddsAtoms old new
     → All (λ n. n < length old) row → slice_get new n ≡ Some atom
-    → atoms_of new (row ++ n ∷ []) ≡ atoms_of old row ++ atom ∷ []
+    → row_atoms new (row ++ n ∷ []) ≡ row_atoms old row ++ atom ∷ []
 numbers_more old new row n atom grows known at =
-    let same : atoms_of new row ≡ atoms_of old row = ap (λ atoms. atoms_of atoms row) grows.1 ∙ atoms_of-grown old grows.0 row known in
+    let same : row_atoms new row ≡ row_atoms old row = ap (λ atoms. row_atoms atoms row) grows.1 ∙ atoms_of-grown old grows.0 row known in
     map_push (λ n. get_or new n no_atom) row n ∙ (λ i. same i ++ get_or_from_slice_get new n atom no_atom at i ∷ [])
 
-pub known_more : (old new : List Atom) (row : List ℕ) (n : ℕ) (atom : Atom) → Grows old new
+pub known_more : (old new : List Atom) (row : List ℕ) (n : ℕ) (atom : Atom) → AddsAtoms old new
     → All (λ n. n < length old) row → slice_get new n ≡ Some atom
     → All (λ n. n < length new) (row ++ n ∷ [])
 known_more old new row n atom grows known at =

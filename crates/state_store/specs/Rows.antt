@@ -11,11 +11,11 @@ abbrev pub no_atom : Atom
 no_atom = record { pred = 0; args = [] }
 
 -- the atoms that have these numbers
-abbrev pub atoms_of : List Atom → List ℕ → List Atom
-atoms_of atoms row = map (λ n. slice_index_or atoms n no_atom) row
+abbrev pub row_atoms : List Atom → List ℕ → List Atom
+row_atoms atoms row = map (λ n. slice_index_or atoms n no_atom) row
 
 abbrev pub state_of : List Atom → List ℕ → Atoms
-state_of atoms row = from_list (atoms_of atoms row)
+state_of atoms row = from_list (row_atoms atoms row)
 
 abbrev pub states_of : List Atom → List (List ℕ) → List Atoms
 states_of atoms rows = map (state_of atoms) rows
@@ -23,7 +23,7 @@ states_of atoms rows = map (state_of atoms) rows
 -- Each number is that of an atom, and the atoms stand as their state lists them.
 pub record IsRow (atoms : List Atom) (row : List ℕ) : Type 0 where
   pub known : All (λ n. n < length atoms) row
-  pub in_order : atoms_of atoms row ≡ items (state_of atoms row)
+  pub in_order : row_atoms atoms row ≡ items (state_of atoms row)
 
 -- The atoms are distinct, each list of numbers is a row, and the states are distinct and few enough to be numbered.
 pub record AreRows (atoms : List Atom) (rows : List (List ℕ)) : Type 0 where
@@ -32,5 +32,5 @@ pub record AreRows (atoms : List Atom) (rows : List (List ℕ)) : Type 0 where
   pub kept : AreKept (states_of atoms rows)
 
 -- atoms were put behind the others
-abbrev pub Grows : List Atom → List Atom → Type 0
-Grows old new = (more : List Atom) × (new ≡ old ++ more)
+abbrev pub AddsAtoms : List Atom → List Atom → Type 0
+AddsAtoms old new = (more : List Atom) × (new ≡ old ++ more)

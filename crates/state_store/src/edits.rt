@@ -4,7 +4,7 @@ ghost use Rattle.std.specs.List.Sorted.{IsSearchInRange, IsBinarySearchResult};
 ghost use Rattle.lemmas.specs.Lists.{AreDistinct};
 ghost use Rattle.task_model.specs.AtomOrder.{atom_cmp};
 ghost use Rattle.task_model.specs.State.{insert, remove, with_atoms, without_atoms};
-ghost use Rattle.state_store.specs.Rows.{Grows, IsRow, atoms_of, state_of};
+ghost use Rattle.state_store.specs.Rows.{AddsAtoms, IsRow, row_atoms, state_of};
 
 use crate::rows::number_of;
 use indexmap::IndexSet;
@@ -17,7 +17,7 @@ fn place_in(numbered: &[Atom], row: &[u32], atom: &Atom) -> Result<usize, usize>
     requires { IsRow numbered.now row.now }
     ensures bound { IsSearchInRange result (length row.now) }
     ensures position { IsBinarySearchResult (λ other. atom_cmp other atom.now)
-        (atoms_of numbered.now row.now) result }
+        (row_atoms numbered.now row.now) result }
 {
     let mut low = 0;
     let mut high = row.len();
@@ -64,7 +64,7 @@ fn put_one(numbered: &mut IndexSet<Atom>, row: &mut Vec<u32>, atom: &Atom) -> Re
     ensures row { OnOk result (IsRow numbered.new.keys row.new.items) }
     ensures state { OnOk result (state_of numbered.new.keys row.new.items
         ≡ insert (state_of numbered.old.keys row.old.items) atom.now) }
-    ensures grows { Grows numbered.old.keys numbered.new.keys }
+    ensures grows { AddsAtoms numbered.old.keys numbered.new.keys }
     ensures distinct { AreDistinct numbered.new.keys }
 {
     if let Err(place) = place_in(numbered.as_slice(), row.as_slice(), atom) {
@@ -86,7 +86,7 @@ pub(crate) fn put_in(
     ensures row { OnOk result (IsRow numbered.new.keys row.new.items) }
     ensures state { OnOk result (state_of numbered.new.keys row.new.items
         ≡ with_atoms (state_of numbered.old.keys row.old.items) atoms.now) }
-    ensures grows { Grows numbered.old.keys numbered.new.keys }
+    ensures grows { AddsAtoms numbered.old.keys numbered.new.keys }
     ensures distinct { AreDistinct numbered.new.keys }
 {
     for atom in atoms {

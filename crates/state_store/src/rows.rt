@@ -1,7 +1,7 @@
 //! Atoms and their numbers.
 ghost use Rattle.std.specs.Prelude.{◌≡◌, ◌<◌, length, All, IfOk, Some, slice_get};
 ghost use Rattle.lemmas.specs.Lists.{AreDistinct};
-ghost use Rattle.state_store.specs.Rows.{Grows, atoms_of as atoms_with};
+ghost use Rattle.state_store.specs.Rows.{AddsAtoms, row_atoms as atoms_with};
 
 use indexmap::IndexSet;
 use std::alloc::{AllocError, Global};
@@ -11,7 +11,7 @@ use task_model::Atom;
 fn place_of(numbered: &mut IndexSet<Atom>, atom: &Atom) -> Result<usize, AllocError>
     requires { AreDistinct numbered.old.keys }
     ensures place { IfOk result (λ place. slice_get numbered.new.keys place ≡ Some atom.now) }
-    ensures grows { Grows numbered.old.keys numbered.new.keys }
+    ensures grows { AddsAtoms numbered.old.keys numbered.new.keys }
     ensures distinct { AreDistinct numbered.new.keys }
 {
     if let Some(place) = numbered.get_index_of(atom) {
@@ -26,7 +26,7 @@ fn place_of(numbered: &mut IndexSet<Atom>, atom: &Atom) -> Result<usize, AllocEr
 pub(crate) fn number_of(numbered: &mut IndexSet<Atom>, atom: &Atom) -> Result<u32, AllocError>
     requires { AreDistinct numbered.old.keys }
     ensures number { IfOk result (λ number. slice_get numbered.new.keys number ≡ Some atom.now) }
-    ensures grows { Grows numbered.old.keys numbered.new.keys }
+    ensures grows { AddsAtoms numbered.old.keys numbered.new.keys }
     ensures distinct { AreDistinct numbered.new.keys }
 {
     match u32::try_from(place_of(numbered, atom)?) {
@@ -45,7 +45,7 @@ pub(crate) fn numbers_of(
     requires { AreDistinct numbered.old.keys }
     ensures row { IfOk result (λ row. atoms_with numbered.new.keys row.items ≡ atoms.now) }
     ensures known { IfOk result (λ row. All (λ n. n < length numbered.new.keys) row.items) }
-    ensures grows { Grows numbered.old.keys numbered.new.keys }
+    ensures grows { AddsAtoms numbered.old.keys numbered.new.keys }
     ensures distinct { AreDistinct numbered.new.keys }
 {
     let mut row = Vec::with_capacity(alloc, atoms.len())?;

@@ -3,8 +3,8 @@ use Rattle.std.proofs.Common.{◌≡◌, ◌⊎◌, inl, inr, ℕ, zero, suc, �
 use Rattle.std.proofs.lemmas.List.Sums.{sum_by-cons}
 use Rattle.std.proofs.lemmas.Option.{same_Some}
 use Rattle.std.specs.List.{list_any}
-use Rattle.stream_map.specs.Children.{PlainPool, numbered}
-use Rattle.stream_map.specs.Faults.{has_wrong_number, is_grid, own_workers, places_of}
+use Rattle.stream_map.specs.Children.{PlainPool, numbered_pools}
+use Rattle.stream_map.specs.Faults.{has_wrong_number, is_grid, own_workers, stream_places}
 use Rattle.stream_map.specs.Laws.{PoolHasChild}
 use Rattle.stream_map.specs.Spelled.{Spelled}
 use Rattle.lemmas.proofs.Bools.{left_false, right_false}
@@ -48,7 +48,7 @@ rest_right next pool pools right = record {
 
 module _ (names : List (List ℕ)) where
   abbrev made : Bool → ℕ → Spelled → PlainPool
-  made grid next pool = record { first = cond grid 16 next; workers = pool.workers; streams = places_of names pool; words = pool.run }
+  made grid next pool = record { first = cond grid 16 next; workers = pool.workers; streams = stream_places names pool; words = pool.run }
 
   head_placed : (next : ℕ) (pool : Spelled) (pools : List Spelled) → AreRight next (pool ∷ pools)
       → (b : Bool) → is_grid pool ≡ b → IsPlaced next (pool ∷ pools) (made b next pool)
@@ -63,7 +63,7 @@ module _ (names : List (List ℕ)) where
       inr (omega arith, omega (arith, right.workers, sum_by-cons own_workers pool pools, own), well.some)
 
   pub placed : (next : ℕ) (pools : List Spelled) → AreRight next pools → (k : ℕ) (p : PlainPool)
-      → slice_get (numbered names next pools) k ≡ Some p → IsPlaced next pools p
+      → slice_get (numbered_pools names next pools) k ≡ Some p → IsPlaced next pools p
   placed next [] right k p at = absurd (cc)
   placed next (pool ∷ pools) right zero p at =
       let is : made (is_grid pool) next pool ≡ p = same_Some (made (is_grid pool) next pool) p at in
@@ -78,7 +78,7 @@ module _ (names : List (List ℕ)) where
   -- the first pool and a later one have no child in common
   later_apart : (next : ℕ) (pool : Spelled) (pools : List Spelled) → AreRight next (pool ∷ pools)
       → (b : Bool) → is_grid pool ≡ b → (k child : ℕ) (q : PlainPool)
-      → slice_get (numbered names (next + own_workers pool) pools) k ≡ Some q → PoolHasChild (made b next pool) child → PoolHasChild q child
+      → slice_get (numbered_pools names (next + own_workers pool) pools) k ≡ Some q → PoolHasChild (made b next pool) child → PoolHasChild q child
       → ⊥
   later_apart next pool pools right true is k child q at in_p in_q =
       let well = is_right pool (left_false (has_wrong_number pool) _ right.numbers) in
@@ -96,8 +96,8 @@ module _ (names : List (List ℕ)) where
       ]
 
   pub children_apart : (next : ℕ) (pools : List Spelled) → AreRight next pools
-      → (j k child : ℕ) (p q : PlainPool) → slice_get (numbered names next pools) j ≡ Some p
-      → slice_get (numbered names next pools) k ≡ Some q
+      → (j k child : ℕ) (p q : PlainPool) → slice_get (numbered_pools names next pools) j ≡ Some p
+      → slice_get (numbered_pools names next pools) k ≡ Some q
       → PoolHasChild p child → PoolHasChild q child → j ≡ k
   children_apart next [] right j k child p q at_j at_k in_p in_q = absurd (cc)
   children_apart next (pool ∷ pools) right zero zero child p q at_j at_k in_p in_q = refl
@@ -116,11 +116,11 @@ module _ (names : List (List ℕ)) where
 
 pub placed_more : (names : List (List ℕ)) (done all : List PlainPool) (next after : ℕ) (text : Spelled)
     (rest : List Spelled) (p : PlainPool)
-    → done ++ numbered names next (text ∷ rest) ≡ all
-    → p ≡ record { first = cond (is_grid text) 16 next; workers = text.workers; streams = places_of names text; words = text.run }
-    → after ≡ next + own_workers text → done ++ p ∷ [] ++ numbered names after rest ≡ all
+    → done ++ numbered_pools names next (text ∷ rest) ≡ all
+    → p ≡ record { first = cond (is_grid text) 16 next; workers = text.workers; streams = stream_places names text; words = text.run }
+    → after ≡ next + own_workers text → done ++ p ∷ [] ++ numbered_pools names after rest ≡ all
 placed_more names done all next after text rest p so_far is then =
-    append_assoc done (p ∷ []) (numbered names after rest) ∙ (λ i. done ++ (is i ∷ numbered names (then i) rest)) ∙ so_far
+    append_assoc done (p ∷ []) (numbered_pools names after rest) ∙ (λ i. done ++ (is i ∷ numbered_pools names (then i) rest)) ∙ so_far
 
 pub numbers_left : (text : Spelled) (rest : List Spelled)
     → list_any has_wrong_number (text ∷ rest) ≡ false

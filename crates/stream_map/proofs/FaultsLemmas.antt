@@ -12,8 +12,8 @@ use Rattle.task_model.specs.declared.stream.Stream.{Stream}
 use Rattle.task_model.specs.declared.task.Task.{Task}
 use Rattle.transcript_model.proofs.NamesLemmas.{position_at}
 use Rattle.transcript_model.specs.declared.head.Pool.{Pool}
-use Rattle.stream_map.specs.Children.{PlainPool, plain, numbered}
-use Rattle.stream_map.specs.Faults.{Refused, map_fault, have_wrong_workers, names_unknown, own_workers, place_of, all_places, places_of, served_fault}
+use Rattle.stream_map.specs.Children.{PlainPool, plain, numbered_pools}
+use Rattle.stream_map.specs.Faults.{Refused, map_fault, have_wrong_workers, names_unknown, own_workers, stream_place, all_places, stream_places, served_fault}
 use Rattle.stream_map.specs.declared.fault.MapFault.{MapFault}
 use Rattle.stream_map.specs.declared.fault.MapFault.TheVariants.{Json, Shape, Workers, Unknown, Doubled, Unserved, Memory}
 use Rattle.stream_map.specs.Form.{each_of, all_stream_names}
@@ -95,7 +95,7 @@ key_pushed f old new key names i same here apart grown =
 pub few_names : (task : Task) → IsFit task → length (all_stream_names task) ≤ 8388608
 few_names task fit = let few = few_streams task fit in omega (arith, few, length-map task.streams (λ (s : Stream). s.name))
 
-place_below : (names : List (List ℕ)) (name : List ℕ) (k : ℕ) → place_of names name ≡ Some k
+place_below : (names : List (List ℕ)) (name : List ℕ) (k : ℕ) → stream_place names name ≡ Some k
     → k < length names
 place_below names name k is =
     let at = position_at (bytes_eq name) names k is in
@@ -106,18 +106,18 @@ module _ (names : List (List ℕ)) where
   Below k = k < length names
 
   with_place : (name : List ℕ) (rest : List ℕ) → All Below rest → (o : Option ℕ)
-      → place_of names name ≡ o → All Below (cons_option o rest)
+      → stream_place names name ≡ o → All Below (cons_option o rest)
   with_place name rest later None is = later
   with_place name rest later (Some k) is = All-cons Below k rest (place_below names name k is) later
 
-  pub places_below : (ns : List (List ℕ)) → All Below (filter_map (place_of names) ns)
+  pub places_below : (ns : List (List ℕ)) → All Below (filter_map (stream_place names) ns)
   places_below [] = All-nil Below
   places_below (n ∷ ns) =
-      with_place n (filter_map (place_of names) ns) (places_below ns) (place_of names n) refl
+      with_place n (filter_map (stream_place names) ns) (places_below ns) (stream_place names n) refl
 
   pub all_below : (pools : List Spelled) → All Below (all_places names pools)
   all_below [] = All-nil Below
-  all_below (p ∷ ps) = All-append Below (places_of names p) (all_places names ps) (places_below p.streams) (all_below ps)
+  all_below (p ∷ ps) = All-append Below (stream_places names p) (all_places names ps) (places_below p.streams) (all_below ps)
 
   -- ---- streams of pools
 
@@ -127,13 +127,13 @@ module _ (names : List (List ℕ)) where
   flat_plain (p ∷ ps) = ap (λ ks. p.streams ++ ks) (flat_plain ps)
 
   pub flat_numbered : (next : ℕ) (pools : List Spelled)
-      → flat_map (λ (p : PlainPool). p.streams) (numbered names next pools) ≡ all_places names pools
+      → flat_map (λ (p : PlainPool). p.streams) (numbered_pools names next pools) ≡ all_places names pools
   flat_numbered next [] = refl
   flat_numbered next (p ∷ ps) =
-      ap (λ ks. places_of names p ++ ks) (flat_numbered (next + own_workers p) ps)
+      ap (λ ks. stream_places names p ++ ks) (flat_numbered (next + own_workers p) ps)
 
   pub streams_numbered : (pools : List Pool) (next : ℕ) (texts : List Spelled)
-      → map plain pools ≡ numbered names next texts → streams_in pools ≡ all_places names texts
+      → map plain pools ≡ numbered_pools names next texts → streams_in pools ≡ all_places names texts
   streams_numbered pools next texts are =
       flat_plain pools ∙ ap (flat_map (λ (p : PlainPool). p.streams)) are ∙ flat_numbered next texts
 

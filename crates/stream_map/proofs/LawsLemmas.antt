@@ -11,8 +11,8 @@ use Rattle.task_model.specs.declared.stream.Stream.{Stream}
 use Rattle.task_model.specs.declared.task.Task.{Task}
 use Rattle.transcript_model.specs.declared.head.Pool.{Pool}
 use Rattle.stream_map.specs.Accepted.{Accepted}
-use Rattle.stream_map.specs.Children.{PlainPool, numbered, plain, with_second, with_text}
-use Rattle.stream_map.specs.Faults.{map_fault, have_wrong_workers, has_wrong_number, is_grid, names_unknown, own_workers, all_places, places_of}
+use Rattle.stream_map.specs.Children.{PlainPool, numbered_pools, plain, with_second, with_text}
+use Rattle.stream_map.specs.Faults.{map_fault, have_wrong_workers, has_wrong_number, is_grid, names_unknown, own_workers, all_places, stream_places}
 use Rattle.stream_map.specs.Form.{datas, each_of, has_only, if_program, is_map_key, is_pool_key, listed, map_in_data, names_in_data, pool_of, pool_with, program_of, all_stream_names, words_form, workers_in_data}
 use Rattle.stream_map.specs.Laws.{AreWhole, PoolHasChild, AcceptedMapsAreWhole, AcceptedWordsAreWhole, TextsKeepPoolsWhole}
 use Rattle.stream_map.specs.Served.{has_repeat, has_missing, is_stream_among}
@@ -88,8 +88,8 @@ abbrev pub AreStarted : List Spelled → Type 0
 AreStarted pools = (k : ℕ) (s : Spelled) → slice_get pools k ≡ Some s → 1 ≤ length s.run
 
 spelled_at : (names : List (List ℕ)) (next : ℕ) (pools : List Spelled) (k : ℕ) (p : PlainPool)
-    → slice_get (numbered names next pools) k ≡ Some p
-    → (s : Spelled) × (slice_get pools k ≡ Some s) × (p.words ≡ s.run) × (p.streams ≡ places_of names s)
+    → slice_get (numbered_pools names next pools) k ≡ Some p
+    → (s : Spelled) × (slice_get pools k ≡ Some s) × (p.words ≡ s.run) × (p.streams ≡ stream_places names s)
 spelled_at names next [] k p at = absurd (cc)
 spelled_at names next (s ∷ ss) zero p at =
     let is = sym (same_Some _ p at) in (s, refl, ap (λ (q : PlainPool). q.words) is, ap (λ (q : PlainPool). q.streams) is)
@@ -100,7 +100,7 @@ module _ (task : Task) (pools : List Spelled) (none : NoFault (all_stream_names 
   names = all_stream_names task
 
   abbrev plains : List PlainPool
-  plains = numbered names 0 pools
+  plains = numbered_pools names 0 pools
 
   abbrev streams : PlainPool → List ℕ
   streams p = p.streams

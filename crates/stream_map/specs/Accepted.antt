@@ -7,7 +7,7 @@ use Rattle.transcript_model.specs.declared.head.Pool.{Pool}
 use Rattle.stream_map.specs.Spelled.{Spelled}
 use Rattle.stream_map.specs.Form.{map_in_data, all_stream_names}
 use Rattle.stream_map.specs.Faults.{map_fault, Refused}
-use Rattle.stream_map.specs.Children.{plain, numbered}
+use Rattle.stream_map.specs.Children.{plain, numbered_pools}
 use Rattle.stream_map.specs.declared.fault.MapFault.{MapFault}
 use Rattle.stream_map.specs.declared.fault.MapFault.TheVariants.{Json, Memory}
 
@@ -16,7 +16,7 @@ pub record Accepted (task : Task) (form : Option (List Spelled)) (pools : List P
   pub spelled : List Spelled
   pub form_is : form ≡ Some spelled
   pub right : map_fault (all_stream_names task) spelled ≡ None
-  pub pools_are : map plain pools ≡ numbered (all_stream_names task) 0 spelled
+  pub pools_are : map plain pools ≡ numbered_pools (all_stream_names task) 0 spelled
 
 -- the bytes are this JSON value
 pub record IsJson (bytes : List ℕ) (d : Data) : Type 0 where

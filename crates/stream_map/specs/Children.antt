@@ -2,7 +2,7 @@
 use Rattle.std.specs.Prelude.{◌≡◌, ℕ, suc, ◌+◌, ◌<◌, List, [], ◌∷◌, ◌++◌, length, take, drop, slice_index_or, map, string_bytes, if◌then◌else◌, Option, Some, None}
 use Rattle.transcript_model.specs.declared.head.Pool.{Pool}
 use Rattle.stream_map.specs.Spelled.{Spelled, begins_grid}
-use Rattle.stream_map.specs.Faults.{is_grid, own_workers, places_of}
+use Rattle.stream_map.specs.Faults.{is_grid, own_workers, stream_places}
 
 -- a pool with its words as lists of bytes
 pub record PlainPool : Type 0 where
@@ -16,17 +16,17 @@ plain pool = record
     { first = pool.first; workers = pool.workers; streams = pool.streams; words = map string_bytes pool.argv }
 
 -- The generator in the process is child 16; the others take the numbers from this one on, in their order.
-abbrev pub numbered : List (List ℕ) → ℕ → List Spelled → List PlainPool
-numbered names next [] = []
-numbered names next (pool ∷ pools) =
+abbrev pub numbered_pools : List (List ℕ) → ℕ → List Spelled → List PlainPool
+numbered_pools names next [] = []
+numbered_pools names next (pool ∷ pools) =
     record {
       first =
           if is_grid pool then 16 else next;
       workers = pool.workers;
-      streams = places_of names pool;
+      streams = stream_places names pool;
       words = pool.run;
     }
-    ∷ numbered names (next + own_workers pool) pools
+    ∷ numbered_pools names (next + own_workers pool) pools
 
 -- ---- the grid's file
 

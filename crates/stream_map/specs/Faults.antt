@@ -31,19 +31,19 @@ have_wrong_workers pools =
 -- ---- streams
 
 -- the place of a name among those of the task's streams
-abbrev pub place_of : List (List ℕ) → List ℕ → Option ℕ
-place_of names name = position (bytes_eq name) names
+abbrev pub stream_place : List (List ℕ) → List ℕ → Option ℕ
+stream_place names name = position (bytes_eq name) names
 
 -- one of the pool's streams is none of these
 abbrev pub names_unknown : List (List ℕ) → Spelled → Bool
-names_unknown names pool = list_any (λ name. is_none (place_of names name)) pool.streams
+names_unknown names pool = list_any (λ name. is_none (stream_place names name)) pool.streams
 
 -- the streams of a pool, by their places
-abbrev pub places_of : List (List ℕ) → Spelled → List ℕ
-places_of names pool = filter_map (place_of names) pool.streams
+abbrev pub stream_places : List (List ℕ) → Spelled → List ℕ
+stream_places names pool = filter_map (stream_place names) pool.streams
 
 abbrev pub all_places : List (List ℕ) → List Spelled → List ℕ
-all_places names pools = flat_map (places_of names) pools
+all_places names pools = flat_map (stream_places names) pools
 
 -- ---- the fault
 

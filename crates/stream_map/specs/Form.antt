@@ -70,13 +70,13 @@ count_in_number (unsigned n) = Some n
 count_in_number (negative z) = Some 0
 count_in_number (float x) = None
 
-abbrev pub count_of : Data → Option ℕ
-count_of d = option_and_then count_in_number (as_number d)
+abbrev pub count_in_data : Data → Option ℕ
+count_in_data d = option_and_then count_in_number (as_number d)
 
 -- the number of workers: 1 where none is given
 abbrev pub workers_in_data : Option Data → Option ℕ
 workers_in_data None = Some 1
-workers_in_data (Some d) = count_of d
+workers_in_data (Some d) = count_in_data d
 
 abbrev pub pool_with : Option (List (List ℕ)) → Option ℕ → Option (List (List ℕ)) → Option Spelled
 pool_with run workers streams =

@@ -11,8 +11,8 @@ pub record Spelled : Type 0 where
   pub streams : List (List ℕ)
 
 -- the pool that the code holds
-abbrev pub shown : PoolText → Spelled
-shown pool =
+abbrev pub shown_pool_text : PoolText → Spelled
+shown_pool_text pool =
     record { run = map string_bytes pool.run; workers = pool.workers; streams = pool.streams }
 
 unfoldable pub is_grid_word : List ℕ → Bool

@@ -4,9 +4,9 @@ ghost use Rattle.std.specs.BTreeMap.{keys};
 ghost use Rattle.std.specs.List.{list_all};
 ghost use Rattle.serde_json.specs.Find.{as_str, get};
 ghost use Rattle.serde_json.specs.View.{view};
-ghost use Rattle.stream_map.specs.Form.{has_only, is_map_key, is_pool_key, listed, program_of, name_in_data, names_in_data, count_of, workers_in_data, pool_of, map_in_data};
+ghost use Rattle.stream_map.specs.Form.{has_only, is_map_key, is_pool_key, listed, program_of, name_in_data, names_in_data, count_in_data, workers_in_data, pool_of, map_in_data};
 ghost use Rattle.stream_map.specs.Faults.{Only};
-ghost use Rattle.stream_map.specs.Spelled.{shown};
+ghost use Rattle.stream_map.specs.Spelled.{shown_pool_text};
 ghost use Rattle.stream_map.specs.declared.fault.MapFault.TheVariants.{Shape};
 
 use crate::fault::MapFault;
@@ -138,7 +138,7 @@ fn names_of(alloc: Global, value: &Value) -> Result<Seq<Name>, MapFault>
 
 /// An integer of 64 bits, where a negative one counts as 0; None where the value is none.
 fn count_of(value: &Value) -> Option<u64>
-    ensures { result ≡ count_of (view value.now) }
+    ensures { result ≡ count_in_data (view value.now) }
 {
     match value.as_u64() {
         Some(count) => Some(count),
@@ -158,7 +158,7 @@ fn workers_of(value: &Value) -> Option<u64>
 
 /// A pool.
 fn pool_of(alloc: Global, value: &Value) -> Result<PoolText, MapFault>
-    ensures pool { IfOk result (λ pool. pool_of (view value.now) ≡ Some (shown pool)) }
+    ensures pool { IfOk result (λ pool. pool_of (view value.now) ≡ Some (shown_pool_text pool)) }
     ensures other { IfErr result (Only Shape (pool_of (view value.now) ≡ None)) }
 {
     if !is_pool_object(value) {
@@ -177,7 +177,7 @@ fn pool_of(alloc: Global, value: &Value) -> Result<PoolText, MapFault>
 /// The pools of a map.
 pub(crate) fn map_of(alloc: Global, value: &Value) -> Result<Vec<PoolText>, MapFault>
     ensures pools { IfOk result
-        (λ pools. map_in_data (view value.now) ≡ Some (map shown pools.items)) }
+        (λ pools. map_in_data (view value.now) ≡ Some (map shown_pool_text pools.items)) }
     ensures other { IfErr result (Only Shape (map_in_data (view value.now) ≡ None)) }
 {
     if !is_map_object(value) {

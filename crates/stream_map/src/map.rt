@@ -3,7 +3,7 @@ ghost use Rattle.std.specs.Prelude.{◌≡◌, map, string_bytes, IfOk, IfErr};
 ghost use Rattle.stream_map.specs.Accepted.{Accepted, AcceptedMap, RefusesMap};
 ghost use Rattle.stream_map.specs.Faults.{Refused};
 ghost use Rattle.stream_map.specs.Form.{all_stream_names, words_form};
-ghost use Rattle.stream_map.specs.Spelled.{shown};
+ghost use Rattle.stream_map.specs.Spelled.{shown_pool_text};
 ghost use Rattle.task_model.specs.Fit.{IsFit};
 
 use crate::fault::MapFault;
@@ -40,7 +40,7 @@ fn pool_of_all(
     argv: &[String],
     workers: u8,
 ) -> Result<PoolText, AllocError>
-    ensures { IfOk result (λ pool. shown pool
+    ensures { IfOk result (λ pool. shown_pool_text pool
         ≡ record {
           run = map string_bytes argv.now;
           workers = workers;

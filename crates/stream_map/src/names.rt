@@ -1,6 +1,6 @@
 //! The names of a task's streams.
 ghost use Rattle.std.specs.Prelude.{◌≡◌, length, IfOk};
-ghost use Rattle.stream_map.specs.Faults.{place_of};
+ghost use Rattle.stream_map.specs.Faults.{stream_place};
 ghost use Rattle.stream_map.specs.Form.{all_stream_names};
 ghost use Rattle.task_model.specs.Fit.{IsFit};
 
@@ -45,7 +45,7 @@ impl StreamNames {
 
     /// The place of a name, or None where it isn't there.
     pub(crate) fn place_of(&self, name: &[u8]) -> Option<usize>
-        ensures { result ≡ place_of self.now name.now }
+        ensures { result ≡ stream_place self.now name.now }
     {
         self.names.get_index_of(name)
     }

@@ -1,10 +1,10 @@
 //! Pools with the places of their streams and the numbers of their children.
 ghost use Rattle.std.specs.Prelude.{◌≡◌, ◌≤◌, ◌+◌, Some, None, map, length, IfOk, IfErr, OnOk, false, true};
 ghost use Rattle.std.specs.List.{list_any};
-ghost use Rattle.stream_map.specs.Children.{plain, numbered};
-ghost use Rattle.stream_map.specs.Faults.{Only, Refused, map_fault, have_wrong_workers, is_grid, names_unknown, place_of};
+ghost use Rattle.stream_map.specs.Children.{plain, numbered_pools};
+ghost use Rattle.stream_map.specs.Faults.{Only, Refused, map_fault, have_wrong_workers, is_grid, names_unknown, stream_place};
 ghost use Rattle.stream_map.specs.Form.{each_of, all_stream_names};
-ghost use Rattle.stream_map.specs.Spelled.{shown};
+ghost use Rattle.stream_map.specs.Spelled.{shown_pool_text};
 ghost use Rattle.stream_map.specs.declared.fault.MapFault.TheVariants.{Unknown};
 ghost use Rattle.task_model.specs.Fit.{IsFit};
 
@@ -24,9 +24,9 @@ const GRID_CHILD: u8 = 16;
 fn places_of(alloc: Global, names: &StreamNames, wanted: &[Name]) -> Result<Seq<u32>, MapFault>
     requires { length names.now ≤ 8388608 }
     ensures places { IfOk result
-        (λ places. each_of (place_of names.now) wanted.now ≡ Some places) }
+        (λ places. each_of (stream_place names.now) wanted.now ≡ Some places) }
     ensures unknown { IfErr result
-        (Only Unknown (each_of (place_of names.now) wanted.now ≡ None)) }
+        (Only Unknown (each_of (stream_place names.now) wanted.now ≡ None)) }
 {
     let mut places = Vec::new(alloc);
     for name in wanted {
@@ -44,13 +44,13 @@ fn placed_pools(
     texts: Vec<PoolText>,
 ) -> Result<Vec<Pool>, MapFault>
     requires few { length names.now ≤ 8388608 }
-    requires workers { have_wrong_workers (map shown texts.items) ≡ false }
-    ensures known { OnOk result (list_any (names_unknown names.now) (map shown texts.items)
+    requires workers { have_wrong_workers (map shown_pool_text texts.items) ≡ false }
+    ensures known { OnOk result (list_any (names_unknown names.now) (map shown_pool_text texts.items)
         ≡ false) }
     ensures pools { IfOk result
-        (λ pools. map plain pools.items ≡ numbered names.now 0 (map shown texts.items)) }
+        (λ pools. map plain pools.items ≡ numbered_pools names.now 0 (map shown_pool_text texts.items)) }
     ensures unknown { IfErr result
-        (Only Unknown (list_any (names_unknown names.now) (map shown texts.items) ≡ true)) }
+        (Only Unknown (list_any (names_unknown names.now) (map shown_pool_text texts.items) ≡ true)) }
 {
     let mut pools = Vec::new(alloc);
     let mut next = 0;
@@ -85,12 +85,12 @@ pub(crate) fn pools_of(
 ) -> Result<Seq<Pool>, MapFault>
     requires fit { IsFit task.now }
     ensures right { OnOk result
-        (map_fault (all_stream_names task.now) (map shown texts.items) ≡ None) }
+        (map_fault (all_stream_names task.now) (map shown_pool_text texts.items) ≡ None) }
     ensures pools { IfOk result
         (λ pools. map plain pools
-        ≡ numbered (all_stream_names task.now) 0 (map shown texts.items)) }
+        ≡ numbered_pools (all_stream_names task.now) 0 (map shown_pool_text texts.items)) }
     ensures refused { IfErr result (Refused (all_stream_names task.now)
-        (Some (map shown texts.items))) }
+        (Some (map shown_pool_text texts.items))) }
 {
     if have_wrong_workers(texts.as_slice()) {
         return Err(MapFault::Workers);

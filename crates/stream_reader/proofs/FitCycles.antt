@@ -108,7 +108,7 @@ module _ (task : Task) where
   get_there (s ∷ ss) zero h = (s, refl)
   get_there (s ∷ ss) (suc k) h = get_there ss k (omega arith)
 
-  edge_there : (from to : ℕ) → leads task from to ≡ true → graphs.leads edges from to ≡ true
+  edge_there : (from to : ℕ) → leads task from to ≡ true → graphs.has_edge edges from to ≡ true
   edge_there from to h =
       let within = streams_within task from to h in
       let first = get_there task.streams from within.0 in
@@ -121,7 +121,7 @@ module _ (task : Task) where
       (next_there task.domain first.0 second.0 0 task.streams to second.1 (leads_there from to h first.0 second.0 first.1 second.1))
 
   way_there : (from : ℕ) (between : List ℕ) (to : ℕ) → LeadsAlong (leads task) from between to
-      → LeadsAlong (graphs.leads edges) from between to
+      → LeadsAlong (graphs.has_edge edges) from between to
   way_there from [] to h = edge_there from to h
   way_there from (next ∷ more) to h = (edge_there from next h.0, way_there next more to h.1)
 

@@ -16,7 +16,7 @@ use Rattle.form_reader.specs.declared.fault.InputKind.TheVariants.{EffectOnStati
 use Rattle.form_reader.specs.declared.words.WordSort.TheVariants.{Predicate, Term}
 use Rattle.form_reader.specs.Atoms.{atom_rows_faults, atoms_faults}
 use Rattle.form_reader.specs.Rows.{application_faults}
-use Rattle.name_tables.specs.Names.{place_of}
+use Rattle.name_tables.specs.Names.{table_place}
 use Rattle.name_tables.specs.Terms.{application_names, declared_place, terms_names, terms_of, use_names, width, pattern_of}
 use Rattle.name_tables.specs.Variables.{unless}
 use Rattle.name_tables.specs.Vocabulary.{arity_of}
@@ -83,15 +83,15 @@ module _ (d : Domain) (v : Vocabulary) (over : IsFitDomain d) (known : AreKnown 
   more_good ps qs p q = record { fit = all_append is_fit ps qs p.fit q.fit; static = all_append is_static ps qs p.static q.static }
 
   atom_static : (w : List ℕ) (count place : ℕ) → IsUsable v.predicates w count
-      → unless (not (is_changing (role_found d.roles (place_of w v.predicates.names)))) EffectOnStatic place ≡ []
+      → unless (not (is_changing (role_found d.roles (table_place w v.predicates.names)))) EffectOnStatic place ≡ []
       → is_static_role (role_of d (declared_place v.predicates w)) ≡ true
   atom_static w count place used e =
       let at = role_at d (declared_place v.predicates w) over.roles (used_inside d.predicates v.predicates w count known.predicates used) in
-      let is : role_found d.roles (place_of w v.predicates.names) ≡ Some (role_of d (declared_place v.predicates w)) =
+      let is : role_found d.roles (table_place w v.predicates.names) ≡ Some (role_of d (declared_place v.predicates w)) =
       ap (role_found d.roles) (place_some w v.predicates.names used.there) ∙ at in
       static_by (role_of d (declared_place v.predicates w))
       (ap (λ o. not (is_changing o)) (sym is)
-      ∙ met (not (is_changing (role_found d.roles (place_of w v.predicates.names)))) EffectOnStatic place e)
+      ∙ met (not (is_changing (role_found d.roles (table_place w v.predicates.names)))) EffectOnStatic place e)
 
   atom_good : (place : ℕ) (w : List ℕ) (at : ℕ) (rest : Trees)
       → application_faults Predicate Term place (word w at rest) ≡ []
@@ -100,7 +100,7 @@ module _ (d : Domain) (v : Vocabulary) (over : IsFitDomain d) (known : AreKnown 
   atom_good place w at rest e f =
       let parts =
       none_both (application_names v.predicates v.objects scope place (word w at rest))
-      (unless (not (is_changing (role_found d.roles (place_of w v.predicates.names)))) EffectOnStatic place) f in
+      (unless (not (is_changing (role_found d.roles (table_place w v.predicates.names)))) EffectOnStatic place) f in
       let uses = none_both (use_names (arity_of v.predicates w) (width rest) at place) (terms_names v.objects scope rest) parts.0 in
       let applied = application_fits v.predicates v.objects scope filled slots Predicate Term place (word w at rest) e parts.0 in
       let sound : is_fit (pattern_of v scope (word w at rest)) ≡ true =

@@ -26,14 +26,14 @@ use Rattle.form_reader.specs.Keys.{has_word, keyed_faults, keys_faults, missing_
 use Rattle.form_reader.specs.Rows.{head_of, tail_of}
 use Rattle.form_reader.specs.Texts.{form_faults}
 use Rattle.form_reader.specs.Words.{is_of}
-use Rattle.name_tables.specs.Sizes.{IsBounded}
+use Rattle.name_tables.specs.Sizes.{IsBoundedTree}
 use Rattle.name_tables.specs.declared.vocabulary.Vocabulary.{Vocabulary}
 use Rattle.name_tables.proofs.NoFaultLemmas.{chosen, some_fault}
 use Rattle.name_tables.proofs.TextsLemmas.{body_less}
 use Rattle.name_tables.proofs.TitleLemmas.{titled}
 use Rattle.stream_reader.specs.Fitness.{AreFitOver}
 use Rattle.stream_reader.specs.Names.{item_names, stream_items_names, stream_keys_names, second_streams, second_variables, stream_item_names}
-use Rattle.stream_reader.specs.Reading.{AreRead, StreamsRead, spelled}
+use Rattle.stream_reader.specs.Reading.{AreRead, StreamsRead, spelled_streams}
 use Rattle.stream_reader.specs.Streams.{item_streams, stream_of, streams_of}
 use Rattle.stream_reader.specs.Tables.{kind_of, scopes_of, stream_kind, stream_vocabulary}
 use Rattle.name_tables.specs.Texts.{body_of, repeated_names}
@@ -166,9 +166,9 @@ formed_items nothing e = refl
 formed_items (word w at rest) e = absurd (some_fault (shape at) [] e)
 formed_items (list items at rest) e = (titled text.Streams items at rest e).items
 
-spelled_fit : (d : Domain) (t : Trees) (problem : Problem) → IsFitDomain d → IsBounded t
-    → AreRead d t (spelled d t)
-    → AreFitStreams (record { domain = d; problem = problem; streams = spelled d t })
+spelled_fit : (d : Domain) (t : Trees) (problem : Problem) → IsFitDomain d → IsBoundedTree t
+    → AreRead d t (spelled_streams d t)
+    → AreFitStreams (record { domain = d; problem = problem; streams = spelled_streams d t })
 spelled_fit d t problem over bounded read =
     let v : Vocabulary = stream_vocabulary d in
     let parts = none_both (stream_items_names v d.roles (body_of t)) (second_streams [] (body_of t)) read.named.named in
@@ -176,16 +176,16 @@ spelled_fit d t problem over bounded read =
     let good = all_good d v over (names_are d over) (body_of t) few (formed_items t read.formed) parts.0 in
     record {
       names = record { each = good.names; distinct = names_distinct v (body_of t) parts.1 };
-      each = and_from (is_short (spelled d t)) (list_all (is_fit_stream d) (spelled d t))
-          (le-leb (length (spelled d t)) 8388608 (omega (arith, streams_length v (body_of t), few))) good.fit;
-      acyclic = acyclic (record { domain = d; problem = problem; streams = spelled d t }) v (body_of t) refl read.named.acyclic;
+      each = and_from (is_short (spelled_streams d t)) (list_all (is_fit_stream d) (spelled_streams d t))
+          (le-leb (length (spelled_streams d t)) 8388608 (omega (arith, streams_length v (body_of t), few))) good.fit;
+      acyclic = acyclic (record { domain = d; problem = problem; streams = spelled_streams d t }) v (body_of t) refl read.named.acyclic;
     }
 
 -- over a fit domain
 pub read_streams_fit : (d : Domain) (t : Trees) (streams : List stream.Stream) → IsFitDomain d
-    → IsBounded t → AreRead d t streams → AreFitOver d streams
+    → IsBoundedTree t → AreRead d t streams → AreFitOver d streams
 read_streams_fit d t streams over bounded read problem =
-    let same : streams ≡ spelled d t = read.named.streams in
+    let same : streams ≡ spelled_streams d t = read.named.streams in
     subst (λ ss. AreFitStreams (record { domain = d; problem = problem; streams = ss })) (sym same)
     (spelled_fit d t problem over bounded
     (record { formed = read.formed; named = record { named = read.named.named; acyclic = read.named.acyclic; streams = refl } }))
@@ -193,6 +193,6 @@ read_streams_fit d t streams over bounded read problem =
 -- where they were read
 pub fit_if_read : (d : Domain) (t : Trees) (result : Result (List stream.Stream) InputFault)
     → StreamsRead d t result
-    → IfOk result (λ streams. IsFitDomain d → IsBounded t → AreFitOver d streams)
+    → IfOk result (λ streams. IsFitDomain d → IsBoundedTree t → AreFitOver d streams)
 fit_if_read d t (Ok streams) read = λ over bounded. read_streams_fit d t streams over bounded read
 fit_if_read d t (Err fault) read = tt

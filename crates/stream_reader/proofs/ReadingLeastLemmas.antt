@@ -11,7 +11,7 @@ use Rattle.name_tables.specs.declared.vocabulary.Vocabulary.{Vocabulary}
 use Rattle.stream_reader.specs.Cycles.{candidates_of, edges_of}
 use Rattle.name_tables.specs.Cycles.{CycleFaults}
 use Rattle.stream_reader.specs.Names.{stream_plain_names}
-use Rattle.stream_reader.specs.Reading.{AnswersAcyclic, AreCycleFaults, AreStreamsNamed, IsNameFault, stream_file_names, of_names, of_cycles, spelled}
+use Rattle.stream_reader.specs.Reading.{AnswersAcyclic, AreCycleFaults, AreStreamsNamed, IsNameFault, stream_file_names, of_names, of_cycles, spelled_streams}
 use Rattle.stream_reader.specs.Streams.{streams_of}
 use Rattle.stream_reader.specs.Tables.{stream_vocabulary}
 use Rattle.name_tables.specs.Texts.{body_of}
@@ -22,7 +22,7 @@ module _ (d : Domain) (t b : Trees) (v : Vocabulary) (eb : b ≡ body_of t) (ev 
   same_names =
       ap (λ w. stream_plain_names w d.roles b) ev ∙ ap (λ c. stream_plain_names (stream_vocabulary d) d.roles c) eb
 
-  same_streams : streams_of v b ≡ spelled d t
+  same_streams : streams_of v b ≡ spelled_streams d t
   same_streams = ap (λ w. streams_of w b) ev ∙ ap (λ c. streams_of (stream_vocabulary d) c) eb
 
   pub plain_fault : (f : Fault) → Some f ≡ least_fault (stream_plain_names v d.roles b) → IsNameFault d t f
@@ -35,7 +35,7 @@ module _ (d : Domain) (t b : Trees) (v : Vocabulary) (eb : b ≡ body_of t) (ev 
     over_text : (fs : List Fault) → CycleFaults StreamCycle (edges_of d ss) (candidates_of 0 b) fs
         → AreCycleFaults d t fs
     over_text fs w =
-        subst (λ c. CycleFaults StreamCycle (edges_of d (spelled d t)) (candidates_of 0 c) fs) eb
+        subst (λ c. CycleFaults StreamCycle (edges_of d (spelled_streams d t)) (candidates_of 0 c) fs) eb
         (subst (λ xs. CycleFaults StreamCycle (edges_of d xs) (candidates_of 0 b) fs) (es ∙ same_streams) w)
 
     pub cycle_fault : (f : Fault) → None ≡ least_fault (stream_plain_names v d.roles b)

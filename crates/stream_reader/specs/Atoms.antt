@@ -8,7 +8,7 @@ use Rattle.task_model.specs.declared.domain.Role.TheVariants.{Static, Fluent, De
 use Rattle.form_reader.specs.declared.fault.Fault.{Fault}
 use Rattle.form_reader.specs.declared.fault.InputKind.TheVariants.{EffectOnStatic}
 use Rattle.form_reader.specs.Rows.{head_of}
-use Rattle.name_tables.specs.Names.{place_of}
+use Rattle.name_tables.specs.Names.{table_place}
 use Rattle.name_tables.specs.Terms.{application_names, pattern_of}
 use Rattle.name_tables.specs.Variables.{unless}
 use Rattle.name_tables.specs.declared.vocabulary.Vocabulary.{Vocabulary}
@@ -29,7 +29,7 @@ module _ (v : Vocabulary) (roles : List Role) (scope : List (List ℕ)) where
   abbrev pub stream_atom_names : ℕ → Trees → List Fault
   stream_atom_names place items =
       application_names v.predicates v.objects scope place items
-      ++ unless (not (is_changing (role_at roles (place_of (head_of items) v.predicates.names)))) EffectOnStatic
+      ++ unless (not (is_changing (role_at roles (table_place (head_of items) v.predicates.names)))) EffectOnStatic
       place
 
   abbrev mutual

@@ -11,7 +11,7 @@ use Rattle.form_reader.specs.declared.keys.Key.TheVariants as key
 use Rattle.form_reader.specs.declared.keys.Keyed.{Keyed}
 use Rattle.form_reader.specs.Keys.{key_of}
 use Rattle.form_reader.specs.Rows.{after_word, head_of, tail_of}
-use Rattle.name_tables.specs.Names.{has_name, with_name}
+use Rattle.name_tables.specs.Names.{has_name, with_table_name}
 use Rattle.name_tables.specs.Terms.{application_names}
 use Rattle.name_tables.specs.Texts.{repeated_names}
 use Rattle.name_tables.specs.Variables.{doubles_names, is_named, seen_after, types_names, unless}
@@ -96,7 +96,7 @@ second_streams seen nothing = []
 second_streams seen (word text at rest) = second_streams seen rest
 second_streams seen (list items at rest) =
     unless (not (has_name (head_of (tail_of items)) seen)) Duplicate at
-    ++ second_streams (with_name seen (head_of (tail_of items))) rest
+    ++ second_streams (with_table_name seen (head_of (tail_of items))) rest
 
 -- all name faults but for those of streams that lead to themselves
 abbrev pub stream_plain_names : Vocabulary → List Role → Trees → List Fault

@@ -24,13 +24,13 @@ abbrev pub stream_file_names : Domain → Trees → List Fault
 stream_file_names d t = stream_plain_names (stream_vocabulary d) d.roles (body_of t)
 
 -- the streams that the text spells
-abbrev pub spelled : Domain → Trees → List stream.Stream
-spelled d t = streams_of (stream_vocabulary d) (body_of t)
+abbrev pub spelled_streams : Domain → Trees → List stream.Stream
+spelled_streams d t = streams_of (stream_vocabulary d) (body_of t)
 
 -- these are all faults of streams that lead to themselves
 abbrev pub AreCycleFaults : Domain → Trees → List Fault → Type 0
 AreCycleFaults d t faults =
-    CycleFaults StreamCycle (edges_of d (spelled d t)) (candidates_of 0 (body_of t)) faults
+    CycleFaults StreamCycle (edges_of d (spelled_streams d t)) (candidates_of 0 (body_of t)) faults
 
 -- The name fault is answered: the least but for cycles, and where there is none of them, the least of cycles.
 pub data IsNameFault (d : Domain) (t : Trees) (f : Fault) : Type 0 where
@@ -42,7 +42,7 @@ pub data IsNameFault (d : Domain) (t : Trees) (f : Fault) : Type 0 where
 pub record AreStreamsNamed (d : Domain) (t : Trees) (ss : List stream.Stream) : Type 0 where
   pub named : stream_file_names d t ≡ []
   pub acyclic : AreCycleFaults d t []
-  pub streams : ss ≡ spelled d t
+  pub streams : ss ≡ spelled_streams d t
 
 -- of a text without form faults
 abbrev pub StreamsReadNamed : Domain → Trees → Result (List stream.Stream) Fault → Type 0

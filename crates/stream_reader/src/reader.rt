@@ -2,7 +2,7 @@
 ghost use Rattle.std.specs.Prelude.{IfOk};
 ghost use Rattle.sexpr_text.specs.Trees.{tree};
 ghost use Rattle.task_model.specs.Fit.{IsFitDomain};
-ghost use Rattle.name_tables.specs.Sizes.{IsBounded};
+ghost use Rattle.name_tables.specs.Sizes.{IsBoundedTree};
 ghost use Rattle.stream_reader.specs.Fitness.{AreFitOver};
 ghost use Rattle.stream_reader.specs.Reading as specs;
 
@@ -64,7 +64,7 @@ fn read(alloc: Global, domain: &Domain, text: &Tree) -> Result<Seq<Stream>, Inpu
 pub fn read_streams(alloc: Global, domain: &Domain, text: &Tree) -> Result<Seq<Stream>, InputFault>
     ensures reads { specs.StreamsRead domain.now (tree text.now) result }
     // Over a fit domain, the streams of a tree as texts of at most 4 MiB give it are fit.
-    ensures fit { IfOk result (λ streams. IsFitDomain domain.now → IsBounded (tree text.now)
+    ensures fit { IfOk result (λ streams. IsFitDomain domain.now → IsBoundedTree (tree text.now)
         → AreFitOver domain.now streams) }
 {
     read(alloc, domain, text)

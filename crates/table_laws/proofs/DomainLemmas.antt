@@ -13,7 +13,7 @@ use Rattle.form_reader.specs.declared.items.Item.{Item}
 use Rattle.form_reader.specs.declared.items.Item.TheVariants as item
 use Rattle.name_tables.proofs.NamesLemmas.{name_itself, same_name}
 use Rattle.name_tables.specs.Declarations.{signature_list}
-use Rattle.name_tables.specs.Names.{Signed, has_name, with_name, with_signature}
+use Rattle.name_tables.specs.Names.{Signed, has_name, with_table_name, with_signature}
 use Rattle.name_tables.specs.Texts.{body_of}
 use Rattle.name_tables.specs.Variables.{named_words}
 use Rattle.name_tables.specs.Vocabulary.{with_total_cost}
@@ -214,7 +214,7 @@ module _ (body : Trees) (n : List ℕ) where
   function_names = (λ h. forth (with_forth all.functions.names (codes "total-cost") n (sym named ∙ h)), λ g. named ∙ back g)
     where
       named : has_name n (with_total_cost all).functions.names
-          ≡ has_name n (with_name all.functions.names (codes "total-cost"))
+          ≡ has_name n (with_table_name all.functions.names (codes "total-cost"))
       named = ap (has_name n) (signature_names all.functions (codes "total-cost") 0)
 
       given : (has_name n [] ≡ true) ⊎ IsDeclaredIn (codes ":functions") body n → IsFunctionName body n
@@ -226,7 +226,7 @@ module _ (body : Trees) (n : List ℕ) where
           given (items_forth (codes ":functions") DeclaredIn (λ v. v.functions.names) functions_filled no_names body n h)
       forth (inr e) = inl e
 
-      back : IsFunctionName body n → has_name n (with_name all.functions.names (codes "total-cost")) ≡ true
+      back : IsFunctionName body n → has_name n (with_table_name all.functions.names (codes "total-cost")) ≡ true
       back (inl e) = with_puts all.functions.names (codes "total-cost") n e
       back (inr g) =
           with_keeps all.functions.names (codes "total-cost") n

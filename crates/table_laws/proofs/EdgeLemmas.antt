@@ -9,7 +9,7 @@ use Rattle.form_reader.specs.declared.items.Item.{Item}
 use Rattle.form_reader.specs.declared.items.Item.TheVariants as item
 use Rattle.name_tables.proofs.FitDeclared.{put_long}
 use Rattle.name_tables.specs.Declarations.{number_put}
-use Rattle.name_tables.specs.Graphs.{leads}
+use Rattle.name_tables.specs.Graphs.{has_edge}
 use Rattle.name_tables.specs.Variables.{named_sorts, named_words, sort_of}
 use Rattle.domain_reader.proofs.FitEdges.{put_gets, put_keeps, put_leads}
 use Rattle.domain_reader.specs.Cycles.{edge_put, edges_each, edges_in, is_types}
@@ -34,34 +34,34 @@ module _ (sorts : List (List ℕ)) where
   both_zero : (a b : ℕ) → a ≡ 0 → b ≡ 0 → ((a == 0) && (b == 0)) ≡ true
   both_zero a b e f = ap (λ x. x && (b == 0)) (eq-eqb a 0 e) ∙ eq-eqb b 0 f
 
-  edge_forth : (edges : List (List ℕ)) (below above a b : ℕ) → leads (edge_put edges below above) a b ≡ true
-      → (leads edges a b ≡ true) ⊎ ((a ≡ below) × (b ≡ above) × NotBoth below above)
+  edge_forth : (edges : List (List ℕ)) (below above a b : ℕ) → has_edge (edge_put edges below above) a b ≡ true
+      → (has_edge edges a b ≡ true) ⊎ ((a ≡ below) × (b ≡ above) × NotBoth below above)
   edge_forth edges below above a b =
       elim ((below == 0) && (above == 0)) as
-      (λ x. ((below == 0) && (above == 0)) ≡ x → leads (cond x edges (number_put edges below above)) a b ≡ true
-      → (leads edges a b ≡ true) ⊎ ((a ≡ below) × (b ≡ above) × NotBoth below above)) [
+      (λ x. ((below == 0) && (above == 0)) ≡ x → has_edge (cond x edges (number_put edges below above)) a b ≡ true
+      → (has_edge edges a b ≡ true) ⊎ ((a ≡ below) × (b ≡ above) × NotBoth below above)) [
         | true ↦ λ _ h. inl h
         | false ↦ λ e h. by e (put_leads edges below above a b h)
       ] refl
     where
-      by : ((below == 0) && (above == 0)) ≡ false → (leads edges a b ≡ true) ⊎ ((a ≡ below) × (b ≡ above))
-          → (leads edges a b ≡ true) ⊎ ((a ≡ below) × (b ≡ above) × NotBoth below above)
+      by : ((below == 0) && (above == 0)) ≡ false → (has_edge edges a b ≡ true) ⊎ ((a ≡ below) × (b ≡ above))
+          → (has_edge edges a b ≡ true) ⊎ ((a ≡ below) × (b ≡ above) × NotBoth below above)
       by e (inl old) = inl old
       by e (inr new) = inr (new.0, new.1, λ zeros. false≢true (sym e ∙ both_zero below above zeros.0 zeros.1))
 
-  edge_keeps : (edges : List (List ℕ)) (below above a b : ℕ) → leads edges a b ≡ true
-      → leads (edge_put edges below above) a b ≡ true
+  edge_keeps : (edges : List (List ℕ)) (below above a b : ℕ) → has_edge edges a b ≡ true
+      → has_edge (edge_put edges below above) a b ≡ true
   edge_keeps edges below above a b h =
-      elim ((below == 0) && (above == 0)) as (λ x. leads (cond x edges (number_put edges below above)) a b ≡ true) [
+      elim ((below == 0) && (above == 0)) as (λ x. has_edge (cond x edges (number_put edges below above)) a b ≡ true) [
         | true ↦ h
         | false ↦ put_keeps edges below above a b h
       ]
 
   edge_gets : (edges : List (List ℕ)) (below above : ℕ) → below < length edges → NotBoth below above
-      → leads (edge_put edges below above) below above ≡ true
+      → has_edge (edge_put edges below above) below above ≡ true
   edge_gets edges below above lt proper =
       elim ((below == 0) && (above == 0)) as
-      (λ x. ((below == 0) && (above == 0)) ≡ x → leads (cond x edges (number_put edges below above)) below above ≡ true) [
+      (λ x. ((below == 0) && (above == 0)) ≡ x → has_edge (cond x edges (number_put edges below above)) below above ≡ true) [
         | true ↦ λ e. absurd (proper (zero_both below above e))
         | false ↦ λ _. put_gets edges below above lt
       ] refl
@@ -78,24 +78,24 @@ module _ (sorts : List (List ℕ)) where
   PutBy a b ns ss = (n : List ℕ) × Paired n b ns ss × (a ≡ sort_of sorts n) × NotBoth a b
 
   each_forth : (ns : List (List ℕ)) (ss : List ℕ) (edges : List (List ℕ)) (a b : ℕ)
-      → leads (edges_each sorts edges ns ss) a b ≡ true → (leads edges a b ≡ true) ⊎ PutBy a b ns ss
+      → has_edge (edges_each sorts edges ns ss) a b ≡ true → (has_edge edges a b ≡ true) ⊎ PutBy a b ns ss
   each_forth [] ss edges a b h = inl h
   each_forth (n ∷ ns) [] edges a b h = inl h
   each_forth (n ∷ ns) (s ∷ ss) edges a b h = by (each_forth ns ss (edge_put edges (sort_of sorts n) s) a b h)
     where
-      front : (leads edges a b ≡ true) ⊎ ((a ≡ sort_of sorts n) × (b ≡ s) × NotBoth (sort_of sorts n) s)
-          → (leads edges a b ≡ true) ⊎ PutBy a b (n ∷ ns) (s ∷ ss)
+      front : (has_edge edges a b ≡ true) ⊎ ((a ≡ sort_of sorts n) × (b ≡ s) × NotBoth (sort_of sorts n) s)
+          → (has_edge edges a b ≡ true) ⊎ PutBy a b (n ∷ ns) (s ∷ ss)
       front (inl old) = inl old
       front (inr new) =
           inr (n, inl (refl, new.1), new.0, λ zeros. new.2 (sym new.0 ∙ zeros.0, sym new.1 ∙ zeros.1))
 
-      by : (leads (edge_put edges (sort_of sorts n) s) a b ≡ true) ⊎ PutBy a b ns ss
-          → (leads edges a b ≡ true) ⊎ PutBy a b (n ∷ ns) (s ∷ ss)
+      by : (has_edge (edge_put edges (sort_of sorts n) s) a b ≡ true) ⊎ PutBy a b ns ss
+          → (has_edge edges a b ≡ true) ⊎ PutBy a b (n ∷ ns) (s ∷ ss)
       by (inl first) = front (edge_forth edges (sort_of sorts n) s a b first)
       by (inr g) = inr (g.0, inr g.1, g.2, g.3)
 
-  each_keeps : (ns : List (List ℕ)) (ss : List ℕ) (edges : List (List ℕ)) (a b : ℕ) → leads edges a b ≡ true
-      → leads (edges_each sorts edges ns ss) a b ≡ true
+  each_keeps : (ns : List (List ℕ)) (ss : List ℕ) (edges : List (List ℕ)) (a b : ℕ) → has_edge edges a b ≡ true
+      → has_edge (edges_each sorts edges ns ss) a b ≡ true
   each_keeps [] ss edges a b h = h
   each_keeps (n ∷ ns) [] edges a b h = h
   each_keeps (n ∷ ns) (s ∷ ss) edges a b h =
@@ -110,14 +110,14 @@ module _ (sorts : List (List ℕ)) where
 
   each_gets : (ns : List (List ℕ)) (ss : List ℕ) (edges : List (List ℕ)) (n : List ℕ) (b : ℕ) → Paired n b ns ss
       → sort_of sorts n < length edges → NotBoth (sort_of sorts n) b
-      → leads (edges_each sorts edges ns ss) (sort_of sorts n) b ≡ true
+      → has_edge (edges_each sorts edges ns ss) (sort_of sorts n) b ≡ true
   each_gets [] ss edges n b p lt proper = absurd p
   each_gets (m ∷ ns) [] edges n b p lt proper = absurd p
   each_gets (m ∷ ns) (s ∷ ss) edges n b (inl here) lt proper =
       let same : sort_of sorts n ≡ sort_of sorts m = ap (sort_of sorts) here.0 in
       each_keeps ns ss (edge_put edges (sort_of sorts m) s) (sort_of sorts n) b
-      (subst (λ x. leads (edge_put edges (sort_of sorts m) s) x b ≡ true) (sym same)
-      (subst (λ x. leads (edge_put edges (sort_of sorts m) s) (sort_of sorts m) x ≡ true) (sym here.1)
+      (subst (λ x. has_edge (edge_put edges (sort_of sorts m) s) x b ≡ true) (sym same)
+      (subst (λ x. has_edge (edge_put edges (sort_of sorts m) s) (sort_of sorts m) x ≡ true) (sym here.1)
       (edge_gets edges (sort_of sorts m) s (subst (λ x. x < length edges) same lt)
       (λ zeros. proper (same ∙ zeros.0, here.1 ∙ zeros.1)))))
   each_gets (m ∷ ns) (s ∷ ss) edges n b (inr later) lt proper =
@@ -139,14 +139,14 @@ module _ (sorts : List (List ℕ)) (object : sort_of sorts (codes "object") ≡ 
   abbrev pub Listed : Trees → Type 0
   Listed body = IsListedUnder body sorts a b
 
-  item_forth : (edges : List (List ℕ)) (items : Trees) → leads (put_item sorts edges items) a b ≡ true
-      → (leads edges a b ≡ true)
+  item_forth : (edges : List (List ℕ)) (items : Trees) → has_edge (put_item sorts edges items) a b ≡ true
+      → (has_edge edges a b ≡ true)
       ⊎ ((head_of items ≡ codes ":types") × PutBy sorts a b (named_words Start (tail_of items)) (named_sorts sorts Start 0 (tail_of items)))
   item_forth edges items =
       elim (is_types (domain_item_of (head_of items))) as
       (λ x. is_types (domain_item_of (head_of items)) ≡ x
-      → leads (cond x (edges_each sorts edges (named_words Start (tail_of items)) (named_sorts sorts Start 0 (tail_of items))) edges) a b ≡ true
-      → (leads edges a b ≡ true)
+      → has_edge (cond x (edges_each sorts edges (named_words Start (tail_of items)) (named_sorts sorts Start 0 (tail_of items))) edges) a b ≡ true
+      → (has_edge edges a b ≡ true)
       ⊎ ((head_of items ≡ codes ":types") × PutBy sorts a b (named_words Start (tail_of items)) (named_sorts sorts Start 0 (tail_of items)))) [
         | true ↦ λ e h. by (types_key (domain_item_of (head_of items)) (head_of items) (key_of_domain (head_of items)) e)
             (each_forth sorts (named_words Start (tail_of items)) (named_sorts sorts Start 0 (tail_of items)) edges a b h)
@@ -154,16 +154,16 @@ module _ (sorts : List (List ℕ)) (object : sort_of sorts (codes "object") ≡ 
       ] refl
     where
       by : head_of items ≡ codes ":types"
-          → (leads edges a b ≡ true) ⊎ PutBy sorts a b (named_words Start (tail_of items)) (named_sorts sorts Start 0 (tail_of items))
-          → (leads edges a b ≡ true)
+          → (has_edge edges a b ≡ true) ⊎ PutBy sorts a b (named_words Start (tail_of items)) (named_sorts sorts Start 0 (tail_of items))
+          → (has_edge edges a b ≡ true)
           ⊎ ((head_of items ≡ codes ":types") × PutBy sorts a b (named_words Start (tail_of items)) (named_sorts sorts Start 0 (tail_of items)))
       by head (inl old) = inl old
       by head (inr new) = inr (head, new)
 
-  item_keeps : (edges : List (List ℕ)) (items : Trees) → leads edges a b ≡ true → leads (put_item sorts edges items) a b ≡ true
+  item_keeps : (edges : List (List ℕ)) (items : Trees) → has_edge edges a b ≡ true → has_edge (put_item sorts edges items) a b ≡ true
   item_keeps edges items h =
       elim (is_types (domain_item_of (head_of items))) as
-      (λ x. leads (cond x (edges_each sorts edges (named_words Start (tail_of items)) (named_sorts sorts Start 0 (tail_of items))) edges) a b ≡ true) [
+      (λ x. has_edge (cond x (edges_each sorts edges (named_words Start (tail_of items)) (named_sorts sorts Start 0 (tail_of items))) edges) a b ≡ true) [
         | true ↦ each_keeps sorts (named_words Start (tail_of items)) (named_sorts sorts Start 0 (tail_of items)) edges a b h
         | false ↦ h
       ]
@@ -179,23 +179,23 @@ module _ (sorts : List (List ℕ)) (object : sort_of sorts (codes "object") ≡ 
   -- a name of a group in the row of the item, with its type, puts the edge
   item_gets : (edges : List (List ℕ)) (items : Trees) (name type : List ℕ) → head_of items ≡ codes ":types"
       → HasTyped Start name type (tail_of items) → a ≡ sort_of sorts name → b ≡ sort_of sorts type → ¬ ((a ≡ 0) × (b ≡ 0))
-      → a < length edges → leads (put_item sorts edges items) a b ≡ true
+      → a < length edges → has_edge (put_item sorts edges items) a b ≡ true
   item_gets edges items name type head typed low high proper lt =
       let row = tail_of items in
       let pair = (all_back sorts object name b row).2 (type, typed, high) in
       let put = each_gets sorts (named_words Start row) (named_sorts sorts Start 0 row) edges name b pair
       (subst (λ x. x < length edges) low lt) (λ zeros. proper (low ∙ zeros.0, zeros.1)) in
       subst
-      (λ x. leads (cond x (edges_each sorts edges (named_words Start row) (named_sorts sorts Start 0 row)) edges) a b ≡ true)
+      (λ x. has_edge (cond x (edges_each sorts edges (named_words Start row) (named_sorts sorts Start 0 row)) edges) a b ≡ true)
       (sym (ap (λ w. is_types (domain_item_of w)) head ∙ ap is_types types_item))
-      (subst (λ x. leads (edges_each sorts edges (named_words Start row) (named_sorts sorts Start 0 row)) x b ≡ true) (sym low) put)
+      (subst (λ x. has_edge (edges_each sorts edges (named_words Start row) (named_sorts sorts Start 0 row)) x b ≡ true) (sym low) put)
 
-  pub in_forth : (edges : List (List ℕ)) (body : Trees) → leads (edges_in sorts edges body) a b ≡ true
-      → (leads edges a b ≡ true) ⊎ Listed body
+  pub in_forth : (edges : List (List ℕ)) (body : Trees) → has_edge (edges_in sorts edges body) a b ≡ true
+      → (has_edge edges a b ≡ true) ⊎ Listed body
   in_forth edges nothing h = inl h
   in_forth edges (word text at rest) h = later (in_forth edges rest h)
     where
-      later : (leads edges a b ≡ true) ⊎ Listed rest → (leads edges a b ≡ true) ⊎ Listed (word text at rest)
+      later : (has_edge edges a b ≡ true) ⊎ Listed rest → (has_edge edges a b ≡ true) ⊎ Listed (word text at rest)
       later (inl old) = inl old
       later (inr l) = inr (record {
         row = l.row;
@@ -209,9 +209,9 @@ module _ (sorts : List (List ℕ)) (object : sort_of sorts (codes "object") ≡ 
       })
   in_forth edges (list items at rest) h = by (in_forth (put_item sorts edges items) rest h)
     where
-      front : (leads edges a b ≡ true)
+      front : (has_edge edges a b ≡ true)
           ⊎ ((head_of items ≡ codes ":types") × PutBy sorts a b (named_words Start (tail_of items)) (named_sorts sorts Start 0 (tail_of items)))
-          → (leads edges a b ≡ true) ⊎ Listed (list items at rest)
+          → (has_edge edges a b ≡ true) ⊎ Listed (list items at rest)
       front (inl old) = inl old
       front (inr new) =
           let typed = (all_forth sorts object new.1.0 b (tail_of items)).2 new.1.1 in
@@ -226,8 +226,8 @@ module _ (sorts : List (List ℕ)) (object : sort_of sorts (codes "object") ≡ 
             proper = new.1.3;
           })
 
-      by : (leads (put_item sorts edges items) a b ≡ true) ⊎ Listed rest
-          → (leads edges a b ≡ true) ⊎ Listed (list items at rest)
+      by : (has_edge (put_item sorts edges items) a b ≡ true) ⊎ Listed rest
+          → (has_edge edges a b ≡ true) ⊎ Listed (list items at rest)
       by (inl first) = front (item_forth edges items first)
       by (inr l) = inr (record {
         row = l.row;
@@ -240,14 +240,14 @@ module _ (sorts : List (List ℕ)) (object : sort_of sorts (codes "object") ≡ 
         proper = l.proper;
       })
 
-  pub in_keeps : (edges : List (List ℕ)) (body : Trees) → leads edges a b ≡ true → leads (edges_in sorts edges body) a b ≡ true
+  pub in_keeps : (edges : List (List ℕ)) (body : Trees) → has_edge edges a b ≡ true → has_edge (edges_in sorts edges body) a b ≡ true
   in_keeps edges nothing h = h
   in_keeps edges (word text at rest) h = in_keeps edges rest h
   in_keeps edges (list items at rest) h = in_keeps (put_item sorts edges items) rest (item_keeps edges items h)
 
   pub in_gets : (edges : List (List ℕ)) (body items : Trees) (name type : List ℕ) → HasList items body
       → head_of items ≡ codes ":types" → HasTyped Start name type (tail_of items) → a ≡ sort_of sorts name
-      → b ≡ sort_of sorts type → ¬ ((a ≡ 0) × (b ≡ 0)) → a < length edges → leads (edges_in sorts edges body) a b ≡ true
+      → b ≡ sort_of sorts type → ¬ ((a ≡ 0) × (b ≡ 0)) → a < length edges → has_edge (edges_in sorts edges body) a b ≡ true
   in_gets edges nothing items name type there head typed low high proper lt = absurd there
   in_gets edges (word text at rest) items name type there head typed low high proper lt =
       in_gets edges rest items name type there head typed low high proper lt

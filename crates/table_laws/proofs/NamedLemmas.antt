@@ -10,7 +10,7 @@ use Rattle.name_tables.proofs.FitDeclared.{declared_names, put_long}
 use Rattle.name_tables.proofs.NamesFreshLemmas.{name_new}
 use Rattle.name_tables.proofs.NamesLemmas.{name_itself, place_there, same_name}
 use Rattle.name_tables.specs.Declarations.{Typed as Table, declare, declare_each, declared_by}
-use Rattle.name_tables.specs.Names.{has_name, place_of, with_name}
+use Rattle.name_tables.specs.Names.{has_name, table_place, with_table_name}
 use Rattle.name_tables.specs.Variables.{named_words}
 use Rattle.task_model.specs.Known.{with_names}
 use Rattle.table_laws.proofs.TableLemmas.{with_forth, with_keeps, with_puts}
@@ -99,44 +99,44 @@ named_back (word text at rest) Typed n there = named_back rest Start n there
 pub with_names_forth : (ns names : List (List ℕ)) (n : List ℕ) → has_name n (with_names names ns) ≡ true
     → (has_name n names ≡ true) ⊎ Contains ns n
 with_names_forth [] names n h = inl h
-with_names_forth (m ∷ ns) names n h = by (with_names_forth ns (with_name names m) n h)
+with_names_forth (m ∷ ns) names n h = by (with_names_forth ns (with_table_name names m) n h)
   where
     front : (has_name n names ≡ true) ⊎ (n ≡ m) → (has_name n names ≡ true) ⊎ Contains (m ∷ ns) n
     front (inl old) = inl old
     front (inr same) = inr (name_front m n ns (inl same))
 
-    by : (has_name n (with_name names m) ≡ true) ⊎ Contains ns n → (has_name n names ≡ true) ⊎ Contains (m ∷ ns) n
+    by : (has_name n (with_table_name names m) ≡ true) ⊎ Contains ns n → (has_name n names ≡ true) ⊎ Contains (m ∷ ns) n
     by (inl first) = front (with_forth names m n first)
     by (inr later) = inr (name_front m n ns (inr later))
 
 pub with_names_keep : (ns names : List (List ℕ)) (n : List ℕ) → has_name n names ≡ true → has_name n (with_names names ns) ≡ true
 with_names_keep [] names n h = h
-with_names_keep (m ∷ ns) names n h = with_names_keep ns (with_name names m) n (with_keeps names m n h)
+with_names_keep (m ∷ ns) names n h = with_names_keep ns (with_table_name names m) n (with_keeps names m n h)
 
 pub with_names_put : (ns names : List (List ℕ)) (n : List ℕ) → Contains ns n → has_name n (with_names names ns) ≡ true
 with_names_put [] names n there = absurd (contains_none n there)
-with_names_put (m ∷ ns) names n there = by (name_behind m n ns there) (with_names_put ns (with_name names m) n)
+with_names_put (m ∷ ns) names n there = by (name_behind m n ns there) (with_names_put ns (with_table_name names m) n)
   where
-    by : (n ≡ m) ⊎ Contains ns n → (Contains ns n → has_name n (with_names (with_name names m) ns) ≡ true)
-        → has_name n (with_names (with_name names m) ns) ≡ true
-    by (inl same) further = with_names_keep ns (with_name names m) n (with_puts names m n same)
+    by : (n ≡ m) ⊎ Contains ns n → (Contains ns n → has_name n (with_names (with_table_name names m) ns) ≡ true)
+        → has_name n (with_names (with_table_name names m) ns) ≡ true
+    by (inl same) further = with_names_keep ns (with_table_name names m) n (with_puts names m n same)
     by (inr later) further = further later
 
-pub declare_names : (t : Table) (name : List ℕ) (sort : ℕ) → (declare t name sort).names ≡ with_name t.names name
+pub declare_names : (t : Table) (name : List ℕ) (sort : ℕ) → (declare t name sort).names ≡ with_table_name t.names name
 declare_names t name sort = declared_names t (name ∷ []) (sort ∷ []) refl
 
 -- both lists of a table are as long
 abbrev pub EvenTable : Table → Type 0
 EvenTable t = length t.names ≡ length t.sorts
 
-new_place : (name : List ℕ) (names : List (List ℕ)) → place_of name names ≡ None → has_name name names ≡ false
+new_place : (name : List ℕ) (names : List (List ℕ)) → table_place name names ≡ None → has_name name names ≡ false
 new_place name names none =
     elim (has_name name names) as (λ b. has_name name names ≡ b → b ≡ false) [
       | true ↦ λ there. let at = place_there name names there in absurd (let f = sym none ∙ at.1 in cc)
       | false ↦ λ _. refl
     ] refl
 
-even_by : (t : Table) (name : List ℕ) (sort : ℕ) (o : Option ℕ) → place_of name t.names ≡ o → EvenTable t
+even_by : (t : Table) (name : List ℕ) (sort : ℕ) (o : Option ℕ) → table_place name t.names ≡ o → EvenTable t
     → EvenTable (declared_by t name sort o)
 even_by t name sort None none even =
     let names = ap length (name_new t.names name (new_place name t.names none)) in
@@ -144,7 +144,7 @@ even_by t name sort None none even =
 even_by t name sort (Some place) at even = even ∙ sym (put_long t.sorts place sort)
 
 pub even_declare : (t : Table) (name : List ℕ) (sort : ℕ) → EvenTable t → EvenTable (declare t name sort)
-even_declare t name sort even = even_by t name sort (place_of name t.names) refl even
+even_declare t name sort even = even_by t name sort (table_place name t.names) refl even
 
 pub even_each : (ns : List (List ℕ)) (ss : List ℕ) (t : Table) → EvenTable t → EvenTable (declare_each t ns ss)
 even_each [] ss t even = even

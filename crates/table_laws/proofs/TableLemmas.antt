@@ -10,7 +10,7 @@ use Rattle.sexpr_text.specs.Trees.{Trees, nothing, word, list}
 use Rattle.form_reader.specs.Rows.{head_of, is_dash, tail_of}
 use Rattle.form_reader.specs.declared.groups.Spot.TheVariants.{Start}
 use Rattle.name_tables.proofs.NamesLemmas.{has_with, name_found, name_itself, name_there, same_name}
-use Rattle.name_tables.specs.Names.{Signed, has_name, with_name, with_signature}
+use Rattle.name_tables.specs.Names.{Signed, has_name, with_table_name, with_signature}
 use Rattle.name_tables.specs.Variables.{named_words}
 use Rattle.domain_reader.specs.Tables.{declared_arity, functions_in, predicates_in, types_in}
 use Rattle.table_laws.specs.Rows.{HasList, HasWord}
@@ -21,7 +21,7 @@ one_true false b e = inr e
 
 -- ---- a name more
 
-pub with_forth : (names : List (List ℕ)) (name n : List ℕ) → has_name n (with_name names name) ≡ true
+pub with_forth : (names : List (List ℕ)) (name n : List ℕ) → has_name n (with_table_name names name) ≡ true
     → (has_name n names ≡ true) ⊎ (n ≡ name)
 with_forth names name n =
     elim (has_name name names) as
@@ -35,18 +35,18 @@ with_forth names name n =
     pushed (inr h) = inr (same_name n name (from_or_false (bytes_eq n name) h))
 
 pub with_keeps : (names : List (List ℕ)) (name n : List ℕ) → has_name n names ≡ true
-    → has_name n (with_name names name) ≡ true
+    → has_name n (with_table_name names name) ≡ true
 with_keeps names name n h =
     elim (has_name name names) as (λ b. has_name n (cond b names (names ++ name ∷ [])) ≡ true) [
       | true ↦ h
       | false ↦ any_append_left (bytes_eq n) names (name ∷ []) h
     ]
 
-pub with_puts : (names : List (List ℕ)) (name n : List ℕ) → n ≡ name → has_name n (with_name names name) ≡ true
-with_puts names name n e = subst (λ m. has_name m (with_name names name) ≡ true) (sym e) (has_with names name)
+pub with_puts : (names : List (List ℕ)) (name n : List ℕ) → n ≡ name → has_name n (with_table_name names name) ≡ true
+with_puts names name n e = subst (λ m. has_name m (with_table_name names name) ≡ true) (sym e) (has_with names name)
 
 pub signature_names : (s : Signed) (name : List ℕ) (arity : ℕ)
-    → (with_signature s name arity).names ≡ with_name s.names name
+    → (with_signature s name arity).names ≡ with_table_name s.names name
 signature_names s name arity =
     elim (has_name name s.names) as
     (λ b. (cond b s (record { names = s.names ++ name ∷ []; arities = s.arities ++ arity ∷ [] })).names
@@ -66,13 +66,13 @@ from_has names n h = let at = name_found n names h in member_at names at.0 n at.
 -- ---- a row of types
 
 abbrev put_type : List (List ℕ) → List ℕ → List (List ℕ)
-put_type names text = cond (is_dash text) names (with_name names text)
+put_type names text = cond (is_dash text) names (with_table_name names text)
 
 put_forth : (names : List (List ℕ)) (text n : List ℕ) → has_name n (put_type names text) ≡ true
     → (has_name n names ≡ true) ⊎ ((n ≡ text) × ¬ (n ≡ codes "-"))
 put_forth names text n =
     elim (is_dash text) as
-    (λ b. is_dash text ≡ b → has_name n (cond b names (with_name names text)) ≡ true
+    (λ b. is_dash text ≡ b → has_name n (cond b names (with_table_name names text)) ≡ true
     → (has_name n names ≡ true) ⊎ ((n ≡ text) × ¬ (n ≡ codes "-"))) [
       | true ↦ λ _ h. inl h
       | false ↦ λ other h. by other (with_forth names text n h)
@@ -85,7 +85,7 @@ put_forth names text n =
 
 put_keeps : (names : List (List ℕ)) (text n : List ℕ) → has_name n names ≡ true → has_name n (put_type names text) ≡ true
 put_keeps names text n h =
-    elim (is_dash text) as (λ b. has_name n (cond b names (with_name names text)) ≡ true) [
+    elim (is_dash text) as (λ b. has_name n (cond b names (with_table_name names text)) ≡ true) [
       | true ↦ h
       | false ↦ with_keeps names text n h
     ]
@@ -93,7 +93,7 @@ put_keeps names text n h =
 put_puts : (names : List (List ℕ)) (text n : List ℕ) → n ≡ text → ¬ (n ≡ codes "-")
     → has_name n (put_type names text) ≡ true
 put_puts names text n e real =
-    elim (is_dash text) as (λ b. is_dash text ≡ b → has_name n (cond b names (with_name names text)) ≡ true) [
+    elim (is_dash text) as (λ b. is_dash text ≡ b → has_name n (cond b names (with_table_name names text)) ≡ true) [
       | true ↦ λ dash. absurd (real (e ∙ same_name text (codes "-") dash))
       | false ↦ λ _. with_puts names text n e
     ] refl

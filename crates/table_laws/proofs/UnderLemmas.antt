@@ -14,8 +14,8 @@ use Rattle.form_reader.specs.declared.groups.Spot.TheVariants.{Start}
 use Rattle.form_reader.specs.declared.items.Item.{Item}
 use Rattle.form_reader.specs.declared.items.Item.TheVariants as item
 use Rattle.name_tables.proofs.NamesLemmas.{place_within}
-use Rattle.name_tables.specs.Graphs.{HasWay, leads}
-use Rattle.name_tables.specs.Names.{has_name, place_of, with_name}
+use Rattle.name_tables.specs.Graphs.{HasWay, has_edge}
+use Rattle.name_tables.specs.Names.{has_name, table_place, with_table_name}
 use Rattle.name_tables.specs.Texts.{body_of}
 use Rattle.name_tables.specs.Variables.{sort_of}
 use Rattle.domain_reader.proofs.FitSorts.{above_way, sort_at, sorts_named, way_above}
@@ -29,12 +29,12 @@ use Rattle.table_laws.proofs.EdgeLemmas.{in_forth, in_gets, in_keeps}
 
 -- ---- before `:types` is read
 
-under_forth : (ns : List (List ℕ)) (a b : ℕ) → leads (under_object ns) a b ≡ true → (a < length ns) × (b ≡ 0)
+under_forth : (ns : List (List ℕ)) (a b : ℕ) → has_edge (under_object ns) a b ≡ true → (a < length ns) × (b ≡ 0)
 under_forth [] a b h = absurd (false≢true h)
 under_forth (n ∷ ns) zero b h = (omega arith, eqb-true b 0 (from_or_false (b == 0) h))
 under_forth (n ∷ ns) (suc a) b h = let more = under_forth ns a b h in (omega (arith, more.0), more.1)
 
-under_back : (ns : List (List ℕ)) (a : ℕ) → a < length ns → leads (under_object ns) a 0 ≡ true
+under_back : (ns : List (List ℕ)) (a : ℕ) → a < length ns → has_edge (under_object ns) a 0 ≡ true
 under_back [] a lt = absurd (omega (arith, lt))
 under_back (n ∷ ns) zero lt = refl
 under_back (n ∷ ns) (suc a) lt = under_back ns a (omega (arith, lt))
@@ -43,12 +43,12 @@ under_long : (ns : List (List ℕ)) → length (under_object ns) ≡ length ns
 under_long [] = refl
 under_long (n ∷ ns) = ap suc (under_long ns)
 
-first_forth : (ns : List (List ℕ)) (a b : ℕ) → leads (first_edges ns) a b ≡ true → (0 < a) × (a < length ns) × (b ≡ 0)
+first_forth : (ns : List (List ℕ)) (a b : ℕ) → has_edge (first_edges ns) a b ≡ true → (0 < a) × (a < length ns) × (b ≡ 0)
 first_forth [] a b h = absurd (false≢true h)
 first_forth (n ∷ ns) zero b h = absurd (false≢true h)
 first_forth (n ∷ ns) (suc a) b h = let more = under_forth ns a b h in (omega arith, omega (arith, more.0), more.1)
 
-first_back : (ns : List (List ℕ)) (a : ℕ) → 0 < a → a < length ns → leads (first_edges ns) a 0 ≡ true
+first_back : (ns : List (List ℕ)) (a : ℕ) → 0 < a → a < length ns → has_edge (first_edges ns) a 0 ≡ true
 first_back [] a some lt = absurd (omega (arith, lt))
 first_back (n ∷ ns) zero some lt = absurd (omega (arith, some))
 first_back (n ∷ ns) (suc a) some lt = under_back ns a (omega (arith, lt))
@@ -61,29 +61,29 @@ first_long (n ∷ ns) = ap suc (under_long ns)
 
 sort_within : (sorts : List (List ℕ)) (n : List ℕ) → 0 < length sorts → sort_of sorts n < length sorts
 sort_within sorts n some =
-    elim (place_of n sorts) as (λ o. place_of n sorts ≡ o → unwrap_or o 0 < length sorts) [
+    elim (table_place n sorts) as (λ o. table_place n sorts ≡ o → unwrap_or o 0 < length sorts) [
       | None ↦ λ _. some
       | Some place ↦ λ e. place_within n sorts place e
     ] refl
 
 module _ (sorts : List (List ℕ)) (object : sort_of sorts (codes "object") ≡ 0) (some : 0 < length sorts) (body : Trees) where
-  step_forth : (a b : ℕ) → leads (type_edges sorts body) a b ≡ true → IsDirectlyUnder body sorts a b
+  step_forth : (a b : ℕ) → has_edge (type_edges sorts body) a b ≡ true → IsDirectlyUnder body sorts a b
   step_forth a b h = by (in_forth sorts object a b (first_edges sorts) body h)
     where
-      by : (leads (first_edges sorts) a b ≡ true) ⊎ IsListedUnder body sorts a b → IsDirectlyUnder body sorts a b
+      by : (has_edge (first_edges sorts) a b ≡ true) ⊎ IsListedUnder body sorts a b → IsDirectlyUnder body sorts a b
       by (inl first) = inl (first_forth sorts a b first)
       by (inr listed) = inr listed
 
-  step_back : (a b : ℕ) → IsDirectlyUnder body sorts a b → leads (type_edges sorts body) a b ≡ true
+  step_back : (a b : ℕ) → IsDirectlyUnder body sorts a b → has_edge (type_edges sorts body) a b ≡ true
   step_back a b (inl under) =
       in_keeps sorts object a b (first_edges sorts) body
-      (subst (λ x. leads (first_edges sorts) a x ≡ true) (sym under.2) (first_back sorts a under.0 under.1))
+      (subst (λ x. has_edge (first_edges sorts) a x ≡ true) (sym under.2) (first_back sorts a under.0 under.1))
   step_back a b (inr l) =
       in_gets sorts object a b (first_edges sorts) body l.item.items l.name l.type l.item.there l.item.head
       (subst (HasTyped Start l.name l.type) l.item.is l.typed) l.low_is l.high_is l.proper
       (subst (λ x. a < x) (sym (first_long sorts)) (subst (λ x. x < length sorts) (sym l.low_is) (sort_within sorts l.name some)))
 
-  way_forth : (a : ℕ) (between : List ℕ) (b : ℕ) → LeadsAlong (leads (type_edges sorts body)) a between b → IsUnder body sorts a b
+  way_forth : (a : ℕ) (between : List ℕ) (b : ℕ) → LeadsAlong (has_edge (type_edges sorts body)) a between b → IsUnder body sorts a b
   way_forth a [] b way = directly (step_forth a b way)
   way_forth a (m ∷ ms) b way = further (step_forth a m way.0) (way_forth m ms b way.1)
 
@@ -97,16 +97,16 @@ module _ (sorts : List (List ℕ)) (object : sort_of sorts (codes "object") ≡ 
 abbrev Begins : List (List ℕ) → Type 0
 Begins names = (tail : List (List ℕ)) × (names ≡ codes "object" ∷ tail)
 
-begins_with : (names : List (List ℕ)) (name : List ℕ) → Begins names → Begins (with_name names name)
+begins_with : (names : List (List ℕ)) (name : List ℕ) → Begins names → Begins (with_table_name names name)
 begins_with names name begins =
     elim (has_name name names) as (λ b. Begins (cond b names (names ++ name ∷ []))) [
       | true ↦ begins
       | false ↦ (begins.0 ++ name ∷ [], ap (λ ns. ns ++ name ∷ []) begins.1)
     ]
 
-begins_put : (names : List (List ℕ)) (text : List ℕ) → Begins names → Begins (cond (is_dash text) names (with_name names text))
+begins_put : (names : List (List ℕ)) (text : List ℕ) → Begins names → Begins (cond (is_dash text) names (with_table_name names text))
 begins_put names text begins =
-    elim (is_dash text) as (λ b. Begins (cond b names (with_name names text))) [
+    elim (is_dash text) as (λ b. Begins (cond b names (with_table_name names text))) [
       | true ↦ begins
       | false ↦ begins_with names text begins
     ]
@@ -115,7 +115,7 @@ begins_types : (t : Trees) (names : List (List ℕ)) → Begins names → Begins
 begins_types nothing names begins = begins
 begins_types (list items at rest) names begins = begins_types rest names begins
 begins_types (word text at rest) names begins =
-    begins_types rest (cond (is_dash text) names (with_name names text)) (begins_put names text begins)
+    begins_types rest (cond (is_dash text) names (with_table_name names text)) (begins_put names text begins)
 
 begins_item : (v : Vocabulary) (i : Item) (row : Trees) → Begins v.sorts → Begins (with_item v i row).sorts
 begins_item v item.Types row begins = begins_types row v.sorts begins

@@ -4,14 +4,14 @@ use Rattle.std.proofs.lemmas.List.{append-nil}
 use Rattle.std.proofs.lemmas.List.Elements.{All-contains}
 use Rattle.std.proofs.lemmas.Option.{slice_get_within, slice_get-map}
 use Rattle.std.specs.Option.{option_map}
-use Rattle.instance_queue.specs.Level.{instances_of}
+use Rattle.instance_queue.specs.Level.{due_instances}
 use Rattle.instance_queue.specs.declared.due.Due.{Due}
 use Rattle.lemmas.proofs.Members.{append_cases, get_append, get_behind, member_at}
 use Rattle.lemmas.proofs.Options.{and_then_some}
 use Rattle.mode_turns.proofs.ModesLemmas.{as_family}
 use Rattle.mode_turns.specs.Modes.{TurnOf, nothing_kept}
 use Rattle.pools.proofs.PoolsLemmas.{server_is, workers_fit}
-use Rattle.pools.specs.Pools.{AreFitPools, Workers, child_for, has_stream, server, shares_of, streams_of, workers_of}
+use Rattle.pools.specs.Pools.{AreFitPools, Workers, child_for, has_stream, server, shares_of, asked_streams, workers_of}
 use Rattle.round_run.proofs.DialogueRequestLemmas.{AreReplies, closed_by, last_join, no_requests, requests_join, stream_shown}
 use Rattle.round_run.specs.Dialogue.{IsOneOf, Request, called_stream, last_round, requests_after, requests_of, workers_in}
 use Rattle.lemmas.proofs.Counts.{count_whole}
@@ -90,14 +90,14 @@ module _ (task : Task) where
 abbrev due_of : Instance → Due
 due_of i = record { instance = i; turn = 0 }
 
-instances_are : (list : List Instance) → instances_of (map due_of list) ≡ list
+instances_are : (list : List Instance) → due_instances (map due_of list) ≡ list
 instances_are [] = refl
 instances_are (i ∷ list) = ap (λ is. i ∷ is) (instances_are list)
 
 abbrev streams_in : List Instance → List ℕ
 streams_in = map (λ (i : Instance). i.stream)
 
-streams_are : (list : List Instance) → streams_of (map due_of list) ≡ streams_in list
+streams_are : (list : List Instance) → asked_streams (map due_of list) ≡ streams_in list
 streams_are [] = refl
 streams_are (i ∷ list) = ap (λ ss. i.stream ∷ ss) (streams_are list)
 
@@ -295,7 +295,7 @@ module _ (task : Task) (pools : List Workers) (fit : IsFit task) (able : AreFitP
     fallback_served before tried now cut (reset first more) named = mark_served entry.Reset refl
     fallback_served before tried now cut (level this) named = level_served before now cut this named
 
-    batches_served : (real : ℕ) (entries : List dreams.Entry) (sent : List Sent) (before now : List Entry) (after : List Sent) (cut : Bool)
+    batches_served : (real : ℕ) (entries : List dreams.SupposedEntry) (sent : List Sent) (before now : List Entry) (after : List Sent) (cut : Bool)
         → AreBatches limits task real entries sent before now after cut → NameStreams task now → AreServed now
     batches_served real entries sent before now after cut (finished none) named = none_served
     batches_served real entries sent before now after cut (last next is more batch) named = batch_served before now _ batch named
@@ -305,9 +305,9 @@ module _ (task : Task) (pools : List Workers) (fit : IsFit task) (able : AreFitP
 
     -- ---- turns
 
-    dream_served : (asks : ℕ → List dreams.Entry → List Entry → List Entry → List Sent → Bool → Type 0)
+    dream_served : (asks : ℕ → List dreams.SupposedEntry → List Entry → List Entry → List Sent → Bool → Type 0)
         (tried : List Instance) (before now : List Entry) (next : List Instance) (cut : Bool)
-        → ((real : ℕ) (entries : List dreams.Entry) (b n : List Entry) (s : List Sent) (c : Bool) → asks real entries b n s c
+        → ((real : ℕ) (entries : List dreams.SupposedEntry) (b n : List Entry) (s : List Sent) (c : Bool) → asks real entries b n s c
         → NameStreams task n → AreServed n)
         → IsDreamTurn limits task asks tried before now next cut → NameStreams task now → AreServed now
     dream_served asks tried before now next cut each this =

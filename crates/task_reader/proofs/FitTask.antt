@@ -9,7 +9,7 @@ use Rattle.task_model.specs.Fit.{IsFitDomain}
 use Rattle.task_model.specs.declared.domain.Domain.{Domain}
 use Rattle.task_model.specs.declared.stream.Stream.{Stream}
 use Rattle.task_model.specs.declared.task.Problem.{Problem}
-use Rattle.name_tables.specs.Sizes.{IsBounded}
+use Rattle.name_tables.specs.Sizes.{IsBoundedTree}
 use Rattle.domain_reader.proofs.FitDomain.{fit_domain}
 use Rattle.problem_reader.specs.Fitness.{IsFitOver, IsFitRead}
 use Rattle.problem_reader.proofs.FitProblem.{read_problems_fit}
@@ -22,7 +22,7 @@ use Rattle.task_reader.specs.Texts.{SpellsDomain, SpellsProblem, SpellsStreams}
 
 -- a list, no larger and no deeper than texts give it
 record IsTree (t : Trees) : Type 0 where
-  bounded : IsBounded t
+  bounded : IsBoundedTree t
   there : ¬ (t ≡ nothing)
 
 tree_of : (bytes : List ℕ) (t : Trees) → IsShort bytes → reading bytes ≡ Ok t → IsTree t

@@ -27,7 +27,7 @@ use Rattle.name_tables.specs.Texts.{body_of}
 use Rattle.problem_reader.specs.Problems as problems
 use Rattle.stream_reader.specs.Reading as streams
 use Rattle.task_reader.specs.Refusals.{IsRefused, SpellsTree}
-use Rattle.task_reader.specs.Tasks.{Spells}
+use Rattle.task_reader.specs.Tasks.{SpellsTask}
 use Rattle.task_reader.specs.Texts.{SpellsDomain, SpellsProblem, SpellsStreams, RefusesDomain, RefusesProblem, RefusesStreams}
 use Rattle.task_reader.specs.declared.refusal.FaultKind.{FaultKind}
 use Rattle.task_reader.specs.declared.refusal.FaultKind.TheVariants.{BadByte, Unclosed, Extra, TooDeep, Input}
@@ -212,7 +212,7 @@ streams_not_refused d bytes ss kind place s r =
 
 -- ---- tasks
 
-pub one_task : (a b c : List ℕ) (t u : Task) → Spells a b c t → Spells a b c u → t ≡ u
+pub one_task : (a b c : List ℕ) (t u : Task) → SpellsTask a b c t → SpellsTask a b c u → t ≡ u
 one_task a b c t u s r =
     let domain : t.domain ≡ u.domain = text_one_domain a t.domain u.domain s.domain r.domain in
     let problem : t.problem ≡ u.problem =
@@ -221,7 +221,7 @@ one_task a b c t u s r =
     text_one_streams t.domain c t.streams u.streams s.streams (subst (λ d. SpellsStreams d c u.streams) (sym domain) r.streams) in
     λ i. record { domain = domain i; problem = problem i; streams = streams i }
 
-pub task_not_refused : (a b c : List ℕ) (task : Task) → Spells a b c task → AreNotRefused a b c
+pub task_not_refused : (a b c : List ℕ) (task : Task) → SpellsTask a b c task → AreNotRefused a b c
 task_not_refused a b c task s = record {
   first = λ kind place r. domain_not_refused a task.domain kind place s.domain r;
   second = λ kind place r.

@@ -3,7 +3,7 @@ use Rattle.std.specs.Prelude.{ℕ, ◌≤◌, List, length}
 use Rattle.task_model.specs.Fit.{IsFit}
 use Rattle.task_model.specs.declared.domain.Domain.{Domain}
 use Rattle.task_model.specs.declared.task.Task.{Task}
-use Rattle.task_reader.specs.Tasks.{Spells}
+use Rattle.task_reader.specs.Tasks.{SpellsTask}
 use Rattle.task_reader.specs.Texts.{SpellsDomain}
 use Rattle.task_reader.specs.declared.texts.TheConstants.{TEXT_BYTES}
 
@@ -21,4 +21,4 @@ pub record HasShortText (d : Domain) : Type 0 where
 abbrev pub SpelledTasksAreFit : Type 0
 SpelledTasksAreFit =
     (domain_bytes problem_bytes stream_bytes : List ℕ) (task : Task) → IsShort domain_bytes → IsShort problem_bytes
-    → IsShort stream_bytes → Spells domain_bytes problem_bytes stream_bytes task → IsFit task
+    → IsShort stream_bytes → SpellsTask domain_bytes problem_bytes stream_bytes task → IsFit task

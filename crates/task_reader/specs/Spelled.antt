@@ -1,15 +1,15 @@
 -- What texts spell is one thing, and what spells isn't refused.
 use Rattle.std.specs.Prelude.{◌≡◌, ℕ, List}
 use Rattle.task_model.specs.declared.task.Task.{Task}
-use Rattle.task_reader.specs.Tasks.{Spells, RefusesSecond, RefusesThird}
+use Rattle.task_reader.specs.Tasks.{SpellsTask, RefusesSecond, RefusesThird}
 use Rattle.task_reader.specs.Texts.{RefusesDomain}
 use Rattle.task_reader.specs.declared.refusal.FaultKind.{FaultKind}
 
 -- three texts spell one task at most
 abbrev pub TextsSpellOneTask : Type 0
 TextsSpellOneTask =
-    (domain_bytes problem_bytes stream_bytes : List ℕ) (t u : Task) → Spells domain_bytes problem_bytes stream_bytes t
-    → Spells domain_bytes problem_bytes stream_bytes u → t ≡ u
+    (domain_bytes problem_bytes stream_bytes : List ℕ) (t u : Task) → SpellsTask domain_bytes problem_bytes stream_bytes t
+    → SpellsTask domain_bytes problem_bytes stream_bytes u → t ≡ u
 
 -- None of the texts is refused, whichever fault one looks for.
 pub record AreNotRefused (domain_bytes problem_bytes stream_bytes : List ℕ) : Type 0 where
@@ -23,4 +23,4 @@ pub record AreNotRefused (domain_bytes problem_bytes stream_bytes : List ℕ) : 
 abbrev pub SpelledTextsAreNotRefused : Type 0
 SpelledTextsAreNotRefused =
     (domain_bytes problem_bytes stream_bytes : List ℕ) (task : Task)
-    → Spells domain_bytes problem_bytes stream_bytes task → AreNotRefused domain_bytes problem_bytes stream_bytes
+    → SpellsTask domain_bytes problem_bytes stream_bytes task → AreNotRefused domain_bytes problem_bytes stream_bytes

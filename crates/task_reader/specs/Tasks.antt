@@ -7,7 +7,7 @@ use Rattle.task_reader.specs.declared.refusal.FaultKind.{FaultKind}
 use Rattle.task_reader.specs.Texts.{SpellsDomain, SpellsProblem, SpellsStreams, RefusesProblem, RefusesStreams}
 
 -- The three texts are the task's parts, problem and streams over its domain.
-pub record Spells (domain_bytes problem_bytes stream_bytes : List ℕ) (task : Task) : Type 0 where
+pub record SpellsTask (domain_bytes problem_bytes stream_bytes : List ℕ) (task : Task) : Type 0 where
   pub domain : SpellsDomain domain_bytes task.domain
   pub problem : SpellsProblem task.domain problem_bytes task.problem
   pub streams : SpellsStreams task.domain stream_bytes task.streams

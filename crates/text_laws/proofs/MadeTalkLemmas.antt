@@ -7,7 +7,7 @@ use Rattle.grid_laws.proofs.MadePoolLemmas.{made_workers, workers_are}
 use Rattle.io_world.specs.FileMap.{FileMap}
 use Rattle.pddlstream_app.specs.Runs.{ProgramRun}
 use Rattle.pddlstream_app.specs.Works.{made_files, made_words}
-use Rattle.pools.specs.Pools.{Workers, share_of, workers_of}
+use Rattle.pools.specs.Pools.{Workers, share_of_workers, workers_of}
 use Rattle.replay_laws.proofs.SolvedLemmas.{same_task}
 use Rattle.round_run.specs.Dialogue.{workers_in}
 use Rattle.text_laws.proofs.TalkLemmas.{one_talk}
@@ -53,7 +53,7 @@ module _ (n : ℕ) {words : List (List ℕ)} {told : Option FileMap} (run : Prog
         let same : workers_in run.head ≡ workers_in other.head =
         workers_are run n meant ∙ ap (λ t. made_workers t ∷ []) task_is ∙ sym (workers_are other n also) in
         let shares : map rounds.share_of run.head.pools ≡ map rounds.share_of other.head.pools =
-        sym (map-map share_of workers_of run.head.pools) ∙ ap (map share_of) same ∙ map-map share_of workers_of other.head.pools in
+        sym (map-map share_of_workers workers_of run.head.pools) ∙ ap (map share_of_workers) same ∙ map-map share_of_workers workers_of other.head.pools in
         record {
           limits = λ i. record {
             version = (a.version ∙ sym b.version) i;

@@ -5,7 +5,7 @@ use Rattle.io_world.specs.Talks.{Talk}
 use Rattle.lemmas.proofs.Ascending.{contains_here}
 use Rattle.lemmas.proofs.Pigeonhole.{pigeons}
 use Rattle.level_course.proofs.CoursesStepLemmas.{LeadsTo, turns_lead}
-use Rattle.level_course.specs.Courses.{Course, at_first}
+use Rattle.level_course.specs.Courses.{Course, course_at_first}
 use Rattle.level_course.specs.Laws.{IsAt}
 use Rattle.level_run.proofs.TabledLemmas.{resting}
 use Rattle.level_run.specs.Turns.{IsSure}
@@ -56,9 +56,9 @@ module _ (task : Task) (head : Head) (pool : Pool) (talk : Talk) (fit : IsFit ta
   rests = resting s.run.stage o s.run.stands
 
   -- entry by entry
-  course : LeadsTo (limits_of head) task at_first [] entries s.run.stage
+  course : LeadsTo (limits_of head) task course_at_first [] entries s.run.stage
   course =
-      turns_lead (limits_of head) task tt [] entries s.run.stage at_first
+      turns_lead (limits_of head) task tt [] entries s.run.stage course_at_first
       (subst (λ m. AreTurnsOf m (limits_of head) task entries s.run.stage) s.mode s.run.turns) refl refl
 
   ends_at_rest : course.last.answers ≡ 0
@@ -145,7 +145,7 @@ module _ (task : Task) (head : Head) (pool : Pool) (talk : Talk) (fit : IsFit ta
       → IsSpelledRun task head pool talk (f ∷ fs) p told → ⊥
   not_beside f fs first second =
       let c = course task head pool talk fit serves (f ∷ fs) p told second in
-      let l = level_first (limits_of head) task [] at_first c.last f fs refl c.leads
+      let l = level_first (limits_of head) task [] course_at_first c.last f fs refl c.leads
       (ends_at_rest task head pool talk fit serves (f ∷ fs) p told second) in
       let begun : begins head.mode f ≡ true =
       ap (λ m. begins m f) second.mode ∙ heads_level f fs l.later l.is in
@@ -170,9 +170,9 @@ same_entries task head pool talk (e ∷ es) (f ∷ fs) o p spoken told fit serve
     let d = course task head pool talk fit serves (f ∷ fs) p told second in
     let here = ends_at_rest task head pool talk fit serves (e ∷ es) o spoken first in
     let there = ends_at_rest task head pool talk fit serves (f ∷ fs) p told second in
-    let a = some_asked limits task (e ∷ es) (level_first limits task [] at_first c.last e es refl c.leads here) in
-    let b = some_asked limits task (f ∷ fs) (level_first limits task [] at_first d.last f fs refl d.leads there) in
-    spelled_once limits head.version task (workers_in head) pool.first talk [] (e ∷ es) (f ∷ fs) at_first c.last d.last c.leads
+    let a = some_asked limits task (e ∷ es) (level_first limits task [] course_at_first c.last e es refl c.leads here) in
+    let b = some_asked limits task (f ∷ fs) (level_first limits task [] course_at_first d.last f fs refl d.leads there) in
+    spelled_once limits head.version task (workers_in head) pool.first talk [] (e ∷ es) (f ∷ fs) course_at_first c.last d.last c.leads
     here d.leads there (spelled_by task head pool talk fit serves (e ∷ es) o spoken first a)
     (spelled_by task head pool talk fit serves (f ∷ fs) p told second b)
 

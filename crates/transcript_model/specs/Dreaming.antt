@@ -28,7 +28,7 @@ pub record MoreAreSupposed (most : ℕ) (task : Task) (known : Known) (notes : L
     (tried : List Instance) (depth : ℕ) : Type 0 where
   pub passes : ℕ
   pub early : passes < depth
-  pub list : List dreams.Entry
+  pub list : List dreams.SupposedEntry
   pub supposed : AreSupposed task known notes tried passes list
   pub next : List Instance
   pub distinct : AreDistinct next
@@ -39,7 +39,7 @@ pub record MoreAreSupposed (most : ℕ) (task : Task) (known : Known) (notes : L
 
 module _ (limits : Limits) (task : Task) (before : List Entry) (tried : List Instance) where
   -- the supposed entries after the transcript
-  abbrev pub AreSupposedAfter : List dreams.Entry → Type 0
+  abbrev pub AreSupposedAfter : List dreams.SupposedEntry → Type 0
   AreSupposedAfter list =
       AreSupposed task (known_of task before) (notes_of task before) tried limits.depth list
 
@@ -47,13 +47,13 @@ module _ (limits : Limits) (task : Task) (before : List Entry) (tried : List Ins
   abbrev pub HasNoDreamAfter : Type 0
   HasNoDreamAfter =
       MoreAreSupposed MOST_SUPPOSED task (known_of task before) (notes_of task before) tried limits.depth
-      ⊎ ((list : List dreams.Entry) × AreSupposedAfter list
+      ⊎ ((list : List dreams.SupposedEntry) × AreSupposedAfter list
       × HasNoDream task (known_of task before) list limits.states)
 
   -- A dream after the transcript, as it is shown: the places of its entries in the list, from 1, and its steps, where
   -- the outputs of the list's entries have their placeholders' names.
-  pub record IsDreamAfter (uses : List DreamUse) (steps : List Call) (entries : List dreams.Entry) : Type 0 where
-    pub list : List dreams.Entry
+  pub record IsDreamAfter (uses : List DreamUse) (steps : List Call) (entries : List dreams.SupposedEntry) : Type 0 where
+    pub list : List dreams.SupposedEntry
     pub supposed : AreSupposedAfter list
     pub plan : List GroundAction
     pub dream : IsDream task (known_of task before) list entries plan
@@ -102,25 +102,25 @@ module _ (task : Task) (entries : List Entry) (real : ℕ) where
       option_and_then (λ object. option_map (λ objects. object ∷ objects) (all_replaced sent os)) (replaced sent o)
 
   -- the instance that an entry has become, where all its inputs are real
-  abbrev pub become : List Sent → dreams.Entry → Option Instance
+  abbrev pub become : List Sent → dreams.SupposedEntry → Option Instance
   become sent e =
       option_map (λ inputs. record { stream = e.instance.stream; inputs = inputs })
       (all_replaced sent e.instance.inputs)
 
   -- the instance that an entry has become, if that is due and none of these
-  abbrev pub ready : List Sent → List Instance → dreams.Entry → Option Instance
-  ready sent taken e =
+  abbrev pub ready_instance : List Sent → List Instance → dreams.SupposedEntry → Option Instance
+  ready_instance sent taken e =
       option_and_then (λ i.
       if is_due task (known_of task entries) (notes_of task entries) i && not (list_any (same_instance i) taken)
       then Some i else None) (become sent e)
 
   -- The entries that are asked next, with numbers from this one on: in order those that have become instances that are
   -- due and weren't asked in this dream. Of several that have become one instance it is the first.
-  abbrev pub next_sent : List Sent → ℕ → List Instance → List dreams.Entry → List Sent
+  abbrev pub next_sent : List Sent → ℕ → List Instance → List dreams.SupposedEntry → List Sent
   next_sent sent number taken [] = []
   next_sent sent number taken (e ∷ es) =
       option_map_or (λ i. record { number = number; instance = i; outputs = e.outputs }
-      ∷ next_sent sent (number + 1) (i ∷ taken) es) (ready sent taken e) (next_sent sent number taken es)
+      ∷ next_sent sent (number + 1) (i ∷ taken) es) (ready_instance sent taken e) (next_sent sent number taken es)
 
 abbrev pub sent_instances : List Sent → List Instance
 sent_instances sent = map (λ (s : Sent). s.instance) sent

@@ -19,8 +19,8 @@ use Rattle.transcript_model.specs.declared.entry.Entry.{Entry}
 use Rattle.transcript_model.specs.declared.entry.Entry.TheVariants as entry
 
 -- one block, `cup`, and streams that look for blocks, that test one, and that give a price
-abbrev pub task : Task
-task =
+abbrev pub priced_task : Task
+priced_task =
     record examples.task { streams = examples.looking ∷ examples.testing ∷ examples.pricing ∷ [] }
 
 abbrev pub look_at_cup : Call
@@ -45,35 +45,35 @@ abbrev pub twice : List Entry
 twice = entry.Ask 1 0 look_at_cup ∷ entry.Got 1 2 (codes "v" ∷ codes "v" ∷ []) ∷ []
 
 -- a dream: the cup is looked at, and what comes is tested
-abbrev pub look_and_test : List dreams.Entry
+abbrev pub look_and_test : List dreams.SupposedEntry
 look_and_test = record { instance = examples.call 0; outputs = 1 ∷ [] }
     ∷ record { instance = record { stream = 1; inputs = 1 ∷ [] }; outputs = [] } ∷ []
 
 abbrev pub look_sent : Sent
 look_sent = record { number = 1; instance = examples.call 0; outputs = 1 ∷ [] }
 
-pub record WorkedExamples : Type 0 where
+pub record TranscriptExamples : Type 0 where
   -- a generated object comes behind the declared ones, once
-  pub names : names_of task entries ≡ codes "cup" ∷ codes "#v" ∷ []
-  pub once : names_of task twice ≡ codes "cup" ∷ codes "#v" ∷ []
+  pub names : names_of priced_task entries ≡ codes "cup" ∷ codes "#v" ∷ []
+  pub once : names_of priced_task twice ≡ codes "cup" ∷ codes "#v" ∷ []
   -- what the yield certifies comes behind what is known at first
-  pub facts : (known_of task entries).facts
+  pub facts : (known_of priced_task entries).facts
       ≡ type_fact 1 0 ∷ type_fact 0 0 ∷ type_fact 1 1 ∷ type_fact 0 1 ∷ atom_fact 1 (1 ∷ []) ∷ []
-  pub values : (known_of task entries).values ≡ examples.worth 7 ∷ []
+  pub values : (known_of priced_task entries).values ≡ examples.worth 7 ∷ []
   -- each tuple is noted, and an end and a value both end an instance
-  pub notes : notes_of task entries ≡ Yielded (examples.call 0) ∷ Ended (examples.call 0) ∷ Ended price ∷ []
-  pub both : notes_of task twice ≡ Yielded (examples.call 0) ∷ Yielded (examples.call 0) ∷ []
+  pub notes : notes_of priced_task entries ≡ Yielded (examples.call 0) ∷ Ended (examples.call 0) ∷ Ended price ∷ []
+  pub both : notes_of priced_task twice ≡ Yielded (examples.call 0) ∷ Yielded (examples.call 0) ∷ []
   -- a request asks its instance, and is open until it is answered
-  pub request : asked task entries 2 ≡ Some (record { stream = examples.looking; instance = examples.call 0 })
-  pub none : asked task entries 4 ≡ None
+  pub request : asked priced_task entries 2 ≡ Some (record { stream = examples.looking; instance = examples.call 0 })
+  pub none : asked priced_task entries 4 ≡ None
   pub count : asks_of entries ≡ 3
   pub waits : is_open (entry.Ask 1 0 look_at_cup ∷ []) 1 ≡ true
   pub answered : is_open entries 1 ≡ false
-  pub shown : call_of_instance task (names_of task entries) (record { stream = 1; inputs = 1 ∷ [] })
+  pub shown : call_of_instance priced_task (names_of priced_task entries) (record { stream = 1; inputs = 1 ∷ [] })
       ≡ record { name = codes "test"; args = codes "#v" ∷ [] }
   -- of a dream the entry with real inputs is asked first, and then the one that has become real
-  pub first : next_sent task (entry.Level ∷ []) 1 [] 1 [] look_and_test ≡ look_sent ∷ []
-  pub next : next_sent task looked 1 (look_sent ∷ []) 2 (examples.call 0 ∷ []) look_and_test
+  pub first : next_sent priced_task (entry.Level ∷ []) 1 [] 1 [] look_and_test ≡ look_sent ∷ []
+  pub next : next_sent priced_task looked 1 (look_sent ∷ []) 2 (examples.call 0 ∷ []) look_and_test
       ≡ record { number = 2; instance = record { stream = 1; inputs = 1 ∷ [] }; outputs = [] } ∷ []
   -- a pool of two workers takes two requests, but not three
   pub two : fits (record { workers = 2; streams = 0 ∷ [] } ∷ []) (examples.call 0 ∷ examples.call 1 ∷ []) ≡ true

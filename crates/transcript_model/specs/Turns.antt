@@ -52,7 +52,7 @@ pub data IsFallback (limits : Limits) (task : Task) (before : List Entry) : List
 
 -- Batches of a dream's entries, each of those that are ready, until none is. `sent` were asked before, and `after` in
 -- the end.
-pub data AreBatches (limits : Limits) (task : Task) (real : ℕ) (entries : List dreams.Entry) : List Sent → List Entry
+pub data AreBatches (limits : Limits) (task : Task) (real : ℕ) (entries : List dreams.SupposedEntry) : List Sent → List Entry
     → List Entry → List Sent → Bool → Type 0 where
   finished : {sent : List Sent} {before : List Entry}
       → next_sent task before real sent (asks_of before + 1) (sent_instances sent) entries ≡ []
@@ -72,11 +72,11 @@ pub data AreBatches (limits : Limits) (task : Task) (real : ℕ) (entries : List
 -- A dream, whose entries are asked as `asks` says: in one batch, or in several. The instances that were asked join the
 -- tried ones.
 pub record IsDreamTurn (limits : Limits) (task : Task)
-    (asks : ℕ → List dreams.Entry → List Entry → List Entry → List Sent → Bool → Type 0) (tried : List Instance)
+    (asks : ℕ → List dreams.SupposedEntry → List Entry → List Entry → List Sent → Bool → Type 0) (tried : List Instance)
     (before now : List Entry) (next : List Instance) (cut : Bool) : Type 0 where
   pub uses : List DreamUse
   pub steps : List Call
-  pub entries : List dreams.Entry
+  pub entries : List dreams.SupposedEntry
   pub dream : IsDreamAfter limits task before tried uses steps entries
   pub rest : List Entry
   pub is : now ≡ entry.Dream uses steps ∷ rest
@@ -95,7 +95,7 @@ pub record IsEmptyTurn (limits : Limits) (task : Task) (tried : List Instance)
 
 -- one batch of the entries that are ready
 pub record IsFirstBatch (limits : Limits) (task : Task) (real : ℕ)
-    (entries : List dreams.Entry) (before now : List Entry) (after : List Sent) (cut : Bool) : Type 0 where
+    (entries : List dreams.SupposedEntry) (before now : List Entry) (after : List Sent) (cut : Bool) : Type 0 where
   pub list : List Sent
   pub ready : list ≡ next_sent task before real [] (asks_of before + 1) [] entries
   pub batch : IsBatch limits task before (sent_instances list) now
@@ -106,7 +106,7 @@ pub record IsFirstBatch (limits : Limits) (task : Task) (real : ℕ)
 
 -- A dream that is kept: its entries, how many objects were real, how often it was picked, and whether it is given up.
 pub record Skeleton : Type 0 where
-  pub entries : List dreams.Entry
+  pub entries : List dreams.SupposedEntry
   pub real : ℕ
   pub picks : ℕ
   pub retired : Bool
@@ -161,7 +161,7 @@ pub record IsNewSkeleton (limits : Limits) (task : Task) (kept : Kept) (before n
     (next : Kept) (cut : Bool) : Type 0 where
   pub uses : List DreamUse
   pub steps : List Call
-  pub entries : List dreams.Entry
+  pub entries : List dreams.SupposedEntry
   pub dream : IsDreamAfter limits task before kept.tried uses steps entries
   pub rest : List Entry
   pub is : now ≡ entry.Dream uses steps ∷ rest

@@ -1,5 +1,5 @@
 //! Laws of the definitions in `specs/`, each the contract of a function that does nothing.
-ghost use Rattle.transcript_model.specs.Examples.{WorkedExamples};
+ghost use Rattle.transcript_model.specs.Examples.{TranscriptExamples};
 ghost use Rattle.transcript_model.specs.Laws.{PlacesAreExact, CallsNameInstances, LongerKeeps, LegalGrows, RequestsAddRequests, AnswersAddAnswers, MarksAddNothing, NumbersAreOwn, RequestsAskInstances, NoRequestIsMadeTwice, RequestsHaveNames, CertifiedObjectsHaveNames, WhatIsKnownIsCoherent};
 
 /// In a table of distinct names exactly these objects have these names.
@@ -73,5 +73,5 @@ pub fn what_is_known_is_coherent()
 
 /// The worked examples of the definitions hold.
 pub fn examples_hold()
-    ensures { WorkedExamples }
+    ensures { TranscriptExamples }
 {}

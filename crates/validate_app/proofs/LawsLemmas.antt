@@ -23,10 +23,10 @@ use Rattle.transcript_model.specs.declared.entry.Call.{Call}
 use Rattle.transcript_model.specs.declared.entry.Entry.{Entry}
 use Rattle.validate_app.proofs.InputsLemmas.{no_streams}
 use Rattle.validate_app.proofs.OneVerdictLemmas.{some_verdict, verdict_once}
-use Rattle.validate_app.specs.Inputs.{AreStreamsBy, AreStreamsOf, Holds, IsDomainOf, IsPlanOf, IsProblemOf, IsTaskOf, IsTranscriptBy, IsTranscriptOf}
+use Rattle.validate_app.specs.Inputs.{AreStreamsBy, AreStreamsByWords, HoldsText, IsDomainOf, IsPlanOf, IsProblemOf, IsPlainTaskOf, IsTranscriptBy, IsTranscriptOf}
 use Rattle.validate_app.specs.Laws.{SpelledPlansAreJudged}
-use Rattle.validate_app.specs.Outcomes.{IsJudged}
-use Rattle.validate_app.specs.Verdicts.{IsVerdict}
+use Rattle.validate_app.specs.Outcomes.{IsJudgedPlan}
+use Rattle.validate_app.specs.Verdicts.{IsPlanVerdict}
 use Rattle.validate_app.specs.Words.{ReportWords, ValidateWords}
 use Rattle.validate_app.specs.declared.stop.FileRole.{FileRole}
 use Rattle.validate_app.specs.declared.stop.FileRole.TheVariants as role
@@ -34,7 +34,7 @@ use Rattle.validate_app.specs.declared.verdict.Verdict.{Verdict}
 
 -- ---- the task is fit
 
-module _ (told : Option FileMap) (w : ValidateWords) (task : Task) (t : IsTaskOf told w task) where
+module _ (told : Option FileMap) (w : ValidateWords) (task : Task) (t : IsPlainTaskOf told w task) where
   short_text : HasShortText task.domain
   short_text = record { bytes = t.domain.bytes; short = t.domain.has.short; spelled = t.domain.so }
 
@@ -49,7 +49,7 @@ module _ (told : Option FileMap) (w : ValidateWords) (task : Task) (t : IsTaskOf
       by None none =
           no_streams task.domain task.streams (subst (AreStreamsBy told w task.domain task.streams) none t.streams) task.problem
       by (Some report) some =
-          let there : Holds told w role.Streams (λ bytes. SpellsStreams task.domain bytes task.streams) = subst (AreStreamsBy told w task.domain task.streams) some t.streams in
+          let there : HoldsText told w role.Streams (λ bytes. SpellsStreams task.domain bytes task.streams) = subst (AreStreamsBy told w task.domain task.streams) some t.streams in
           streams_fit task.domain there.bytes task.streams short_text there.has.short there.so task.problem
 
 -- ---- what is known is coherent
@@ -64,7 +64,7 @@ legal_of told w task entries report = by w.certified refl
         let is : entries ≡ [] = subst (IsTranscriptBy told w task entries) none report in
         (1, subst (IsLegal 1 task) (sym is) (λ k e at. absurd (cc)))
     by (Some words) some =
-        let there : Holds told w role.Report (λ bytes. SpellsTranscript task bytes entries) =
+        let there : HoldsText told w role.Report (λ bytes. SpellsTranscript task bytes entries) =
         subst (IsTranscriptBy told w task entries) some report in
         (there.so.report.version, there.so.so.1.legal)
 
@@ -89,7 +89,7 @@ module _ (told : FileMap) (w : ValidateWords) where
 
   -- what is so of the bytes of one file
   pub of_one_text : (which : FileRole) (P Q : List ℕ → Type 0) (C : Type 0) → ((bytes : List ℕ) → P bytes → Q bytes → C)
-      → Holds files w which P → Holds files w which Q → C
+      → HoldsText files w which P → HoldsText files w which Q → C
   of_one_text which P Q C f a b =
       let paths : a.path ≡ b.path = same_Some a.path b.path (sym a.named ∙ b.named) in
       let same : b.bytes ≡ a.bytes = same_Some b.bytes a.bytes (sym b.has.held ∙ ap told (sym paths) ∙ a.has.held) in
@@ -105,7 +105,7 @@ module _ (told : FileMap) (w : ValidateWords) where
       of_one_text role.Problem (λ bytes. SpellsProblem d bytes p) (λ bytes. SpellsProblem d bytes q) (p ≡ q)
       (λ bytes. text_one_problem d bytes p q)
 
-  one_streams : (d : domains.Domain) (ss ts : List Stream) → AreStreamsOf files w d ss → AreStreamsOf files w d ts → ss ≡ ts
+  one_streams : (d : domains.Domain) (ss ts : List Stream) → AreStreamsByWords files w d ss → AreStreamsByWords files w d ts → ss ≡ ts
   one_streams d ss ts a b = by w.certified refl
     where
       by : (o : Option ReportWords) → w.certified ≡ o → ss ≡ ts
@@ -117,13 +117,13 @@ module _ (told : FileMap) (w : ValidateWords) where
           of_one_text role.Streams (λ bytes. SpellsStreams d bytes ss) (λ bytes. SpellsStreams d bytes ts) (ss ≡ ts)
           (λ bytes. text_one_streams d bytes ss ts) (subst (AreStreamsBy files w d ss) some a) (subst (AreStreamsBy files w d ts) some b)
 
-  pub one_task : (t u : Task) → IsTaskOf files w t → IsTaskOf files w u → t ≡ u
+  pub one_task : (t u : Task) → IsPlainTaskOf files w t → IsPlainTaskOf files w u → t ≡ u
   one_task t u a b =
       let domain = one_domain t.domain u.domain a.domain b.domain in
       let problem = one_problem t.domain t.problem u.problem a.problem
       (subst (λ d. IsProblemOf files w d u.problem) (sym domain) b.problem) in
       let streams = one_streams t.domain t.streams u.streams a.streams
-      (subst (λ d. AreStreamsOf files w d u.streams) (sym domain) b.streams) in
+      (subst (λ d. AreStreamsByWords files w d u.streams) (sym domain) b.streams) in
       λ i. record { domain = domain i; problem = problem i; streams = streams i }
 
   one_report : (task : Task) (xs ys : List Entry) → IsTranscriptOf files w task xs → IsTranscriptOf files w task ys → xs ≡ ys
@@ -149,18 +149,18 @@ module _ (told : FileMap) (w : ValidateWords) where
       ((xs ≡ ys) × (c ≡ d)) (λ text. same_plan text xs ys c d)
 
 -- of told files one verdict holds at most, with one claim
-pub judged_once : (told : FileMap) (w : ValidateWords) (v u : Verdict) (c d : Option ℕ) → IsJudged (Some told) w v c
-    → IsJudged (Some told) w u d → (v ≡ u) × (c ≡ d)
+pub judged_once : (told : FileMap) (w : ValidateWords) (v u : Verdict) (c d : Option ℕ) → IsJudgedPlan (Some told) w v c
+    → IsJudgedPlan (Some told) w u d → (v ≡ u) × (c ≡ d)
 judged_once told w v u c d a b =
     let fit = fit_task (Some told) w a.task a.spelled in
     let task : a.task ≡ b.task = one_task told w a.task b.task a.spelled b.spelled in
     let entries : a.entries ≡ b.entries =
     one_report told w a.task a.entries b.entries a.report (subst (λ t. IsTranscriptOf (Some told) w t b.entries) (sym task) b.report) in
     let plan = one_plan told w a.calls b.calls c d a.plan b.plan in
-    let said : IsVerdict a.task (known_of a.task a.entries) a.calls u =
-    subst (λ t. IsVerdict t (known_of t a.entries) a.calls u) (sym task)
-    (subst (λ es. IsVerdict b.task (known_of b.task es) a.calls u) (sym entries)
-    (subst (λ cs. IsVerdict b.task (known_of b.task b.entries) cs u) (sym plan.0) b.said)) in (
+    let said : IsPlanVerdict a.task (known_of a.task a.entries) a.calls u =
+    subst (λ t. IsPlanVerdict t (known_of t a.entries) a.calls u) (sym task)
+    (subst (λ es. IsPlanVerdict b.task (known_of b.task es) a.calls u) (sym entries)
+    (subst (λ cs. IsPlanVerdict b.task (known_of b.task b.entries) cs u) (sym plan.0) b.said)) in (
       verdict_once a.task fit (known_of a.task a.entries) (known_coherent (Some told) w a.task fit a.entries a.report) a.calls v u
           a.said said,
       plan.1,

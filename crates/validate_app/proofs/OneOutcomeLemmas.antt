@@ -4,11 +4,11 @@ use Rattle.std.proofs.lemmas.Option.{same_Some}
 use Rattle.io_world.specs.FileMap.{FileMap}
 use Rattle.validate_app.proofs.LawsLemmas.{judged_once}
 use Rattle.validate_app.proofs.OneStopLemmas.{IsHalt, halt, judged_goes_on, one_halt}
-use Rattle.validate_app.specs.Files.{FilesSeen}
-use Rattle.validate_app.specs.Inputs.{StopsAt}
+use Rattle.validate_app.specs.Files.{TextsSeen}
+use Rattle.validate_app.specs.Inputs.{StopsAtText}
 use Rattle.validate_app.specs.Laws.{HasFailed, IsFailure, OutcomesAreUnique}
-use Rattle.validate_app.specs.Outcomes.{IsJudged, IsOutcome}
-use Rattle.validate_app.specs.Words.{ValidateWords, words_of}
+use Rattle.validate_app.specs.Outcomes.{IsJudgedPlan, IsOutcome}
+use Rattle.validate_app.specs.Words.{ValidateWords, paths_of_words}
 use Rattle.validate_app.specs.declared.outcome.Outcome.{Outcome}
 use Rattle.validate_app.specs.declared.outcome.Outcome.TheVariants.{Judged, Stopped}
 use Rattle.validate_app.specs.declared.stop.Stop.{Stop}
@@ -16,17 +16,17 @@ use Rattle.validate_app.specs.declared.stop.Stop.TheVariants as stop
 use Rattle.validate_app.specs.declared.verdict.Verdict.{Verdict}
 
 module _ (words : List (List ℕ)) (told : FileMap) (first last : ℕ) where
-  abbrev files : FilesSeen
+  abbrev files : TextsSeen
   files = record { told = Some told; first = first; last = last }
 
   -- how a run came to its end, where no memory is wanting and no file failed
   data Came (o : Outcome) : Type 0 where
-    no_words : words_of words ≡ None → o ≡ Stopped stop.Usage → Came o
-    halted : (w : ValidateWords) (why : Stop) → words_of words ≡ Some w → IsHalt told w why → o ≡ Stopped why → Came o
-    judged : (w : ValidateWords) (v : Verdict) (claimed : Option ℕ) → words_of words ≡ Some w
-        → IsJudged (Some told) w v claimed → o ≡ Judged v claimed → Came o
+    no_words : paths_of_words words ≡ None → o ≡ Stopped stop.Usage → Came o
+    halted : (w : ValidateWords) (why : Stop) → paths_of_words words ≡ Some w → IsHalt told w why → o ≡ Stopped why → Came o
+    judged : (w : ValidateWords) (v : Verdict) (claimed : Option ℕ) → paths_of_words words ≡ Some w
+        → IsJudgedPlan (Some told) w v claimed → o ≡ Judged v claimed → Came o
 
-  came_at : (w : ValidateWords) → words_of words ≡ Some w → (why : Stop) → StopsAt files w why
+  came_at : (w : ValidateWords) → paths_of_words words ≡ Some w → (why : Stop) → StopsAtText files w why
       → IsFailure why ⊎ Came (Stopped why)
   came_at w named why stops = elim (halt told w first last why stops) [
     | inl failed ↦ inl failed
@@ -42,10 +42,10 @@ module _ (words : List (List ℕ)) (told : FileMap) (first last : ℕ) where
   came (Stopped (stop.TooLong which)) (w, named, s) = came_at w named (stop.TooLong which) s
   came (Stopped stop.Memory) s = inl (inl refl)
 
-  no_paths : (w : ValidateWords) → words_of words ≡ None → words_of words ≡ Some w → ⊥
+  no_paths : (w : ValidateWords) → paths_of_words words ≡ None → paths_of_words words ≡ Some w → ⊥
   no_paths w none some = absurd (let both = sym none ∙ some in cc)
 
-  one_words : (w x : ValidateWords) → words_of words ≡ Some w → words_of words ≡ Some x → x ≡ w
+  one_words : (w x : ValidateWords) → paths_of_words words ≡ Some w → paths_of_words words ≡ Some x → x ≡ w
   one_words w x a b = same_Some x w (sym b ∙ a)
 
   came_once : (o p : Outcome) → Came o → Came p → o ≡ p
@@ -57,14 +57,14 @@ module _ (words : List (List ℕ)) (told : FileMap) (first last : ℕ) where
       let same = subst (λ y. IsHalt told y than) (one_words w x named also) k in
       is ∙ ap Stopped (one_halt told w why than h same) ∙ sym so
   came_once o p (halted w why named h is) (judged x v claimed also j so) =
-      let same = subst (λ y. IsJudged (Some told) y v claimed) (one_words w x named also) j in
+      let same = subst (λ y. IsJudgedPlan (Some told) y v claimed) (one_words w x named also) j in
       absurd (judged_goes_on told w v claimed why same h)
   came_once o p (judged w v claimed named j is) (no_words b so) = absurd (no_paths w b named)
   came_once o p (judged w v claimed named j is) (halted x why also h so) =
       let same = subst (λ y. IsHalt told y why) (one_words w x named also) h in
       absurd (judged_goes_on told w v claimed why j same)
   came_once o p (judged w v c named j is) (judged x u d also k so) =
-      let same = subst (λ y. IsJudged (Some told) y u d) (one_words w x named also) k in
+      let same = subst (λ y. IsJudgedPlan (Some told) y u d) (one_words w x named also) k in
       let once = judged_once told w v u c d j same in
       let both : Judged v c ≡ Judged u d = λ i. Judged (once.0 i) (once.1 i) in is ∙ both ∙ sym so
 

@@ -17,10 +17,10 @@ use Rattle.task_reader.specs.declared.refusal.InputRefusal.TheVariants as refusa
 use Rattle.transcript_model.specs.declared.entry.Call.{Call}
 use Rattle.validate_app.proofs.LawsLemmas.{of_one_text, one_domain, one_task}
 use Rattle.validate_app.proofs.RefusedOnceLemmas.{one_domain_fault, one_problem_fault, one_streams_fault, refused_once}
-use Rattle.validate_app.specs.Files.{most_of}
-use Rattle.validate_app.specs.Inputs.{AreAccepted, AreStreamsBy, HasMoreBytes, Holds, IsFlawed, IsPlanOf, IsRefused, IsTranscriptBy, StopsAt, path_of, stop_for}
+use Rattle.validate_app.specs.Files.{most_text_bytes}
+use Rattle.validate_app.specs.Inputs.{AreAcceptedBefore, AreStreamsBy, HasMoreBytes, HoldsText, IsReportFlawed, IsPlanOf, IsTextRefused, IsTranscriptBy, StopsAtText, path_of, text_stop}
 use Rattle.validate_app.specs.Laws.{IsFailure}
-use Rattle.validate_app.specs.Outcomes.{IsJudged}
+use Rattle.validate_app.specs.Outcomes.{IsJudgedPlan}
 use Rattle.validate_app.specs.Words.{ReportWords, ValidateWords}
 use Rattle.validate_app.specs.declared.stop.FileRole.{FileRole}
 use Rattle.validate_app.specs.declared.stop.FileRole.TheVariants as role
@@ -34,34 +34,34 @@ module _ (told : FileMap) (w : ValidateWords) where
 
   -- the text of this file is accepted
   abbrev IsGood : FileRole → Type 0
-  IsGood role.Domain = AreAccepted seen w role.Problem
-  IsGood role.Problem = AreAccepted seen w role.Streams
-  IsGood role.Streams = AreAccepted seen w role.Report
-  IsGood role.Report = AreAccepted seen w role.Plan
+  IsGood role.Domain = AreAcceptedBefore seen w role.Problem
+  IsGood role.Problem = AreAcceptedBefore seen w role.Streams
+  IsGood role.Streams = AreAcceptedBefore seen w role.Report
+  IsGood role.Report = AreAcceptedBefore seen w role.Plan
   IsGood role.Plan = (calls : List Call) × (claimed : Option ℕ) × IsPlanOf seen w calls claimed
 
   -- why a run stops at this file, which was read
   pub data Halts (which : FileRole) (why : Stop) : Type 0 where
-    refused : (kind : FaultKind) (place : ℕ) → IsRefused seen w which kind place → why ≡ stop.Refused which kind place
+    refused : (kind : FaultKind) (place : ℕ) → IsTextRefused seen w which kind place → why ≡ stop.Refused which kind place
         → Halts which why
-    flawed : (line : ℕ) (flaw : ReportFlaw) → which ≡ role.Report → IsFlawed seen w line flaw → why ≡ stop.Flawed line flaw
+    flawed : (line : ℕ) (flaw : ReportFlaw) → which ≡ role.Report → IsReportFlawed seen w line flaw → why ≡ stop.Flawed line flaw
         → Halts which why
     long : HasMoreBytes seen w which → why ≡ stop.TooLong which → Halts which why
 
   pub record IsHalt (why : Stop) : Type 0 where
     pub which : FileRole
-    pub before : AreAccepted seen w which
+    pub before : AreAcceptedBefore seen w which
     pub halts : Halts which why
 
-  before_refused : (which : FileRole) (kind : FaultKind) (place : ℕ) → IsRefused seen w which kind place
-      → AreAccepted seen w which
+  before_refused : (which : FileRole) (kind : FaultKind) (place : ℕ) → IsTextRefused seen w which kind place
+      → AreAcceptedBefore seen w which
   before_refused role.Domain kind place r = tt
   before_refused role.Problem kind place (d, domain, r) = (d, domain)
   before_refused role.Streams kind place (d, domain, problem, r) = (d, domain, problem)
   before_refused role.Report kind place r = absurd r
   before_refused role.Plan kind place (accepted, r) = accepted
 
-  pub halt : (first last : ℕ) (why : Stop) → StopsAt (record { told = seen; first = first; last = last }) w why
+  pub halt : (first last : ℕ) (why : Stop) → StopsAtText (record { told = seen; first = first; last = last }) w why
       → IsFailure why ⊎ IsHalt why
   halt first last stop.Usage s = absurd s
   halt first last (stop.Refused which kind place) s = inr (record {
@@ -82,14 +82,14 @@ module _ (told : FileMap) (w : ValidateWords) where
   -- ---- at one file
 
   -- a file that holds something has not too many bytes
-  short_enough : (which : FileRole) (IsSo : List ℕ → Type 0) → Holds seen w which IsSo → ¬ (HasMoreBytes seen w which)
+  short_enough : (which : FileRole) (IsSo : List ℕ → Type 0) → HoldsText seen w which IsSo → ¬ (HasMoreBytes seen w which)
   short_enough which IsSo holds (path, named, more) =
       let paths : holds.path ≡ path = same_Some holds.path path (sym holds.named ∙ named) in
       let held : told path ≡ Some holds.bytes = ap told (sym paths) ∙ holds.has.held in
-      let longer : most_of which < length holds.bytes = subst (λ o. HasMore o (most_of which)) held more in
+      let longer : most_text_bytes which < length holds.bytes = subst (λ o. HasMore o (most_text_bytes which)) held more in
       omega (arith, longer, holds.has.short)
 
-  refused_short : (which : FileRole) (kind : FaultKind) (place : ℕ) → IsRefused seen w which kind place
+  refused_short : (which : FileRole) (kind : FaultKind) (place : ℕ) → IsTextRefused seen w which kind place
       → ¬ (HasMoreBytes seen w which)
   refused_short role.Domain kind place r more = short_enough role.Domain (λ bytes. RefusesDomain bytes kind place) r more
   refused_short role.Problem kind place (d, domain, r) more =
@@ -100,12 +100,12 @@ module _ (told : FileMap) (w : ValidateWords) where
   refused_short role.Plan kind place (accepted, r) more =
       short_enough role.Plan (λ bytes. RefusesPlan bytes kind place) r more
 
-  flawed_short : (line : ℕ) (flaw : ReportFlaw) → IsFlawed seen w line flaw → ¬ (HasMoreBytes seen w role.Report)
+  flawed_short : (line : ℕ) (flaw : ReportFlaw) → IsReportFlawed seen w line flaw → ¬ (HasMoreBytes seen w role.Report)
   flawed_short line flaw (task, spelled, r) more =
       short_enough role.Report (λ bytes. RefusesReport task bytes line flaw) r more
 
-  one_refusal : (which : FileRole) (kind than : FaultKind) (place other : ℕ) → IsRefused seen w which kind place
-      → IsRefused seen w which than other → refusal.At kind place ≡ refusal.At than other
+  one_refusal : (which : FileRole) (kind than : FaultKind) (place other : ℕ) → IsTextRefused seen w which kind place
+      → IsTextRefused seen w which than other → refusal.At kind place ≡ refusal.At than other
   one_refusal role.Domain kind than place other r s =
       of_one_text told w role.Domain (λ bytes. RefusesDomain bytes kind place) (λ bytes. RefusesDomain bytes than other)
       (refusal.At kind place ≡ refusal.At than other)
@@ -115,13 +115,13 @@ module _ (told : FileMap) (w : ValidateWords) where
       of_one_text told w role.Problem (λ bytes. RefusesProblem d bytes kind place) (λ bytes. RefusesProblem d bytes than other)
       (refusal.At kind place ≡ refusal.At than other)
       (λ bytes. refused_once (problem_texts.IsProblemAnswered d) (one_problem_fault d) bytes kind than place other) r
-      (subst (λ x. Holds seen w role.Problem (λ bytes. RefusesProblem x bytes than other)) same s)
+      (subst (λ x. HoldsText seen w role.Problem (λ bytes. RefusesProblem x bytes than other)) same s)
   one_refusal role.Streams kind than place other (d, domain, problem, r) (e, again, also, s) =
       let same = one_domain told w e d again domain in
       of_one_text told w role.Streams (λ bytes. RefusesStreams d bytes kind place) (λ bytes. RefusesStreams d bytes than other)
       (refusal.At kind place ≡ refusal.At than other)
       (λ bytes. refused_once (stream_texts.AreStreamsAnswered d) (one_streams_fault d) bytes kind than place other) r
-      (subst (λ x. Holds seen w role.Streams (λ bytes. RefusesStreams x bytes than other)) same s)
+      (subst (λ x. HoldsText seen w role.Streams (λ bytes. RefusesStreams x bytes than other)) same s)
   one_refusal role.Report kind than place other r s = absurd r
   one_refusal role.Plan kind than place other (accepted, r) (again, s) =
       of_one_text told w role.Plan (λ bytes. RefusesPlan bytes kind place) (λ bytes. RefusesPlan bytes than other)
@@ -132,24 +132,24 @@ module _ (told : FileMap) (w : ValidateWords) where
       wrong : FaultKind → ℕ → WrongLine
       wrong kind place = record { kind = kind; place = place }
 
-  one_flaw : (line other : ℕ) (flaw than : ReportFlaw) → IsFlawed seen w line flaw → IsFlawed seen w other than
+  one_flaw : (line other : ℕ) (flaw than : ReportFlaw) → IsReportFlawed seen w line flaw → IsReportFlawed seen w other than
       → stop.Flawed line flaw ≡ stop.Flawed other than
   one_flaw line other flaw than (task, spelled, r) (also, again, s) =
       let tasks = one_task told w also task again spelled in
       let same = of_one_text told w role.Report (λ bytes. RefusesReport task bytes line flaw)
       (λ bytes. RefusesReport task bytes other than) ((line ≡ other) × (flaw ≡ than))
       (λ bytes. reports.refused_once task bytes line other flaw than) r
-      (subst (λ x. Holds seen w role.Report (λ bytes. RefusesReport x bytes other than)) tasks s) in
+      (subst (λ x. HoldsText seen w role.Report (λ bytes. RefusesReport x bytes other than)) tasks s) in
       λ i. stop.Flawed (same.0 i) (same.1 i)
 
   halts_once : (which : FileRole) (why than : Stop) → Halts which why → Halts which than → why ≡ than
   halts_once which why than (refused kind place r is) (refused other at s so) =
-      is ∙ ap (λ x. stop_for which x) (one_refusal which kind other place at r s) ∙ sym so
+      is ∙ ap (λ x. text_stop which x) (one_refusal which kind other place at r s) ∙ sym so
   halts_once which why than (refused kind place r is) (flawed line flaw report s so) =
-      absurd (subst (λ x. IsRefused seen w x kind place) report r)
+      absurd (subst (λ x. IsTextRefused seen w x kind place) report r)
   halts_once which why than (refused kind place r is) (long more so) = absurd (refused_short which kind place r more)
   halts_once which why than (flawed line flaw report r is) (refused kind place s so) =
-      absurd (subst (λ x. IsRefused seen w x kind place) report s)
+      absurd (subst (λ x. IsTextRefused seen w x kind place) report s)
   halts_once which why than (flawed line flaw report r is) (flawed other at also s so) =
       is ∙ one_flaw line other flaw at r s ∙ sym so
   halts_once which why than (flawed line flaw report r is) (long more so) =
@@ -168,7 +168,7 @@ module _ (told : FileMap) (w : ValidateWords) where
   streamless none path named = absurd (let both = sym (ap (option_map (λ (r : ReportWords). r.streams)) none) ∙ named in cc)
 
   -- it is refused for nothing
-  good_unrefused : (which : FileRole) → IsGood which → (kind : FaultKind) (place : ℕ) → ¬ (IsRefused seen w which kind place)
+  good_unrefused : (which : FileRole) → IsGood which → (kind : FaultKind) (place : ℕ) → ¬ (IsTextRefused seen w which kind place)
   good_unrefused role.Domain (d, domain) kind place bad =
       of_one_text told w role.Domain (λ bytes. SpellsDomain bytes d) (λ bytes. RefusesDomain bytes kind place) ⊥
       (λ bytes. domain_not_refused bytes d kind place) domain bad
@@ -176,13 +176,13 @@ module _ (told : FileMap) (w : ValidateWords) where
       let same = one_domain told w e d again domain in
       of_one_text told w role.Problem (λ bytes. SpellsProblem d bytes p) (λ bytes. RefusesProblem d bytes kind place) ⊥
       (λ bytes. problem_not_refused d bytes p kind place) problem
-      (subst (λ x. Holds seen w role.Problem (λ bytes. RefusesProblem x bytes kind place)) same bad)
+      (subst (λ x. HoldsText seen w role.Problem (λ bytes. RefusesProblem x bytes kind place)) same bad)
   good_unrefused role.Streams (task, t) kind place (e, again, problem, bad) =
       let same = one_domain told w e task.domain again t.domain in
-      by w.certified refl (subst (λ x. Holds seen w role.Streams (λ bytes. RefusesStreams x bytes kind place)) same bad)
+      by w.certified refl (subst (λ x. HoldsText seen w role.Streams (λ bytes. RefusesStreams x bytes kind place)) same bad)
     where
       by : (o : Option ReportWords) → w.certified ≡ o
-          → ¬ (Holds seen w role.Streams (λ bytes. RefusesStreams task.domain bytes kind place))
+          → ¬ (HoldsText seen w role.Streams (λ bytes. RefusesStreams task.domain bytes kind place))
       by None none there = streamless none there.path there.named
       by (Some words) some there =
           of_one_text told w role.Streams (λ bytes. SpellsStreams task.domain bytes task.streams)
@@ -195,7 +195,7 @@ module _ (told : FileMap) (w : ValidateWords) where
       (λ text. RefusesPlan text kind place) ⊥ (λ text spells refuses. absurd (let both = sym spells.0 ∙ refuses in cc)) plan bad
 
   -- nor is it a report that certifies nothing
-  good_unflawed : IsGood role.Report → (line : ℕ) (flaw : ReportFlaw) → ¬ (IsFlawed seen w line flaw)
+  good_unflawed : IsGood role.Report → (line : ℕ) (flaw : ReportFlaw) → ¬ (IsReportFlawed seen w line flaw)
   good_unflawed (task, entries, t, report) line flaw (other, spelled, bad) = by w.certified refl
     where
       same : other ≡ task
@@ -206,7 +206,7 @@ module _ (told : FileMap) (w : ValidateWords) where
       by (Some words) some =
           of_one_text told w role.Report (λ bytes. SpellsTranscript task bytes entries) (λ bytes. RefusesReport task bytes line flaw) ⊥
           (λ bytes. reports.not_refused task bytes entries line flaw) (subst (IsTranscriptBy seen w task entries) some report)
-          (subst (λ u. Holds seen w role.Report (λ bytes. RefusesReport u bytes line flaw)) same bad)
+          (subst (λ u. HoldsText seen w role.Report (λ bytes. RefusesReport u bytes line flaw)) same bad)
 
   -- nor has it too many bytes
   good_short : (which : FileRole) → IsGood which → ¬ (HasMoreBytes seen w which)
@@ -238,18 +238,18 @@ module _ (told : FileMap) (w : ValidateWords) where
 
   -- ---- at two files
 
-  behind_report : AreAccepted seen w role.Plan → AreAccepted seen w role.Report
+  behind_report : AreAcceptedBefore seen w role.Plan → AreAcceptedBefore seen w role.Report
   behind_report (task, entries, t, report) = (task, t)
 
-  behind_streams : AreAccepted seen w role.Report → AreAccepted seen w role.Streams
+  behind_streams : AreAcceptedBefore seen w role.Report → AreAcceptedBefore seen w role.Streams
   behind_streams (task, t) = (task.domain, t.domain, (task.problem, t.problem))
 
-  behind_problem : AreAccepted seen w role.Streams → AreAccepted seen w role.Problem
+  behind_problem : AreAcceptedBefore seen w role.Streams → AreAcceptedBefore seen w role.Problem
   behind_problem (d, domain, problem) = (d, domain)
 
   -- the files are one, or the one that is read first is accepted where the other one is read
   abbrev OneIsFirst : FileRole → FileRole → Type 0
-  OneIsFirst a b = (a ≡ b) ⊎ ((AreAccepted seen w b → IsGood a) ⊎ (AreAccepted seen w a → IsGood b))
+  OneIsFirst a b = (a ≡ b) ⊎ ((AreAcceptedBefore seen w b → IsGood a) ⊎ (AreAcceptedBefore seen w a → IsGood b))
 
   one_first : (a b : FileRole) → OneIsFirst a b
   one_first role.Domain role.Domain = inl refl
@@ -288,12 +288,12 @@ module _ (told : FileMap) (w : ValidateWords) where
 
   -- ---- where something is said
 
-  all_good : (v : Verdict) (claimed : Option ℕ) → IsJudged seen w v claimed → (which : FileRole) → IsGood which
+  all_good : (v : Verdict) (claimed : Option ℕ) → IsJudgedPlan seen w v claimed → (which : FileRole) → IsGood which
   all_good v claimed a role.Domain = behind_problem (behind_streams (a.task, a.spelled))
   all_good v claimed a role.Problem = behind_streams (a.task, a.spelled)
   all_good v claimed a role.Streams = (a.task, a.spelled)
   all_good v claimed a role.Report = (a.task, a.entries, a.spelled, a.report)
   all_good v claimed a role.Plan = (a.calls, claimed, a.plan)
 
-  pub judged_goes_on : (v : Verdict) (claimed : Option ℕ) (why : Stop) → IsJudged seen w v claimed → ¬ (IsHalt why)
+  pub judged_goes_on : (v : Verdict) (claimed : Option ℕ) (why : Stop) → IsJudgedPlan seen w v claimed → ¬ (IsHalt why)
   judged_goes_on v claimed why a h = good_goes_on h.which (all_good v claimed a h.which) why h.halts

@@ -34,7 +34,7 @@ use Rattle.transcript_model.specs.declared.entry.Call.{Call}
 use Rattle.validate_app.proofs.VerdictsLemmas.{is_plan, none_lead, one_more}
 use Rattle.validate_app.specs.Parts.{false_text}
 use Rattle.validate_app.specs.Steps.{action_called, first_flaw}
-use Rattle.validate_app.specs.Verdicts.{FailsAt, IsVerdict, LeadTo, MissesGoal}
+use Rattle.validate_app.specs.Verdicts.{FailsAtCall, IsPlanVerdict, CallsLeadTo, MissesGoal}
 use Rattle.validate_app.specs.declared.verdict.StepFlaw.{StepFlaw}
 use Rattle.validate_app.specs.declared.verdict.StepFlaw.TheVariants as flaw
 use Rattle.validate_app.specs.declared.verdict.Verdict.{Verdict}
@@ -163,25 +163,25 @@ module _ (task : Task) (fit : IsFit task) (known : Known) (coherent : IsCoherent
 -- ---- calls, one after another
 
 module _ (task : Task) (fit : IsFit task) (known : Known) (coherent : IsCoherent known) where
-  can_run : (calls : List Call) (state : Atoms) (cost : ℕ) → LeadTo task known calls state cost → CanRun task known calls
+  can_run : (calls : List Call) (state : Atoms) (cost : ℕ) → CallsLeadTo task known calls state cost → CanRun task known calls
   can_run calls state cost lead =
       record { steps = lead.steps; shown = lead.shown; state = state; cost = cost; runs = lead.runs }
 
   -- calls lead to one state, at one cost
-  lead_once : (calls : List Call) (a b : Atoms) (m n : ℕ) → LeadTo task known calls a m → LeadTo task known calls b n
+  lead_once : (calls : List Call) (a b : Atoms) (m n : ℕ) → CallsLeadTo task known calls a m → CallsLeadTo task known calls b n
       → (a ≡ b) × (m ≡ n)
   lead_once calls a b m n x y =
       let same = same_steps task fit known coherent (initial_state task) a b x.steps y.steps m n x.runs y.runs (sym x.shown ∙ y.shown) in
       execution_determined task known (initial_state task) y.steps a b m n
       (subst (λ steps. Executes task known (initial_state task) steps a m) same x.runs) y.runs
 
-  run_of : (calls : List Call) (state : Atoms) (cost : ℕ) → LeadTo task known calls state cost
+  run_of : (calls : List Call) (state : Atoms) (cost : ℕ) → CallsLeadTo task known calls state cost
       → IsRunOf task known calls (record { state = state; cost = Some cost })
   run_of calls state cost lead =
       record { steps = lead.steps; shown = lead.shown; total = cost; runs = lead.runs; sum = refl }
 
   -- a call that is stuck can't be taken behind those before it
-  not_behind : (calls : List Call) (call : Call) (state : Atoms) (cost : ℕ) → LeadTo task known calls state cost
+  not_behind : (calls : List Call) (call : Call) (state : Atoms) (cost : ℕ) → CallsLeadTo task known calls state cost
       → IsStuck task fit known coherent state call → ¬ (CanRun task known (calls ++ call ∷ []))
   not_behind calls call state cost lead (inl none) can = no_step task fit known coherent calls call none can
   not_behind calls call state cost lead (inr (step, why, is)) can =
@@ -199,7 +199,7 @@ module _ (task : Task) (fit : IsFit task) (known : Known) (coherent : IsCoherent
       by (inr cannot) = cannot.stuck
 
   -- where a step fails, no more calls can be taken
-  fails_end : (calls : List Call) (number : ℕ) (why : StepFlaw) (f : FailsAt task known calls number why) (k : ℕ)
+  fails_end : (calls : List Call) (number : ℕ) (why : StepFlaw) (f : FailsAtCall task known calls number why) (k : ℕ)
       → f.place < k → ¬ (CanRun task known (take k calls))
   fails_end calls number why f k lt can =
       let front : CanRun task known (take (f.place + 1) (take k calls)) = front_can task known (take k calls) (f.place + 1) can in
@@ -213,7 +213,7 @@ module _ (task : Task) (fit : IsFit task) (known : Known) (coherent : IsCoherent
   all_taken calls = take_all (length calls) calls (omega arith)
 
   -- a step that fails stands among the calls, which aren't all taken then
-  fails_all : (calls : List Call) (number : ℕ) (why : StepFlaw) → FailsAt task known calls number why
+  fails_all : (calls : List Call) (number : ℕ) (why : StepFlaw) → FailsAtCall task known calls number why
       → ¬ (CanRun task known calls)
   fails_all calls number why f can =
       fails_end calls number why f (length calls) (slice_get_within calls f.place f.call f.there)
@@ -221,13 +221,13 @@ module _ (task : Task) (fit : IsFit task) (known : Known) (coherent : IsCoherent
 
   -- ---- one verdict at most
 
-  fails_once : (calls : List Call) (number other : ℕ) (why than : StepFlaw) → FailsAt task known calls number why
-      → FailsAt task known calls other than → (number ≡ other) × (why ≡ than)
+  fails_once : (calls : List Call) (number other : ℕ) (why than : StepFlaw) → FailsAtCall task known calls number why
+      → FailsAtCall task known calls other than → (number ≡ other) × (why ≡ than)
   fails_once calls number other why than f g = by (cases_lt f.place g.place) (cases_lt g.place f.place)
     where
       here : f.place ≡ g.place → (number ≡ other) × (why ≡ than)
       here same =
-          let before = subst (λ k. LeadTo task known (take k calls) f.state f.cost) same f.before in
+          let before = subst (λ k. CallsLeadTo task known (take k calls) f.state f.cost) same f.before in
           let states = (lead_once (take g.place calls) f.state g.state f.cost g.cost before g.before).0 in
           let calls_same : f.call ≡ g.call =
           same_Some f.call g.call (sym f.there ∙ ap (slice_get calls) same ∙ g.there) in (
@@ -241,7 +241,7 @@ module _ (task : Task) (fit : IsFit task) (known : Known) (coherent : IsCoherent
       by (inr ge) (inl lt) = absurd (fails_end calls other than g f.place lt (can_run (take f.place calls) f.state f.cost f.before))
       by (inr ge) (inr le) = here (omega (arith, ge, le))
 
-  plan_leads : (calls : List Call) (cost : ℕ) (p : IsPlan task known calls cost) → LeadTo task known calls p.valid.0 cost
+  plan_leads : (calls : List Call) (cost : ℕ) (p : IsPlan task known calls cost) → CallsLeadTo task known calls p.valid.0 cost
   plan_leads calls cost p = record { steps = p.steps; shown = p.shown; runs = p.valid.1 }
 
   plan_once : (calls : List Call) (m n : ℕ) → IsPlan task known calls m → IsPlan task known calls n → m ≡ n
@@ -265,7 +265,7 @@ module _ (task : Task) (fit : IsFit task) (known : Known) (coherent : IsCoherent
   plan_runs : (calls : List Call) (cost : ℕ) → IsPlan task known calls cost → CanRun task known calls
   plan_runs calls cost p = can_run calls p.valid.0 cost (plan_leads calls cost p)
 
-  pub verdict_once : (calls : List Call) (v w : Verdict) → IsVerdict task known calls v → IsVerdict task known calls w → v ≡ w
+  pub verdict_once : (calls : List Call) (v w : Verdict) → IsPlanVerdict task known calls v → IsPlanVerdict task known calls w → v ≡ w
   verdict_once calls (Valid m) (Valid n) p q = ap Valid (plan_once calls m n p q)
   verdict_once calls (Valid m) (Step number why) p f = absurd (fails_all calls number why f (plan_runs calls m p))
   verdict_once calls (Valid m) (Goal part) p g = absurd (plan_misses calls m part p g)
@@ -285,12 +285,12 @@ module _ (task : Task) (fit : IsFit task) (known : Known) (coherent : IsCoherent
   record Led (calls : List Call) (place : ℕ) : Type 0 where
     state : Atoms
     cost : ℕ
-    leads : LeadTo task known (take place calls) state cost
+    leads : CallsLeadTo task known (take place calls) state cost
 
   record Failed (calls : List Call) : Type 0 where
     number : ℕ
     why : StepFlaw
-    fails : FailsAt task known calls number why
+    fails : FailsAtCall task known calls number why
 
   led_more : (calls : List Call) (place : ℕ) → place < length calls → Led calls place → Led calls (suc place) ⊎ Failed calls
   led_more calls place lt led = by (judged task fit known coherent led.state (get_there calls place lt).0)
@@ -328,11 +328,11 @@ module _ (task : Task) (fit : IsFit task) (known : Known) (coherent : IsCoherent
       by (inl led) = led_more calls place (omega (arith, le)) led
       by (inr failed) = inr failed
 
-  pub some_verdict : (calls : List Call) → (v : Verdict) × IsVerdict task known calls v
+  pub some_verdict : (calls : List Call) → (v : Verdict) × IsPlanVerdict task known calls v
   some_verdict calls = by (led_upto calls (length calls) (omega arith))
     where
-      by_goal : (led : Led calls (length calls)) → LeadTo task known calls led.state led.cost → (b : Bool)
-          → is_true task.domain known led.state task.problem.goal (slots_of []) ≡ b → (v : Verdict) × IsVerdict task known calls v
+      by_goal : (led : Led calls (length calls)) → CallsLeadTo task known calls led.state led.cost → (b : Bool)
+          → is_true task.domain known led.state task.problem.goal (slots_of []) ≡ b → (v : Verdict) × IsPlanVerdict task known calls v
       by_goal led leads true reached = (Valid led.cost, is_plan task fit known coherent calls led.state led.cost leads reached)
       by_goal led leads false missed = (
         Goal (false_text task known led.state task.problem.goal []),
@@ -345,8 +345,8 @@ module _ (task : Task) (fit : IsFit task) (known : Known) (coherent : IsCoherent
         },
       )
 
-      by : Led calls (length calls) ⊎ Failed calls → (v : Verdict) × IsVerdict task known calls v
+      by : Led calls (length calls) ⊎ Failed calls → (v : Verdict) × IsPlanVerdict task known calls v
       by (inl led) =
-          by_goal led (subst (λ cs. LeadTo task known cs led.state led.cost) (all_taken calls) led.leads)
+          by_goal led (subst (λ cs. CallsLeadTo task known cs led.state led.cost) (all_taken calls) led.leads)
           (is_true task.domain known led.state task.problem.goal (slots_of [])) refl
       by (inr failed) = (Step failed.number failed.why, failed.fails)

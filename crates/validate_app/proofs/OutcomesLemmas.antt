@@ -4,12 +4,12 @@ use Rattle.io_world.specs.FileMap.{FileMap}
 use Rattle.task_model.specs.Known.{Known}
 use Rattle.task_model.specs.declared.task.Task.{Task}
 use Rattle.transcript_model.specs.declared.entry.Call.{Call}
-use Rattle.validate_app.specs.Files.{FilesSeen}
-use Rattle.validate_app.specs.Inputs.{IsCertain, IsPlanOf, IsTaskOf, IsTranscriptOf, StopsAt}
-use Rattle.validate_app.specs.Verdicts.{IsVerdict}
-use Rattle.validate_app.specs.Words.{ValidateWords, words_of}
+use Rattle.validate_app.specs.Files.{TextsSeen}
+use Rattle.validate_app.specs.Inputs.{IsCertain, IsPlanOf, IsPlainTaskOf, IsTranscriptOf, StopsAtText}
+use Rattle.validate_app.specs.Verdicts.{IsPlanVerdict}
+use Rattle.validate_app.specs.Words.{ValidateWords, paths_of_words}
 use Rattle.validate_app.specs.declared.verdict.Verdict.{Verdict}
-use Rattle.validate_app.specs.Outcomes.{Ends, HasStopped, IsJudged, IsOutcome, Tells}
+use Rattle.validate_app.specs.Outcomes.{ValidationEnds, HasNoVerdict, IsJudgedPlan, IsOutcome, TellsOutcome}
 use Rattle.validate_app.specs.Told.{status_of, text_of}
 use Rattle.validate_app.specs.declared.outcome.Outcome.{Outcome}
 use Rattle.validate_app.specs.declared.outcome.Outcome.TheVariants.{Judged, Stopped}
@@ -20,13 +20,13 @@ use Rattle.validate_app.specs.declared.stop.Stop.TheVariants as stop
 use Rattle.validate_app.specs.declared.verdict.Verdict.TheVariants as verdict
 
 -- its text was told
-pub ends_told : (words : List (List ℕ)) (files : FilesSeen) (before after : Option (List ℕ)) (end : Status) (o : Outcome)
+pub ends_told : (words : List (List ℕ)) (files : TextsSeen) (before after : Option (List ℕ)) (end : Status) (o : Outcome)
     → IsOutcome words files o → (text : List ℕ) → text ≡ text_of o → (status : Status) → status ≡ status_of o
-    → Tells text status before after end → Ends words files before after end
+    → TellsOutcome text status before after end → ValidationEnds words files before after end
 ends_told words files before after end o cause text is status so told = record {
   outcome = o;
   cause = cause;
-  told = subst (λ s. Tells (text_of o) s before after end) so (subst (λ t. Tells t status before after end) is told);
+  told = subst (λ s. TellsOutcome (text_of o) s before after end) so (subst (λ t. TellsOutcome t status before after end) is told);
 }
 
 -- no outcome is a fault of the sink
@@ -51,8 +51,8 @@ sink_failed o status end so (inr cause) fault = cause
 -- ---- words
 
 -- why there is no verdict for words with these paths
-pub has_stopped : (words : List (List ℕ)) (files : FilesSeen) (w : ValidateWords) → words_of words ≡ Some w → (why : Stop)
-    → StopsAt files w why → HasStopped words files why
+pub has_stopped : (words : List (List ℕ)) (files : TextsSeen) (w : ValidateWords) → paths_of_words words ≡ Some w → (why : Stop)
+    → StopsAtText files w why → HasNoVerdict words files why
 has_stopped words files w meant stop.Usage n = absurd n
 has_stopped words files w meant (stop.Refused which kind place) n = (w, meant, n)
 has_stopped words files w meant (stop.Flawed line flaw) n = (w, meant, n)
@@ -63,10 +63,10 @@ has_stopped words files w meant stop.Memory n = tt
 -- ---- verdicts
 
 -- what is said over what the transcript certifies is said of the files
-pub is_judged : (told : Option FileMap) (w : ValidateWords) (task : Task) → IsTaskOf told w task → (mid : Option FileMap)
+pub is_judged : (told : Option FileMap) (w : ValidateWords) (task : Task) → IsPlainTaskOf told w task → (mid : Option FileMap)
     → mid ≡ told → (known : Known) → IsCertain mid w task known → (later : Option FileMap) → later ≡ told
     → (calls : List Call) (claimed : Option ℕ) → IsPlanOf later w calls claimed → (slice : List Call) → slice ≡ calls
-    → (v : Verdict) → IsVerdict task known slice v → IsJudged told w v claimed
+    → (v : Verdict) → IsPlanVerdict task known slice v → IsJudgedPlan told w v claimed
 is_judged told w task spelled mid first known certain later same calls claimed plan slice is v said = record {
   task = task;
   spelled = spelled;
@@ -74,5 +74,5 @@ is_judged told w task spelled mid first known certain later same calls claimed p
   report = subst (λ t. IsTranscriptOf t w task certain.0) first certain.1;
   calls = calls;
   plan = subst (λ t. IsPlanOf t w calls claimed) same plan;
-  said = subst (λ k. IsVerdict task k calls v) certain.2 (subst (λ cs. IsVerdict task known cs v) is said);
+  said = subst (λ k. IsPlanVerdict task k calls v) certain.2 (subst (λ cs. IsPlanVerdict task known cs v) is said);
 }

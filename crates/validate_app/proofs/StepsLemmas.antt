@@ -17,7 +17,7 @@ use Rattle.transcript_model.proofs.NamesLemmas.{map_some}
 use Rattle.transcript_model.specs.Names.{places_of}
 use Rattle.transcript_model.specs.declared.entry.Call.{Call}
 use Rattle.validate_app.specs.Parts.{false_text}
-use Rattle.validate_app.specs.Steps.{IsFlawed, IsSmall, IsTaken, action_called, cost_flaw, first_flaw, flaw_of, flaw_over, flaw_with}
+use Rattle.validate_app.specs.Steps.{IsStepFlawed, IsSmallStep, IsTakenStep, action_called, cost_flaw, first_flaw, flaw_of, flaw_over, flaw_with}
 use Rattle.validate_app.specs.declared.step.Taken.{Taken}
 use Rattle.validate_app.specs.declared.step.Taken.TheVariants.{Costs, Fails}
 use Rattle.validate_app.specs.declared.verdict.StepFlaw.TheVariants as flaw
@@ -121,16 +121,16 @@ fails_still task known before after step NoCost same fails =
 module _ (task : Task) (known : Known) (before after : Atoms) (fault : StepFault)
     (same : ¬ (fault ≡ Memory) → after ≡ before) where
   -- so it can't be taken, and the state is as before
-  pub flawed_taken : (call : Call) (r : Result Taken AllocError) → IfOk r (IsFlawed task known after call)
+  pub flawed_taken : (call : Call) (r : Result Taken AllocError) → IfOk r (IsStepFlawed task known after call)
       → IfOk r (λ _. ¬ (fault ≡ Memory))
-      → IfOk r (IsTaken task known before call after)
+      → IfOk r (IsTakenStep task known before call after)
   flawed_taken call (Ok (Costs cost)) flawed real = absurd flawed
   flawed_taken call (Ok (Fails why)) flawed real =
       (subst (λ s. first_flaw task known s call ≡ Some why) (same real) flawed, same real)
   flawed_taken call (Err e) flawed real = tt
 
 pub flawed_small : (task : Task) (known : Known) (state : Atoms) (call : Call) (r : Result Taken AllocError)
-    → IfOk r (IsFlawed task known state call) → IfOk r IsSmall
+    → IfOk r (IsStepFlawed task known state call) → IfOk r IsSmallStep
 flawed_small task known state call (Ok (Costs cost)) flawed = absurd flawed
 flawed_small task known state call (Ok (Fails why)) flawed = tt
 flawed_small task known state call (Err e) flawed = tt

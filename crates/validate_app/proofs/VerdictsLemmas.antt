@@ -16,18 +16,18 @@ use Rattle.task_model.specs.declared.task.Task.{Task}
 use Rattle.transcript_model.specs.Calls.{call_of_step}
 use Rattle.transcript_model.specs.declared.entry.Call.{Call}
 use Rattle.shown_steps.specs.Plans.{IsPlan}
-use Rattle.validate_app.specs.Verdicts.{LeadTo}
+use Rattle.validate_app.specs.Verdicts.{CallsLeadTo}
 
 module _ (task : Task) (fit : IsFit task) (known : Known) (coherent : IsCoherent known) where
   -- no step was taken
-  pub none_lead : (state : Atoms) → state ≡ initial_state task → LeadTo task known [] state 0
+  pub none_lead : (state : Atoms) → state ≡ initial_state task → CallsLeadTo task known [] state 0
   none_lead state is = record { steps = []; shown = refl; runs = (sym is, refl) }
 
   -- one step more
   pub one_more : (calls : List Call) (place : ℕ) (call : Call) (before after : Atoms) (cost more : ℕ)
-      → slice_get calls place ≡ Some call → LeadTo task known (take place calls) before cost
+      → slice_get calls place ≡ Some call → CallsLeadTo task known (take place calls) before cost
       → (step : GroundAction) × (step_named task known.names call ≡ Some step) × IsStep task known before step after more
-      → LeadTo task known (take (suc place) calls) after (cost + more)
+      → CallsLeadTo task known (take (suc place) calls) after (cost + more)
   one_more calls place call before after cost more at lead (step, is, taken) =
       let one : Executes task known before (step ∷ []) after more = (after, more, 0, taken, (refl, refl), omega arith) in
       record {
@@ -40,7 +40,7 @@ module _ (task : Task) (fit : IsFit task) (known : Known) (coherent : IsCoherent
       }
 
   -- the calls that reach the goal are a plan
-  pub is_plan : (calls : List Call) (state : Atoms) (cost : ℕ) → LeadTo task known calls state cost
+  pub is_plan : (calls : List Call) (state : Atoms) (cost : ℕ) → CallsLeadTo task known calls state cost
       → IsGoal task known state → IsPlan task known calls cost
   is_plan calls state cost lead reached =
       record { steps = lead.steps; shown = lead.shown; valid = (state, lead.runs, reached) }

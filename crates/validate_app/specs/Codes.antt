@@ -3,11 +3,11 @@ use Rattle.std.specs.Prelude.{ℕ}
 use Rattle.validate_app.specs.declared.status.Status.{Status}
 use Rattle.validate_app.specs.declared.status.Status.TheVariants.{Valid, Invalid, Usage, Input, ReadFault, WriteFault, Memory}
 
-abbrev pub code_of : Status → ℕ
-code_of Valid = 0
-code_of Invalid = 1
-code_of Usage = 3
-code_of Input = 4
-code_of ReadFault = 6
-code_of WriteFault = 8
-code_of Memory = 9
+abbrev pub validation_code : Status → ℕ
+validation_code Valid = 0
+validation_code Invalid = 1
+validation_code Usage = 3
+validation_code Input = 4
+validation_code ReadFault = 6
+validation_code WriteFault = 8
+validation_code Memory = 9

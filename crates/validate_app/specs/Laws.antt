@@ -4,8 +4,8 @@ use Rattle.io_world.specs.FileMap.{FileMap}
 use Rattle.task_model.specs.declared.task.Task.{Task}
 use Rattle.transcript_model.specs.declared.entry.Call.{Call}
 use Rattle.transcript_model.specs.declared.entry.Entry.{Entry}
-use Rattle.validate_app.specs.Inputs.{IsPlanOf, IsTaskOf, IsTranscriptOf}
-use Rattle.validate_app.specs.Outcomes.{IsJudged, IsOutcome}
+use Rattle.validate_app.specs.Inputs.{IsPlanOf, IsPlainTaskOf, IsTranscriptOf}
+use Rattle.validate_app.specs.Outcomes.{IsJudgedPlan, IsOutcome}
 use Rattle.validate_app.specs.Words.{ValidateWords}
 use Rattle.validate_app.specs.declared.outcome.Outcome.{Outcome}
 use Rattle.validate_app.specs.declared.outcome.Outcome.TheVariants.{Judged, Stopped}
@@ -36,5 +36,5 @@ OutcomesAreUnique =
 abbrev pub SpelledPlansAreJudged : Type 0
 SpelledPlansAreJudged =
     (told : Option FileMap) (w : ValidateWords) (task : Task) (entries : List Entry) (calls : List Call) (claimed : Option ℕ)
-    → IsTaskOf told w task → IsTranscriptOf told w task entries → IsPlanOf told w calls claimed
-    → (v : Verdict) × IsJudged told w v claimed
+    → IsPlainTaskOf told w task → IsTranscriptOf told w task entries → IsPlanOf told w calls claimed
+    → (v : Verdict) × IsJudgedPlan told w v claimed

@@ -53,23 +53,23 @@ module _ (task : Task) (known : Known) (state : Atoms) where
   first_flaw call = flaw_of (action_called task call.name) call.args
 
 -- The step that the call shows was taken and costs so much; or it can't be, and the state is as before.
-abbrev pub IsTaken : Task → Known → Atoms → Call → Atoms → Taken → Type 0
-IsTaken task known before call after (Costs cost) =
+abbrev pub IsTakenStep : Task → Known → Atoms → Call → Atoms → Taken → Type 0
+IsTakenStep task known before call after (Costs cost) =
     (step : GroundAction) × (step_named task known.names call ≡ Some step) × IsStep task known before step after cost
-IsTaken task known before call after (Fails why) =
+IsTakenStep task known before call after (Fails why) =
     (first_flaw task known before call ≡ Some why) × (after ≡ before)
 
 -- this is why the step that the call shows can't be taken
-abbrev pub IsFlawed : Task → Known → Atoms → Call → Taken → Type 0
-IsFlawed task known state call (Costs cost) = ⊥
-IsFlawed task known state call (Fails why) = first_flaw task known state call ≡ Some why
+abbrev pub IsStepFlawed : Task → Known → Atoms → Call → Taken → Type 0
+IsStepFlawed task known state call (Costs cost) = ⊥
+IsStepFlawed task known state call (Fails why) = first_flaw task known state call ≡ Some why
 
 -- a step costs at most what 2^18 terms of 1,000,000 each do
-abbrev pub IsSmall : Taken → Type 0
-IsSmall (Costs cost) = cost ≤ 262144000000
-IsSmall (Fails why) = ⊤
+abbrev pub IsSmallStep : Taken → Type 0
+IsSmallStep (Costs cost) = cost ≤ 262144000000
+IsSmallStep (Fails why) = ⊤
 
 -- the call is one of an action of the task, with as many arguments as that has parameters
-abbrev pub IsCounted : Task → Call → Type 0
-IsCounted task call =
+abbrev pub HasItsArguments : Task → Call → Type 0
+HasItsArguments task call =
     (a : Action) × (action_called task call.name ≡ Some a) × (length call.args ≡ length a.params)

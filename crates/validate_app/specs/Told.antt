@@ -4,7 +4,7 @@ use Rattle.std.specs.Fmt.{decimal}
 use Rattle.legal_report.specs.declared.flaw.ReportFlaw.{ReportFlaw}
 use Rattle.legal_report.specs.declared.flaw.ReportFlaw.TheVariants as report
 use Rattle.task_reader.specs.Kinds.{kind_word}
-use Rattle.validate_app.specs.Words.{usage_text}
+use Rattle.validate_app.specs.Words.{validation_usage}
 use Rattle.validate_app.specs.declared.outcome.Outcome.{Outcome}
 use Rattle.validate_app.specs.declared.outcome.Outcome.TheVariants.{Judged, Stopped}
 use Rattle.validate_app.specs.declared.status.Status.{Status}
@@ -34,11 +34,11 @@ flaw_part (flaw.Condition part) = part ++ codes "\n"
 flaw_part why = []
 
 -- the verdict's line, and that of the part that is false
-abbrev pub verdict_text : Verdict → List ℕ
-verdict_text (verdict.Valid cost) = codes "valid " ++ decimal cost ++ codes "\n"
-verdict_text (verdict.Step number why) =
+abbrev pub plan_verdict_text : Verdict → List ℕ
+plan_verdict_text (verdict.Valid cost) = codes "valid " ++ decimal cost ++ codes "\n"
+plan_verdict_text (verdict.Step number why) =
     codes "invalid " ++ decimal number ++ codes " " ++ flaw_word why ++ codes "\n" ++ flaw_part why
-verdict_text (verdict.Goal part) = codes "invalid goal\n" ++ part ++ codes "\n"
+plan_verdict_text (verdict.Goal part) = codes "invalid goal\n" ++ part ++ codes "\n"
 
 abbrev pub status_of_verdict : Verdict → Status
 status_of_verdict (verdict.Valid cost) = status.Valid
@@ -59,12 +59,12 @@ claim_text (verdict.Goal part) claimed = []
 
 -- ---- runs without a verdict
 
-abbrev pub role_word : FileRole → List ℕ
-role_word role.Domain = codes "domain"
-role_word role.Problem = codes "problem"
-role_word role.Streams = codes "streams"
-role_word role.Report = codes "report"
-role_word role.Plan = codes "plan"
+abbrev pub text_role_word : FileRole → List ℕ
+text_role_word role.Domain = codes "domain"
+text_role_word role.Problem = codes "problem"
+text_role_word role.Streams = codes "streams"
+text_role_word role.Report = codes "report"
+text_role_word role.Plan = codes "plan"
 
 -- what is said of a refused text before its kind
 abbrev pub refused_word : FileRole → List ℕ
@@ -81,13 +81,13 @@ report_word report.Ask = codes "ask"
 report_word report.Answer = codes "answer"
 
 abbrev pub stop_text : Stop → List ℕ
-stop_text stop.Usage = codes "fault usage\n" ++ usage_text
+stop_text stop.Usage = codes "fault usage\n" ++ validation_usage
 stop_text (stop.Refused which kind place) =
     refused_word which ++ kind_word kind ++ codes " " ++ decimal place ++ codes "\n"
 stop_text (stop.Flawed line flaw) =
     refused_word role.Report ++ report_word flaw ++ codes " " ++ decimal line ++ codes "\n"
-stop_text (stop.Failed which) = codes "fault read " ++ role_word which ++ codes " failed\n"
-stop_text (stop.TooLong which) = codes "fault read " ++ role_word which ++ codes " too-long\n"
+stop_text (stop.Failed which) = codes "fault read " ++ text_role_word which ++ codes " failed\n"
+stop_text (stop.TooLong which) = codes "fault read " ++ text_role_word which ++ codes " too-long\n"
 stop_text stop.Memory = codes "fault memory\n"
 
 abbrev pub status_of_stop : Stop → Status
@@ -101,7 +101,7 @@ status_of_stop stop.Memory = status.Memory
 -- ---- all ends
 
 abbrev pub text_of : Outcome → List ℕ
-text_of (Judged v claimed) = verdict_text v ++ claim_text v claimed
+text_of (Judged v claimed) = plan_verdict_text v ++ claim_text v claimed
 text_of (Stopped why) = stop_text why
 
 abbrev pub status_of : Outcome → Status

@@ -16,19 +16,19 @@ use Rattle.validate_app.specs.declared.verdict.Verdict.TheVariants.{Valid, Step,
 
 module _ (task : Task) (known : Known) where
   -- The calls show steps that can be taken one after another from the initial state, and lead to this one.
-  pub record LeadTo (calls : List Call) (state : Atoms) (cost : ℕ) : Type 0 where
+  pub record CallsLeadTo (calls : List Call) (state : Atoms) (cost : ℕ) : Type 0 where
     pub steps : List GroundAction
     pub shown : ShowsSteps task known calls steps
     pub runs : Executes task known (initial_state task) steps state cost
 
   -- The calls before the one of this number, from 1, lead to a state in which it shows a step that can't be taken, for
   -- this reason.
-  pub record FailsAt (calls : List Call) (number : ℕ) (why : StepFlaw) : Type 0 where
+  pub record FailsAtCall (calls : List Call) (number : ℕ) (why : StepFlaw) : Type 0 where
     pub place : ℕ
     pub numbered : number ≡ place + 1
     pub state : Atoms
     pub cost : ℕ
-    pub before : LeadTo (take place calls) state cost
+    pub before : CallsLeadTo (take place calls) state cost
     pub call : Call
     pub there : slice_get calls place ≡ Some call
     pub fails : first_flaw task known state call ≡ Some why
@@ -37,13 +37,13 @@ module _ (task : Task) (known : Known) where
   pub record MissesGoal (calls : List Call) (part : List ℕ) : Type 0 where
     pub state : Atoms
     pub cost : ℕ
-    pub runs : LeadTo calls state cost
+    pub runs : CallsLeadTo calls state cost
     pub missed : ¬ (IsGoal task known state)
     pub told : part ≡ false_text task known state task.problem.goal []
 
   -- What is said of the plan that calls show: it is valid at this cost; or a step is the first that can't be taken; or
   -- all can be, and the goal is false behind them.
-  abbrev pub IsVerdict : List Call → Verdict → Type 0
-  IsVerdict calls (Valid cost) = IsPlan task known calls cost
-  IsVerdict calls (Step number why) = FailsAt calls number why
-  IsVerdict calls (Goal part) = MissesGoal calls part
+  abbrev pub IsPlanVerdict : List Call → Verdict → Type 0
+  IsPlanVerdict calls (Valid cost) = IsPlan task known calls cost
+  IsPlanVerdict calls (Step number why) = FailsAtCall calls number why
+  IsPlanVerdict calls (Goal part) = MissesGoal calls part

@@ -2,7 +2,7 @@
 use Rattle.std.specs.Prelude.{ℕ, List, Option, None, Some, codes}
 use Rattle.clap.specs.Words.{App, Row, Text, first_of, new_app, new_rule, with_rule}
 use Rattle.command_line.specs.Apps.{positional}
-use Rattle.command_line.specs.Words.{given, read_by}
+use Rattle.command_line.specs.Words.{if_given, read_by}
 
 -- the paths of a report and of the streams over which it was made
 pub record ReportWords : Type 0 where
@@ -29,18 +29,18 @@ report_words (Some report) (Some streams) = Some (Some (record { report = report
 report_words report streams = None
 
 -- the paths in the rows that clap makes of the words
-abbrev pub words_in : List Row → Option ValidateWords
-words_in rows =
-    given (first_of (codes "domain") rows) (λ domain.
-    given (first_of (codes "problem") rows) (λ problem.
-    given (first_of (codes "plan") rows) (λ plan.
-    given (report_words (first_of (codes "report") rows) (first_of (codes "streams") rows)) (λ certified.
+abbrev pub validate_paths : List Row → Option ValidateWords
+validate_paths rows =
+    if_given (first_of (codes "domain") rows) (λ domain.
+    if_given (first_of (codes "problem") rows) (λ problem.
+    if_given (first_of (codes "plan") rows) (λ plan.
+    if_given (report_words (first_of (codes "report") rows) (first_of (codes "streams") rows)) (λ certified.
     Some (record { domain = domain; problem = problem; plan = plan; certified = certified })))))
 
 -- what the words mean, of which the first is the program's name; none where they aren't the program's
-abbrev pub words_of : List Text → Option ValidateWords
-words_of = read_by validate_app words_in
+abbrev pub paths_of_words : List Text → Option ValidateWords
+paths_of_words = read_by validate_app validate_paths
 
 -- the usage text, a line
-abbrev pub usage_text : List ℕ
-usage_text = codes "usage: pddl_validate DOMAIN PROBLEM PLAN [REPORT STREAMS]\n"
+abbrev pub validation_usage : List ℕ
+validation_usage = codes "usage: pddl_validate DOMAIN PROBLEM PLAN [REPORT STREAMS]\n"

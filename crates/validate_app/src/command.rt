@@ -1,10 +1,10 @@
 //! The program's call.
 ghost use Rattle.std.specs.Prelude.{◌≡◌, ◌≤◌, ◌⊎◌, List, ℕ, map, string_bytes, IfOk, IfErr};
 ghost use Rattle.io_world.specs.Faults.{last_count, Rose};
-ghost use Rattle.validate_app.specs.Files.{seen_of};
-ghost use Rattle.validate_app.specs.Held.{held};
-ghost use Rattle.validate_app.specs.Inputs.{StopsAt};
-ghost use Rattle.validate_app.specs.Outcomes.{Ends, IsJudged, IsOutcome, Tells};
+ghost use Rattle.validate_app.specs.Files.{texts_seen_of};
+ghost use Rattle.validate_app.specs.Held.{held_paths};
+ghost use Rattle.validate_app.specs.Inputs.{StopsAtText};
+ghost use Rattle.validate_app.specs.Outcomes.{ValidationEnds, IsJudgedPlan, IsOutcome, TellsOutcome};
 ghost use Rattle.validate_app.specs.declared.status.Status.TheVariants.{WriteFault};
 
 use crate::outcome::{MEMORY, Outcome};
@@ -32,10 +32,10 @@ fn judge_files<F: Files>(
     files: &mut F,
     paths: &Paths<'_>,
 ) -> Result<JudgedPlan, Stop>
-    ensures said { IfOk result (λ judged. IsJudged (F.told files.old) (held paths.now)
+    ensures said { IfOk result (λ judged. IsJudgedPlan (F.told files.old) (held_paths paths.now)
         judged.verdict judged.claimed) }
-    ensures stop { IfErr result (StopsAt (seen_of F.told F.faults files.old files.new)
-        (held paths.now)) }
+    ensures stop { IfErr result (StopsAtText (texts_seen_of F.told F.faults files.old files.new)
+        (held_paths paths.now)) }
 {
     let task = match read_task(alloc, files, paths) {
         Ok(task) => task,
@@ -66,7 +66,7 @@ fn judge_files<F: Files>(
 /// What the words lead to.
 fn outcome_of<F: Files>(alloc: Global, words: &[String], files: &mut F) -> Outcome
     ensures { IsOutcome (map string_bytes words.now)
-        (seen_of F.told F.faults files.old files.new) result }
+        (texts_seen_of F.told F.faults files.old files.new) result }
 {
     let paths = match read_words(alloc, words) {
         Ok(paths) => paths,
@@ -81,7 +81,7 @@ fn outcome_of<F: Files>(alloc: Global, words: &[String], files: &mut F) -> Outco
 
 /// Writes what is said at the end of a run.
 fn tell<O: Sink>(out: &mut O, text: &[u8], status: Status) -> Status
-    ensures told { Tells text.now status (O.taken out.old) (O.taken out.new) result }
+    ensures told { TellsOutcome text.now status (O.taken out.old) (O.taken out.new) result }
     ensures later { O.faults out.old ≤ O.faults out.new }
     ensures cause { (result ≡ status) ⊎ Rose last_count (O.faults out.old) (O.faults out.new) }
 {
@@ -120,8 +120,8 @@ fn tell<O: Sink>(out: &mut O, text: &[u8], status: Status) -> Status
 pub fn run<F: Files, O: Sink>(alloc: Global, words: &[String], files: &mut F, out: &mut O) -> Status
     // The run ends with what it came to, which has its cause in the words and the told files, and
     // whose text the sink took, or a part of it where the sink failed.
-    ensures ends { Ends (map string_bytes words.now)
-        (seen_of F.told F.faults files.old files.new) (O.taken out.old) (O.taken out.new) result }
+    ensures ends { ValidationEnds (map string_bytes words.now)
+        (texts_seen_of F.told F.faults files.old files.new) (O.taken out.old) (O.taken out.new) result }
     // A fault of the sink is answered only where its count rose.
     ensures sink { result ≡ WriteFault → Rose last_count (O.faults out.old) (O.faults out.new) }
 {

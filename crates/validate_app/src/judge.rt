@@ -2,7 +2,7 @@
 ghost use Rattle.std.specs.Prelude.{◌≡◌, ◌<◌, ◌^◌, length, IfOk};
 ghost use Rattle.task_model.specs.Fit.{IsFit};
 ghost use Rattle.task_model.specs.Initial.{initial_state};
-ghost use Rattle.validate_app.specs.Verdicts.{IsVerdict};
+ghost use Rattle.validate_app.specs.Verdicts.{IsPlanVerdict};
 
 use crate::local::is_local;
 use crate::step::{Scene, Taken};
@@ -20,7 +20,7 @@ impl Scene<'_> {
     pub(crate) fn judge(&self, calls: &[Call]) -> Result<Verdict, AllocError>
         requires fit { IsFit self.now.task.now }
         requires few { length calls.now < 2 ^ 26 }
-        ensures { IfOk result (IsVerdict self.now.task.now self.now.facts.now.known calls.now) }
+        ensures { IfOk result (IsPlanVerdict self.now.task.now self.now.facts.now.known calls.now) }
     {
         let state = initial(self.alloc, self.task)?;
         if is_local(self.task) {
@@ -35,7 +35,7 @@ impl Scene<'_> {
         requires fit { IsFit self.now.task.now }
         requires few { length calls.now < 2 ^ 26 }
         requires initial { B.atoms board ≡ initial_state self.now.task.now }
-        ensures { IfOk result (IsVerdict self.now.task.now self.now.facts.now.known calls.now) }
+        ensures { IfOk result (IsPlanVerdict self.now.task.now self.now.facts.now.known calls.now) }
     {
         let mut board = board;
         let mut cost: u64 = 0;

@@ -73,7 +73,7 @@ fn step_lines(alloc: Global, number: usize, flaw: &StepFlaw) -> Result<Vec<u8>, 
 
 /// The lines for a verdict. Fails only where memory is wanting.
 fn verdict_lines(alloc: Global, verdict: &Verdict) -> Result<Vec<u8>, AllocError>
-    ensures { IfOk result (λ text. text.items ≡ specs.verdict_text verdict.now) }
+    ensures { IfOk result (λ text. text.items ≡ specs.plan_verdict_text verdict.now) }
 {
     match verdict {
         Verdict::Valid(cost) => {
@@ -115,7 +115,7 @@ fn judged_lines(
     verdict: &Verdict,
     claimed: Option<u64>,
 ) -> Result<Vec<u8>, AllocError>
-    ensures { IfOk result (λ text. text.items ≡ specs.verdict_text verdict.now
+    ensures { IfOk result (λ text. text.items ≡ specs.plan_verdict_text verdict.now
         ++ specs.claim_text verdict.now claimed) }
 {
     let mut text = verdict_lines(alloc, verdict)?;

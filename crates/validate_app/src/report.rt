@@ -1,9 +1,9 @@
 //! The report of the words, and what its transcript certifies.
 ghost use Rattle.std.specs.Prelude.{◌≡◌, ◌≤◌, IfOk, IfErr, Some};
 ghost use Rattle.task_model.specs.Fit.{IsFit};
-ghost use Rattle.validate_app.specs.Files.{seen_of};
-ghost use Rattle.validate_app.specs.Held.{held, held_report};
-ghost use Rattle.validate_app.specs.Inputs.{IsCertain, IsTaskOf, StopsAt};
+ghost use Rattle.validate_app.specs.Files.{texts_seen_of};
+ghost use Rattle.validate_app.specs.Held.{held_paths, held_report};
+ghost use Rattle.validate_app.specs.Inputs.{IsCertain, IsPlainTaskOf, StopsAtText};
 
 use crate::stop::{FileRole, Stop};
 use crate::texts::read_file;
@@ -22,13 +22,13 @@ fn read_named_report<F: Files>(
     report: &ReportPaths<'_>,
     task: &Task,
 ) -> Result<Ledger, Stop>
-    requires named { (held paths.now).certified ≡ Some (held_report report.now) }
+    requires named { (held_paths paths.now).certified ≡ Some (held_report report.now) }
     requires fit { IsFit task.now }
-    requires task { IsTaskOf (F.told files.old) (held paths.now) task.now }
-    ensures known { IfOk result (λ ledger. IsCertain (F.told files.old) (held paths.now) task.now
+    requires task { IsPlainTaskOf (F.told files.old) (held_paths paths.now) task.now }
+    ensures known { IfOk result (λ ledger. IsCertain (F.told files.old) (held_paths paths.now) task.now
         ledger.facts.known) }
-    ensures stop { IfErr result (StopsAt (seen_of F.told F.faults files.old files.new)
-        (held paths.now)) }
+    ensures stop { IfErr result (StopsAtText (texts_seen_of F.told F.faults files.old files.new)
+        (held_paths paths.now)) }
     ensures same { F.told files.new ≡ F.told files.old }
     ensures later { F.faults files.old ≤ F.faults files.new }
 {
@@ -51,11 +51,11 @@ pub(crate) fn read_report<F: Files>(
     task: &Task,
 ) -> Result<Ledger, Stop>
     requires fit { IsFit task.now }
-    requires task { IsTaskOf (F.told files.old) (held paths.now) task.now }
-    ensures known { IfOk result (λ ledger. IsCertain (F.told files.old) (held paths.now) task.now
+    requires task { IsPlainTaskOf (F.told files.old) (held_paths paths.now) task.now }
+    ensures known { IfOk result (λ ledger. IsCertain (F.told files.old) (held_paths paths.now) task.now
         ledger.facts.known) }
-    ensures stop { IfErr result (StopsAt (seen_of F.told F.faults files.old files.new)
-        (held paths.now)) }
+    ensures stop { IfErr result (StopsAtText (texts_seen_of F.told F.faults files.old files.new)
+        (held_paths paths.now)) }
     ensures same { F.told files.new ≡ F.told files.old }
     ensures later { F.faults files.old ≤ F.faults files.new }
 {

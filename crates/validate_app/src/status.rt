@@ -1,6 +1,6 @@
 //! How a run ends.
 ghost use Rattle.std.specs.Prelude.{◌≡◌};
-ghost use Rattle.validate_app.specs.Codes.{code_of};
+ghost use Rattle.validate_app.specs.Codes.{validation_code};
 
 /// How a run ends, as the program's exit status tells it.
 #[derive(Clone, Copy, Debug, PartialEq, Eq)]
@@ -25,7 +25,7 @@ impl Status {
     /// The program's exit status: 0 and 1 for what is said of a plan, and for each other end the
     /// planner's.
     pub fn code(&self) -> u8
-        ensures { result ≡ code_of self.now }
+        ensures { result ≡ validation_code self.now }
     {
         match self {
             Status::Valid => 0,

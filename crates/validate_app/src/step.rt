@@ -4,7 +4,7 @@ ghost use Rattle.plan_check.specs.Faults.{StepFails};
 ghost use Rattle.plan_check.specs.declared.fault.StepFault.TheVariants.{Condition, Memory};
 ghost use Rattle.shown_steps.specs.Steps.{action_named, step_named};
 ghost use Rattle.task_model.specs.Fit.{IsFit};
-ghost use Rattle.validate_app.specs.Steps.{IsCounted, IsFlawed, IsSmall, IsTaken, action_called as called};
+ghost use Rattle.validate_app.specs.Steps.{HasItsArguments, IsStepFlawed, IsSmallStep, IsTakenStep, action_called as called};
 
 use crate::verdict::StepFlaw;
 use fact_store::Facts;
@@ -68,9 +68,9 @@ impl Scene<'_> {
     /// Takes the step that the call shows, and leaves the state as it was where it can't be taken.
     pub(crate) fn take<B: Board>(&self, board: &mut B, call: &Call) -> Result<Taken, AllocError>
         requires { IsFit self.now.task.now }
-        ensures taken { IfOk result (IsTaken self.now.task.now self.now.facts.now.known
+        ensures taken { IfOk result (IsTakenStep self.now.task.now self.now.facts.now.known
             (B.atoms board.old) call.now (B.atoms board.new)) }
-        ensures small { IfOk result (λ taken. IsSmall taken) }
+        ensures small { IfOk result (λ taken. IsSmallStep taken) }
     {
         let Some(action) = action_called(self.task, call.name.bytes()) else {
             return Ok(Taken::Fails(StepFlaw::Action));
@@ -85,10 +85,10 @@ impl Scene<'_> {
     /// The same of a call of an action of the task, with as many arguments as that has parameters.
     fn take_counted<B: Board>(&self, board: &mut B, call: &Call) -> Result<Taken, AllocError>
         requires fit { IsFit self.now.task.now }
-        requires counted { IsCounted self.now.task.now call.now }
-        ensures taken { IfOk result (IsTaken self.now.task.now self.now.facts.now.known
+        requires counted { HasItsArguments self.now.task.now call.now }
+        ensures taken { IfOk result (IsTakenStep self.now.task.now self.now.facts.now.known
             (B.atoms board.old) call.now (B.atoms board.new)) }
-        ensures small { IfOk result (λ taken. IsSmall taken) }
+        ensures small { IfOk result (λ taken. IsSmallStep taken) }
     {
         let Some(step) = step_of(self.alloc, self.task, self.facts, call)? else {
             return Ok(Taken::Fails(StepFlaw::Object));
@@ -109,12 +109,12 @@ impl Scene<'_> {
         fault: StepFault,
     ) -> Result<Taken, AllocError>
         requires fit { IsFit self.now.task.now }
-        requires counted { IsCounted self.now.task.now call.now }
+        requires counted { HasItsArguments self.now.task.now call.now }
         requires named { step_named self.now.task.now self.now.facts.now.known.names call.now
             ≡ Some step.now }
         requires fails { StepFails self.now.task.now self.now.facts.now.known (B.atoms board.now)
             step.now fault }
-        ensures flawed { IfOk result (λ taken. IsFlawed self.now.task.now
+        ensures flawed { IfOk result (λ taken. IsStepFlawed self.now.task.now
             self.now.facts.now.known (B.atoms board.now) call.now taken) }
         ensures real { IfOk result (λ _. ¬ (fault ≡ Memory)) }
     {
@@ -135,12 +135,12 @@ impl Scene<'_> {
         step: &GroundAction,
     ) -> Result<Taken, AllocError>
         requires fit { IsFit self.now.task.now }
-        requires counted { IsCounted self.now.task.now call.now }
+        requires counted { HasItsArguments self.now.task.now call.now }
         requires named { step_named self.now.task.now self.now.facts.now.known.names call.now
             ≡ Some step.now }
         requires fails { StepFails self.now.task.now self.now.facts.now.known (B.atoms board.now)
             step.now Condition }
-        ensures { IfOk result (λ taken. IsFlawed self.now.task.now self.now.facts.now.known
+        ensures { IfOk result (λ taken. IsStepFlawed self.now.task.now self.now.facts.now.known
             (B.atoms board.now) call.now taken) }
     {
         let Some(action) = action_at(self.task, step.action as usize) else {

@@ -1,9 +1,9 @@
 //! Why a run has no verdict.
 ghost use Rattle.std.specs.Prelude.{◌≡◌};
 ghost use Rattle.task_reader.specs.Refusals.{Refuses};
-ghost use Rattle.validate_app.specs.Files.{most_of};
-ghost use Rattle.validate_app.specs.Told.{role_word};
-ghost use Rattle.validate_app.specs.Inputs.{stop_for};
+ghost use Rattle.validate_app.specs.Files.{most_text_bytes};
+ghost use Rattle.validate_app.specs.Told.{text_role_word};
+ghost use Rattle.validate_app.specs.Inputs.{text_stop};
 
 use legal_report::ReportFlaw;
 use plan_reader::PLAN_BYTES;
@@ -28,7 +28,7 @@ pub(crate) enum FileRole {
 impl FileRole {
     /// The most bytes of such a file.
     pub(crate) fn most(self) -> usize
-        ensures { result ≡ most_of self }
+        ensures { result ≡ most_text_bytes self }
     {
         match self {
             FileRole::Domain | FileRole::Problem | FileRole::Streams => TEXT_BYTES,
@@ -39,7 +39,7 @@ impl FileRole {
 
     /// The word that stands for the file.
     pub(crate) fn word(self) -> &'static [u8]
-        ensures { result.now ≡ role_word self }
+        ensures { result.now ≡ text_role_word self }
     {
         match self {
             FileRole::Domain => b"domain",
@@ -77,7 +77,7 @@ pub(crate) enum Stop {
 
 /// Why the run stops whose text is refused so.
 pub(crate) fn stop_of(role: FileRole, refusal: InputRefusal) -> Stop
-    ensures { result ≡ stop_for role refusal }
+    ensures { result ≡ text_stop role refusal }
 {
     match refusal {
         InputRefusal::At { kind, place } => Stop::Refused { role, kind, place },

@@ -3,9 +3,9 @@ ghost use Rattle.std.specs.Prelude.{◌≡◌, ◌≤◌, [], IfOk, IfErr, Some,
 ghost use Rattle.problem_reader.specs.Fitness.{IsFitOver};
 ghost use Rattle.stream_reader.specs.Fitness.{AreFitOver};
 ghost use Rattle.task_model.specs.Fit.{IsFit, IsFitDomain};
-ghost use Rattle.validate_app.specs.Files.{EndsAt, HasBytes, seen_of};
-ghost use Rattle.validate_app.specs.Held.{held, held_report};
-ghost use Rattle.validate_app.specs.Inputs.{AreAccepted, AreStreamsOf, HasProblem, IsDomainOf, IsPlanOf, IsProblemOf, IsTaskOf, StopsAt};
+ghost use Rattle.validate_app.specs.Files.{EndsAt, HasTextBytes, texts_seen_of};
+ghost use Rattle.validate_app.specs.Held.{held_paths, held_report};
+ghost use Rattle.validate_app.specs.Inputs.{AreAcceptedBefore, AreStreamsByWords, HasProblem, IsDomainOf, IsPlanOf, IsProblemOf, IsPlainTaskOf, StopsAtText};
 ghost use Rattle.validate_app.specs.declared.stop.FileRole.TheVariants.{Plan};
 
 use crate::stop::{FileRole, Stop, stop_of};
@@ -23,8 +23,8 @@ pub(crate) fn read_file<F: Files>(
     role: FileRole,
     path: &str,
 ) -> Result<Vec<u8>, Stop>
-    ensures bytes { IfOk result (λ bytes. HasBytes (F.told files.old) role path.now bytes.items) }
-    ensures stop { IfErr result (EndsAt (seen_of F.told F.faults files.old files.new) role path.now) }
+    ensures bytes { IfOk result (λ bytes. HasTextBytes (F.told files.old) role path.now bytes.items) }
+    ensures stop { IfErr result (EndsAt (texts_seen_of F.told F.faults files.old files.new) role path.now) }
     ensures same { F.told files.new ≡ F.told files.old }
     ensures later { F.faults files.old ≤ F.faults files.new }
 {
@@ -38,10 +38,10 @@ pub(crate) fn read_file<F: Files>(
 
 /// Reads the domain.
 fn read_domain<F: Files>(alloc: Global, files: &mut F, paths: &Paths<'_>) -> Result<Domain, Stop>
-    ensures domain { IfOk result (IsDomainOf (F.told files.old) (held paths.now)) }
+    ensures domain { IfOk result (IsDomainOf (F.told files.old) (held_paths paths.now)) }
     ensures fit { IfOk result (λ domain. IsFitDomain domain) }
-    ensures stop { IfErr result (StopsAt (seen_of F.told F.faults files.old files.new)
-        (held paths.now)) }
+    ensures stop { IfErr result (StopsAtText (texts_seen_of F.told F.faults files.old files.new)
+        (held_paths paths.now)) }
     ensures same { F.told files.new ≡ F.told files.old }
     ensures later { F.faults files.old ≤ F.faults files.new }
 {
@@ -62,11 +62,11 @@ fn read_problem<F: Files>(
     paths: &Paths<'_>,
     domain: &Domain,
 ) -> Result<Problem, Stop>
-    requires domain { IsDomainOf (F.told files.old) (held paths.now) domain.now }
-    ensures problem { IfOk result (IsProblemOf (F.told files.old) (held paths.now) domain.now) }
+    requires domain { IsDomainOf (F.told files.old) (held_paths paths.now) domain.now }
+    ensures problem { IfOk result (IsProblemOf (F.told files.old) (held_paths paths.now) domain.now) }
     ensures fit { IfOk result (IsFitOver domain.now) }
-    ensures stop { IfErr result (StopsAt (seen_of F.told F.faults files.old files.new)
-        (held paths.now)) }
+    ensures stop { IfErr result (StopsAtText (texts_seen_of F.told F.faults files.old files.new)
+        (held_paths paths.now)) }
     ensures same { F.told files.new ≡ F.told files.old }
     ensures later { F.faults files.old ≤ F.faults files.new }
 {
@@ -95,13 +95,13 @@ fn read_named_streams<F: Files>(
     report: &ReportPaths<'_>,
     domain: &Domain,
 ) -> Result<Seq<Stream>, Stop>
-    requires named { (held paths.now).certified ≡ Some (held_report report.now) }
-    requires domain { IsDomainOf (F.told files.old) (held paths.now) domain.now }
-    requires problem { HasProblem (F.told files.old) (held paths.now) domain.now }
-    ensures streams { IfOk result (AreStreamsOf (F.told files.old) (held paths.now) domain.now) }
+    requires named { (held_paths paths.now).certified ≡ Some (held_report report.now) }
+    requires domain { IsDomainOf (F.told files.old) (held_paths paths.now) domain.now }
+    requires problem { HasProblem (F.told files.old) (held_paths paths.now) domain.now }
+    ensures streams { IfOk result (AreStreamsByWords (F.told files.old) (held_paths paths.now) domain.now) }
     ensures fit { IfOk result (AreFitOver domain.now) }
-    ensures stop { IfErr result (StopsAt (seen_of F.told F.faults files.old files.new)
-        (held paths.now)) }
+    ensures stop { IfErr result (StopsAtText (texts_seen_of F.told F.faults files.old files.new)
+        (held_paths paths.now)) }
     ensures same { F.told files.new ≡ F.told files.old }
     ensures later { F.faults files.old ≤ F.faults files.new }
 {
@@ -122,12 +122,12 @@ fn read_streams<F: Files>(
     paths: &Paths<'_>,
     domain: &Domain,
 ) -> Result<Seq<Stream>, Stop>
-    requires domain { IsDomainOf (F.told files.old) (held paths.now) domain.now }
-    requires problem { HasProblem (F.told files.old) (held paths.now) domain.now }
-    ensures streams { IfOk result (AreStreamsOf (F.told files.old) (held paths.now) domain.now) }
+    requires domain { IsDomainOf (F.told files.old) (held_paths paths.now) domain.now }
+    requires problem { HasProblem (F.told files.old) (held_paths paths.now) domain.now }
+    ensures streams { IfOk result (AreStreamsByWords (F.told files.old) (held_paths paths.now) domain.now) }
     ensures fit { IfOk result (AreFitOver domain.now) }
-    ensures stop { IfErr result (StopsAt (seen_of F.told F.faults files.old files.new)
-        (held paths.now)) }
+    ensures stop { IfErr result (StopsAtText (texts_seen_of F.told F.faults files.old files.new)
+        (held_paths paths.now)) }
     ensures same { F.told files.new ≡ F.told files.old }
     ensures later { F.faults files.old ≤ F.faults files.new }
 {
@@ -143,10 +143,10 @@ pub(crate) fn read_task<F: Files>(
     files: &mut F,
     paths: &Paths<'_>,
 ) -> Result<Task, Stop>
-    ensures task { IfOk result (IsTaskOf (F.told files.old) (held paths.now)) }
+    ensures task { IfOk result (IsPlainTaskOf (F.told files.old) (held_paths paths.now)) }
     ensures fit { IfOk result (λ task. IsFit task) }
-    ensures stop { IfErr result (StopsAt (seen_of F.told F.faults files.old files.new)
-        (held paths.now)) }
+    ensures stop { IfErr result (StopsAtText (texts_seen_of F.told F.faults files.old files.new)
+        (held_paths paths.now)) }
     ensures same { F.told files.new ≡ F.told files.old }
     ensures later { F.faults files.old ≤ F.faults files.new }
 {
@@ -183,12 +183,12 @@ pub(crate) fn read_plan<F: Files>(
     files: &mut F,
     paths: &Paths<'_>,
 ) -> Result<ReadPlan, Stop>
-    requires { AreAccepted (F.told files.old) (held paths.now) Plan }
-    ensures plan { IfOk result (λ plan. IsPlanOf (F.told files.old) (held paths.now)
+    requires { AreAcceptedBefore (F.told files.old) (held_paths paths.now) Plan }
+    ensures plan { IfOk result (λ plan. IsPlanOf (F.told files.old) (held_paths paths.now)
         plan.calls.items plan.claimed) }
     ensures few { IfOk result (λ plan. length plan.calls.items ≤ 33554433) }
-    ensures stop { IfErr result (StopsAt (seen_of F.told F.faults files.old files.new)
-        (held paths.now)) }
+    ensures stop { IfErr result (StopsAtText (texts_seen_of F.told F.faults files.old files.new)
+        (held_paths paths.now)) }
     ensures later { F.faults files.old ≤ F.faults files.new }
 {
     let bytes = match read_file(files, FileRole::Plan, paths.plan) {

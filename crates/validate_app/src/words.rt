@@ -3,8 +3,8 @@ ghost use Rattle.std.specs.Prelude.{◌≡◌, ◌≢◌, IfOk, IfErr, None, Som
 ghost use Rattle.clap.specs.Words.{app_of, first_of, found_of, is_simple_and_free, kind_of, matches_of, new_rule, rows_of, rule_of};
 ghost use Rattle.command_line.specs.Apps.{is_taken, positional};
 ghost use Rattle.command_line.specs.declared.fault.WordsFault.TheVariants.{Usage};
-ghost use Rattle.validate_app.specs.Words.{report_words, usage_text, validate_app, words_in, words_of};
-ghost use Rattle.validate_app.specs.Held.{held, held_report, shown};
+ghost use Rattle.validate_app.specs.Words.{report_words, validation_usage, validate_app, validate_paths, paths_of_words};
+ghost use Rattle.validate_app.specs.Held.{held_paths, held_report, shown_paths};
 
 use clap::error::ErrorKind;
 use clap::{Arg, ArgMatches, Command, Error};
@@ -115,7 +115,7 @@ fn report_in<'a>(matches: &ArgMatches<'a>) -> Option<Option<ReportPaths<'a>>>
 
 /// The paths in what the command took.
 fn paths_in<'a>(matches: &ArgMatches<'a>) -> Option<Paths<'a>>
-    ensures { shown result ≡ words_in (rows_of (found_of matches.now)) }
+    ensures { shown_paths result ≡ validate_paths (rows_of (found_of matches.now)) }
 {
     let domain = text_in(matches, "domain")?;
     let problem = text_in(matches, "problem")?;
@@ -132,9 +132,9 @@ fn paths_in<'a>(matches: &ArgMatches<'a>) -> Option<Paths<'a>>
 /// The paths that the words name, of which the first is the program's own name.
 pub(crate) fn read_words<'a>(alloc: Global, words: &'a [String]) -> Result<Paths<'a>, WordsFault>
     ensures meant { IfOk result (λ paths.
-        words_of (map string_bytes words.entry.now) ≡ Some (held paths)) }
+        paths_of_words (map string_bytes words.entry.now) ≡ Some (held_paths paths)) }
     ensures usage { IfErr result (λ why. why ≡ Usage
-        → words_of (map string_bytes words.entry.now) ≡ None) }
+        → paths_of_words (map string_bytes words.entry.now) ≡ None) }
 {
     let command = validate_command(alloc)?;
     let matches = matches_of_words(command, words)?;
@@ -146,7 +146,7 @@ pub(crate) fn read_words<'a>(alloc: Global, words: &'a [String]) -> Result<Paths
 
 /// The usage text, a line.
 pub(crate) fn usage_text() -> &'static str
-    ensures { result.now ≡ usage_text }
+    ensures { result.now ≡ validation_usage }
 {
     "usage: pddl_validate DOMAIN PROBLEM PLAN [REPORT STREAMS]
 "

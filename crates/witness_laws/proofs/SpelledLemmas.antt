@@ -9,20 +9,20 @@ use Rattle.form_reader.specs.declared.items.TextKind.TheVariants as kind
 use Rattle.domain_reader.specs.Cycles.{AreSorts, more_sorts, no_sorts}
 use Rattle.domain_reader.specs.Domains.{AreNameFaults, ArePartsOf, domain_names, roles_of}
 use Rattle.name_tables.specs.Cycles.{free, no_more}
-use Rattle.name_tables.specs.Graphs.{leads}
+use Rattle.name_tables.specs.Graphs.{has_edge}
 use Rattle.name_tables.specs.Texts.{body_of}
 use Rattle.lemmas.specs.Lists.{LeadsAlong}
 use Rattle.problem_reader.specs.Problems.{IsProblemRead}
 use Rattle.stream_reader.specs.Reading.{AreRead, AreStreamsNamed}
 use Rattle.task_model.specs.Roles.{role_of}
-use Rattle.task_reader.specs.Tasks.{Spells}
+use Rattle.task_reader.specs.Tasks.{SpellsTask}
 use Rattle.task_reader.specs.Texts.{SpellsDomain}
 use Rattle.witness_laws.specs.Fetch.{fetch, fetch_domain, fetch_problem, grip}
 use Rattle.witness_laws.specs.Texts.{fetch_domain_text, fetch_problem_text, fetch_streams_text}
 use Rattle.witness_laws.proofs.TreesLemmas.{domain_reads, domain_tree, problem_reads, problem_tree, streams_reads, streams_tree}
 
 -- where there is one number that leads nowhere, no way leads from it
-no_way : (b : ℕ) (between : List ℕ) → LeadsAlong (leads ([] ∷ [])) 0 between b → ⊥
+no_way : (b : ℕ) (between : List ℕ) → LeadsAlong (has_edge ([] ∷ [])) 0 between b → ⊥
 no_way b [] steps = false≢true steps
 no_way b (next ∷ more) steps = false≢true steps.0
 
@@ -87,7 +87,7 @@ streams_read : AreRead fetch_domain streams_tree (grip ∷ [])
 unfolding stream_item_of stream_key_of cost_stream_key_of is_connective is_change is_refused_in_atoms
 streams_read = record { formed = refl; named = streams_named }
 
-pub first_task_spelled : Spells fetch_domain_text fetch_problem_text fetch_streams_text fetch
+pub first_task_spelled : SpellsTask fetch_domain_text fetch_problem_text fetch_streams_text fetch
 first_task_spelled = record {
   domain = domain_spelled;
   problem = record { tree = problem_tree; spelled = problem_reads; holds = problem_read };

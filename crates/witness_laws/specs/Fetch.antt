@@ -20,8 +20,8 @@ use Rattle.transcript_model.specs.declared.entry.Call.{Call}
 abbrev pub both : List Term
 both = Slot 0 ∷ Slot 1 ∷ []
 
-abbrev pub held : Pattern
-held = record { pred = 1; args = both }
+abbrev pub held_pattern : Pattern
+held_pattern = record { pred = 1; args = both }
 
 abbrev pub hand_free : Pattern
 hand_free = record { pred = 3; args = [] }
@@ -32,7 +32,7 @@ take_it = record {
   name = codes "take";
   params = 0 ∷ 0 ∷ [];
   condition = every (more (Atom 3 []) (more (Atom 2 both) none));
-  adds = held ∷ [];
+  adds = held_pattern ∷ [];
   deletes = hand_free ∷ [];
   costs = [];
 }
@@ -44,7 +44,7 @@ drop_it = record {
   params = 0 ∷ 0 ∷ [];
   condition = Atom 1 both;
   adds = record { pred = 4; args = Slot 0 ∷ [] } ∷ hand_free ∷ [];
-  deletes = held ∷ [];
+  deletes = held_pattern ∷ [];
   costs = [];
 }
 

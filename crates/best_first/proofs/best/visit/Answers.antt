@@ -1,7 +1,7 @@
 use Rattle.std.proofs.Common.{sym, subst}
 use Rattle.best_first.proofs.ExploredLemmas.{on_ok}
 use Rattle.best_first.proofs.TreesLemmas.{grows_leads}
-use Rattle.best_first.specs.Explored.{Grows, LeadsToState}
+use Rattle.best_first.specs.Explored.{GrowsByStep, LeadsToState}
 use Rattle.best_first.proofs.best.visit.Goals as goal
 
 pub widen-requires-clause-widened : goal.widen-requires-clause-widened
@@ -18,7 +18,7 @@ widen-requires-clause-widened g c =
       step = c.args.step.now;
       here = c.requires.here;
       added = subst
-          (Grows scene.task.now (g.L.Look.known scene.look.now) old.store old.links.items c.args.from.place c.args.state.now
+          (GrowsByStep scene.task.now (g.L.Look.known scene.look.now) old.store old.links.items c.args.from.place c.args.state.now
           c.args.step.now new.store new.links.items) c.in-Some.is c.in_ok-place.ensures;
     }
 

@@ -1,7 +1,7 @@
 use Rattle.std.proofs.Common.{refl, subst}
 use Rattle.best_first.proofs.ExploredLemmas.{on_ok}
 use Rattle.best_first.proofs.TreesLemmas.{grows_leads}
-use Rattle.best_first.specs.Explored.{Grows, IsAdded}
+use Rattle.best_first.specs.Explored.{GrowsByStep, IsAdded}
 use Rattle.best_first.proofs.expand.visit.Goals as goal
 
 pub settle-requires-clause-grown : goal.settle-requires-clause-grown
@@ -14,7 +14,7 @@ settle-requires-clause-grown g c =
     let added : IsAdded scene.task.now known old.store old.links.items c.args.from c.args.state.now c.args.step.now new.store
     new.links.items c.in-Some.id cost =
     subst
-    (Grows scene.task.now known old.store old.links.items c.args.from c.args.state.now c.args.step.now new.store new.links.items)
+    (GrowsByStep scene.task.now known old.store old.links.items c.args.from c.args.state.now c.args.step.now new.store new.links.items)
     c.in-Some.is c.in_ok-id.ensures in
     record {
       before = old.store;

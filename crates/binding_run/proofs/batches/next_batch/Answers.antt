@@ -9,7 +9,7 @@ use Rattle.dream_asks.specs.Noting.{NotesAnswers}
 use Rattle.dream_asks.specs.Progress.{Progress}
 use Rattle.dream_asks.specs.declared.asks.DreamAsk.{DreamAsk}
 use Rattle.focused_run.proofs.PartLemmas.{all_working}
-use Rattle.instance_queue.specs.Level.{instances_of}
+use Rattle.instance_queue.specs.Level.{due_instances}
 use Rattle.instance_queue.specs.declared.due.Due.{Due}
 use Rattle.level_run.proofs.TurnsOutcomeLemmas.{names_known, spent_sure}
 use Rattle.round_run.proofs.BatchLemmas.{empty_of, filled_of}
@@ -27,7 +27,7 @@ use Rattle.transcript_model.specs.Legal.{IsLegal}
 use Rattle.binding_run.proofs.batches.next_batch.Goals as goal
 
 -- by what a session knows and has noted these are asked next
-abbrev chosen : (task : Task) (s x y : State) (p : Progress) (entries : List dreams.Entry) (asks : List DreamAsk) (at : Task)
+abbrev chosen : (task : Task) (s x y : State) (p : Progress) (entries : List dreams.SupposedEntry) (asks : List DreamAsk) (at : Task)
     (known : Known) (notes : List Note) → known ≡ x.known → x ≡ s → notes ≡ y.notes → y ≡ s → at ≡ task
     → AreNext at known notes p entries asks → IsChosen task s p entries asks
 chosen task s x y p entries asks at known notes known_is first notes_is second same next = record {
@@ -317,7 +317,7 @@ returns g c =
                 (ap (λ n. n + 1) (c.asks-first.ensures ∙ ap (λ (x : State). length x.asked) c.session-3.ensures.is))
                 (ap length (c.entries-from.ensures ∙ ap (λ (x : State). x.entries) c.session-4.ensures.is)) noted)
                 (λ whole. c.in_ok-join-in-Done.ensures
-                ∙ ap (λ list. tried ++ instances_of list) (c.as_slice-in-Done-2.ensures.value ∙ sym c.as_slice-3.ensures.value));
+                ∙ ap (λ list. tried ++ due_instances list) (c.as_slice-in-Done-2.ensures.value ∙ sym c.as_slice-3.ensures.value));
             asks = asks_next task s works.listens.working works.learnt works.listens.session gone entries asks next next.notes dues
                 next.notes_is
                 of head some c.requires.may.progress.0 c.requires.may.progress.1 new.state (g.H.Host.log c.args.host.now)

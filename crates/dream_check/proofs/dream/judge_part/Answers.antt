@@ -3,7 +3,7 @@ use Rattle.std.specs.Prelude.{IfOk}
 use Rattle.dreaming.proofs.PartLemmas.{part_known}
 use Rattle.shown_steps.specs.Plans.{IsPlan}
 use Rattle.task_model.specs.Known.{Known}
-use Rattle.dream_check.specs.Listed.{IsFollowed, IsPartJudged, known_with}
+use Rattle.dream_check.specs.Listed.{IsFollowed, IsPartJudged, known_at}
 use Rattle.dream_check.specs.declared.steps.Followed.TheVariants.{Stops, Misses, Reaches}
 use Rattle.dream_check.proofs.dream.judge_part.Goals as goal
 
@@ -39,7 +39,7 @@ judge_plan-requires-clause-plan c =
     subst (λ (k : Known). IsFollowed l.task.now k c.args.steps.now Reaches)
     (part_known l.task.now l.supposed.now p.places p c.requires.part)
     (subst (IsFollowed l.task.now p.known c.args.steps.now) c.in-Reaches.is c.in_ok-place.ensures) in
-    subst (λ (ps : List ℕ). (cost : ℕ) × IsPlan l.task.now (known_with l.task.now l.supposed.now ps) c.args.steps.now cost)
+    subst (λ (ps : List ℕ). (cost : ℕ) × IsPlan l.task.now (known_at l.task.now l.supposed.now ps) c.args.steps.now cost)
     (sym (c.as_slice.ensures.value ∙ c.into_places-places.ensures)) plan
 
 pub returns-in-Reaches : goal.returns-in-Reaches

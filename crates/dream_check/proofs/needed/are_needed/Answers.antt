@@ -1,6 +1,6 @@
 use Rattle.std.proofs.Common.{◌≡◌, ◌+◌, ◌≤◌, suc, true, false, arith, inl, inr, refl, subst, rules, tests}
 use Rattle.std.proofs.Math.Nat.{le-suc_iff}
-use Rattle.dream_check.specs.Listed.{IsNeeded}
+use Rattle.dream_check.specs.Listed.{IsEntryNeeded}
 use Rattle.dream_check.proofs.needed.are_needed.Goals as goal
 
 pub loop-place-preserved : goal.loop-place-preserved
@@ -12,7 +12,7 @@ loop-place-preserved c = λ place lt.
       | inl early ↦ c.loop-place.invariant place (omega (arith, early))
       | inr last ↦
           let same : c.loop-place.place ≡ place = omega (arith, last) in
-          subst (IsNeeded l.task.now l.supposed.now c.args.places.now c.args.steps.now) same (c.in_ok-is_needed.ensures.0 yes)
+          subst (IsEntryNeeded l.task.now l.supposed.now c.args.places.now c.args.steps.now) same (c.in_ok-is_needed.ensures.0 yes)
     ]
 
 pub returns-then-not-branch : goal.returns-then-not-branch

@@ -2,7 +2,7 @@ use Rattle.std.proofs.Common.{◌≤◌, ◌∙◌, ℕ, length, sym, subst}
 use Rattle.std.proofs.lemmas.Result.{IfOk-weaker}
 use Rattle.dreaming.proofs.AfterLemmas.{listed, names_enough, names_real}
 use Rattle.optimistic_set.specs.Dreamable.{AreReal}
-use Rattle.optimistic_set.specs.Faults.{ComesOf}
+use Rattle.optimistic_set.specs.Faults.{HasListCause}
 use Rattle.optimistic_set.specs.declared.fault.OptimisticFault.{OptimisticFault}
 use Rattle.task_model.specs.Known.{Known}
 use Rattle.dream_check.proofs.AfterLedgerLemmas.{more_after, supposed_after}
@@ -52,5 +52,5 @@ returns-in-Err-TooManyEntries c = λ limits before deep same h.
     let tried = c.args.tried.now in
     too_many_none limits c.args.limit task before tried
     (more_after limits task before tried ledger h c.from-depth.result (deep ∙ sym c.from-depth.ensures)
-    (subst (λ (f : OptimisticFault). ComesOf task ledger.facts.known ledger.queue tried c.from-depth.result f)
+    (subst (λ (f : OptimisticFault). HasListCause task ledger.facts.known ledger.queue tried c.from-depth.result f)
     c.in-Err-TooManyEntries.field-0-is c.in-Err-TooManyEntries.ensures.fault))

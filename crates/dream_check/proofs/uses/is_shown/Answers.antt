@@ -1,6 +1,6 @@
 use Rattle.std.proofs.Common.{◌∙◌, sym, ap}
 use Rattle.std.proofs.lemmas.Option.{same_Some}
-use Rattle.task_model.specs.Dreams.{Entry}
+use Rattle.task_model.specs.Dreams.{SupposedEntry}
 use Rattle.task_model.specs.Streams.{same_instance}
 use Rattle.dream_check.proofs.CallsLemmas.{distinct, shown_nowhere, shown_where}
 use Rattle.dream_check.proofs.uses.is_shown.Goals as goal
@@ -19,7 +19,7 @@ returns-in-Some c = λ e at.
     let l = c.args.listing.now in
     let one =
     c.instance-instance.ensures
-    ∙ ap (λ (x : Entry). x.instance) (same_Some c.entry-entry.result.now e (sym c.entry-entry.ensures ∙ at)) in
+    ∙ ap (λ (x : SupposedEntry). x.instance) (same_Some c.entry-entry.result.now e (sym c.entry-entry.ensures ∙ at)) in
     shown_where l.task.now l.supposed.now c.requires.listing c.args.table.now c.requires.names c.args.place e at c.args.call.now
     c.in-Some.other c.eq.result (sym c.in_ok-other.ensures ∙ c.in-Some.is) (c.eq.ensures ∙ ap (same_instance c.in-Some.other) one)
 

@@ -1,7 +1,7 @@
 use Rattle.std.proofs.Common.{◌≡◌, ◌+◌, subst, arith, Option}
 use Rattle.std.specs.Prelude.{IfNone}
 use Rattle.dreaming.proofs.KeptLemmas.{needed_next}
-use Rattle.dreaming.specs.Thinning.{AreNeeded}
+use Rattle.dreaming.specs.Thinning.{TrialNeeds}
 use Rattle.dreaming.specs.declared.trial.Kept.{Kept}
 use Rattle.dreaming.proofs.thin.leave_out.Goals as goal
 
@@ -28,7 +28,7 @@ loop-from-preserved c =
           ) in
           needed_next trial.listing.task.now trial.listing.supposed.now trial.plan.now.steps places from to next
           (c.loop-from.invariant.needed none one)
-          (subst (λ (o : Option Kept). IfNone o (AreNeeded trial places from to)) c.in-None.is c.in_ok-fewer.ensures.needed);
+          (subst (λ (o : Option Kept). IfNone o (TrialNeeds trial places from to)) c.in-None.is c.in_ok-fewer.ensures.needed);
     }
 
 pub returns-clause-needed : goal.returns-clause-needed

@@ -1,10 +1,10 @@
 use Rattle.std.proofs.Common.{◌+◌, ◌≤◌, length}
-use Rattle.dreaming.specs.Thinning.{IsKept}
+use Rattle.dreaming.specs.Thinning.{TrialKeeps}
 use Rattle.dreaming.proofs.thin.thin.Given as goal
 
 abbrev pub invariant-sizes : goal.invariant-sizes
 invariant-sizes l = record {
-  kept : IsKept l.trial l.kept;
+  kept : TrialKeeps l.trial l.kept;
   some : 1 ≤ l.size;
 }
 

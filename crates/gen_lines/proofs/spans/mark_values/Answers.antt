@@ -1,5 +1,5 @@
 use Rattle.std.proofs.Common.{arith, ◌≡◌, ◌*◌, ◌∙◌, refl, sym, drop, slice_range, length-set, true, false}
-use Rattle.gen_lines.specs.Reply.{fields, joined, parted, is_value}
+use Rattle.gen_lines.specs.Reply.{fields, joined_tuples, parted, is_value}
 use Rattle.gen_lines.specs.Told.{Lies}
 use Rattle.gen_lines.proofs.ReplyTupleLemmas.{Step}
 use Rattle.gen_lines.proofs.ToldLemmas.{AreFirst, first_more}
@@ -12,7 +12,7 @@ fields-preserved c =
     let here = fields (drop c.fields.at line) in
     let text = slice_range line c.in-Some.field.start c.in-Some.field.end in
     let next = fields (drop c.in-Some.field.end line) in
-    let all = joined (parted bars (fields (drop c.args.from line))) in
+    let all = joined_tuples (parted bars (fields (drop c.args.from line))) in
     let i = c.fields.invariant in
     let step : Step bars here text next false = record
     { first = c.in-Some.ensures.first; part = sym c.parts_here.ensures ∙ c.if-parts_here.false } in

@@ -1,6 +1,6 @@
 use Rattle.std.proofs.Common.{◌++◌, ◌∷◌, ◌∙◌, [], sym, subst, ap, append_assoc, arith, length, refl}
 use Rattle.session_core.specs.Ready.{AreReady}
-use Rattle.instance_queue.specs.Level.{instances_of}
+use Rattle.instance_queue.specs.Level.{due_instances}
 use Rattle.pools.specs.Pools.{AreFitPools}
 use Rattle.transcript_model.specs.Rounds.{IsBatch, limits_of}
 use Rattle.level_run.proofs.AskingLemmas.{asked_front, asked_marked}
@@ -41,7 +41,7 @@ returns g c =
     let head = old.head in
     let e = c.args.entry in
     let dues = c.args.dues.now in
-    let list = instances_of dues in
+    let list = due_instances dues in
     let first = c.in_ok-mark.ensures.goes g.H.Host.last _ c.requires.rests in
     let marked = first.ran in
     let rests = c.requires.rests in
@@ -81,7 +81,7 @@ pub returns-in_err-mark : goal.returns-in_err-mark
 returns-in_err-mark g c =
     let old = c.args.desk.now in
     let rests = c.requires.rests in
-    let list = instances_of c.args.dues.now in
+    let list = due_instances c.args.dues.now in
     record {
       goes = turn_handed old c.mark.new.self _ (λ _. IsMarked c.args.entry old.state c.mark.new.self.state) _
           (IsFrontOfMark old.state.entries c.args.entry) (IsFrontBehind old.head old.task old.state.entries c.args.entry list)

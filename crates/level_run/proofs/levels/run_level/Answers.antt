@@ -1,5 +1,5 @@
 use Rattle.std.proofs.Common.{length, refl}
-use Rattle.instance_queue.specs.Level.{instances_of}
+use Rattle.instance_queue.specs.Level.{due_instances}
 use Rattle.transcript_model.specs.declared.entry.Entry.TheVariants as entry
 use Rattle.round_run.proofs.TurnLineLemmas.{opens_level}
 use Rattle.round_run.proofs.GoingLemmas.{turn_as}
@@ -29,7 +29,7 @@ returns g c =
     let dues = c.args.dues.now in
     record {
       goes = turn_as old new _ (RanBehind task head entry.Level dues s new.state) (RanLevel task head dues s new.state)
-          (IsFrontBehind head task s.entries entry.Level (instances_of dues)) (IsFrontPart s.entries (IsSomeLevel head task s.entries))
+          (IsFrontBehind head task s.entries entry.Level (due_instances dues)) (IsFrontPart s.entries (IsSomeLevel head task s.entries))
           c.ask_behind.result c.ask_behind.ensures.goes
           (λ b ran. record {
             level = (

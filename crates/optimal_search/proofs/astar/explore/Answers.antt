@@ -1,7 +1,7 @@
 use Rattle.std.proofs.Common.{◌≡◌, ◌+◌, refl, ap, subst, ◌∙◌, arith, length, length-append, None, [], ◌∷◌}
 use Rattle.optimal_search.proofs.TurnsLemmas.{begun, ended, few_taken, taken}
 use Rattle.optimal_search.specs.Answer.{Visits}
-use Rattle.optimal_search.specs.Searches.{Closes}
+use Rattle.optimal_search.specs.Searches.{ClosesNext}
 use Rattle.optimal_search.proofs.astar.explore.Goals as goal
 
 pub loop-search-init : goal.loop-search-init
@@ -21,7 +21,7 @@ loop-search-smaller g c =
     let few =
     few_taken scene.task.now (g.L.Look.known scene.look.now) (g.C.Consistent.bound c.loop-search.estimate) scene.limit before
     c.loop-search.place c.loop-search.invariant.0 in
-    let closes = subst (Closes c.visit.new.search c.close_next.new.self) c.in-Some.is c.in_ok-next.ensures in
+    let closes = subst (ClosesNext c.visit.new.search c.close_next.new.self) c.in-Some.is c.in_ok-next.ensures in
     let longer : length c.close_next.new.self.links.items ≡ length before.links.items + 1 =
     ap length closes.links ∙ length-append c.visit.new.search.links.items (closes.link ∷ [])
     ∙ ap (λ ls. length ls + 1) c.visit.ensures.links in
@@ -38,7 +38,7 @@ loop-search-preserved g c =
     let suits = c.visit.ensures.suits task known c.loop-search.invariant.1 in
     let consistent = g.met.C.Consistent.lawful.consistent estimate task known suits in
     let is = subst (Visits task known bound scene.limit search) c.in-On.is c.in_ok-visit.ensures.visits in
-    let closes = subst (Closes search c.close_next.new.self) c.in-Some.is c.in_ok-next.ensures in
+    let closes = subst (ClosesNext search c.close_next.new.self) c.in-Some.is c.in_ok-next.ensures in
     (taken task known bound scene.limit consistent search c.close_next.new.self c.in-Some.next is closes, suits)
 
 pub returns-in-None : goal.returns-in-None
@@ -49,5 +49,5 @@ returns-in-None g c =
     let bound = g.C.Consistent.bound c.visit.new.estimate in
     let search = c.visit.new.search in
     let is = subst (Visits task known bound scene.limit search) c.in-On.is c.in_ok-visit.ensures.visits in
-    let none = subst (Closes search c.close_next.new.self) c.in-None.is c.in_ok-next.ensures in
+    let none = subst (ClosesNext search c.close_next.new.self) c.in-None.is c.in_ok-next.ensures in
     ended task known bound scene.limit search is none

@@ -1,6 +1,6 @@
 use Rattle.std.proofs.Common.{◌≡◌, ℕ, List, sym, subst, arith}
 use Rattle.std.proofs.lemmas.Result.{err_from_is_err_and}
-use Rattle.task_model.specs.Dreams.{Entry, IsPass, AreSupposed}
+use Rattle.task_model.specs.Dreams.{SupposedEntry, IsPass, AreSupposed}
 use Rattle.task_model.specs.Known.{Known}
 use Rattle.optimistic_set.proofs.PassLemmas.{supposed_more, too_many}
 use Rattle.optimistic_set.specs.Drafts.{IsDraft, LacksPass}
@@ -37,6 +37,6 @@ returns-clause-list c =
     let task = c.args.task.now in
     let known = c.args.facts.now.known in
     let whole : c.loop-pass._pass ≡ c.args.depth = omega (arith, c.loop-pass-test.false, c.loop-pass.auto._pass-end) in
-    subst (λ (list : List Entry). AreSupposed task known c.args.queue.now c.args.tried.now c.args.depth list) (sym c.new.ensures.list)
+    subst (λ (list : List SupposedEntry). AreSupposed task known c.args.queue.now c.args.tried.now c.args.depth list) (sym c.new.ensures.list)
     (subst (λ (n : ℕ). AreSupposed task known c.args.queue.now c.args.tried.now n c.loop-pass.draft.entries.items) whole
     c.loop-pass.invariant.list)

@@ -3,7 +3,7 @@ use Rattle.std.proofs.lemmas.List.{length-take-le, take_all}
 use Rattle.std.specs.List.{list_any}
 use Rattle.plan_deorder.proofs.ListedLemmas.{all_listed, one_is_missing, refused_here}
 use Rattle.plan_deorder.specs.Listed.{ArePlaces}
-use Rattle.plan_deorder.specs.Orders.{IsListing}
+use Rattle.plan_deorder.specs.Orders.{IsOrderListing}
 use Rattle.plan_deorder.proofs.listing.places_of.Goals as goal
 
 pub returns-then-not-note-clause-none : goal.returns-then-not-note-clause-none
@@ -15,7 +15,7 @@ returns-then-not-note-clause-none c =
     let count : length c.note.new.places ≡ c.args.count =
     c.note.ensures.count ∙ ap length c.as_mut_slice.ensures.value ∙ c.loop-place.invariant.long in
     refused_here listing place c.args.count c.loop-place-test.true (λ more.
-    subst (λ n. ¬ (IsListing n (front ++ get_or listing place 0 ∷ more))) count
+    subst (λ n. ¬ (IsOrderListing n (front ++ get_or listing place 0 ∷ more))) count
     (c.if-not-note.ensures.noted front long
     (subst (ArePlaces front) (sym c.as_mut_slice.ensures.value) c.loop-place.invariant.places) more))
 

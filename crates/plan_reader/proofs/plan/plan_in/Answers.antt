@@ -1,7 +1,7 @@
 use Rattle.std.proofs.Common.{◌≡◌, ◌+◌, ◌≤◌, length, sym, subst, arith, Some}
 use Rattle.task_reader.specs.Refusals.{Refuses}
 use Rattle.plan_reader.proofs.PlansLemmas.{IsLeft, all_left, few_lines, line_read, lines_left, rest_left, rest_shorter, steps_left, text_refused}
-use Rattle.plan_reader.specs.Lines.{lines_of}
+use Rattle.plan_reader.specs.Lines.{text_lines}
 use Rattle.plan_reader.specs.Plans.{RefusesPlan, behind_calls, plan_of}
 use Rattle.plan_reader.proofs.plan.plan_in.Goals as goal
 
@@ -20,7 +20,7 @@ lines-preserved c =
     let read =
     subst (λ left. plan_of c.args.text.now ≡ behind_calls calls (steps_left total left)) c.in-Some.is c.lines.invariant.read in
     let few =
-    subst (λ left. length calls + length (lines_left left) ≤ length (lines_of c.args.text.now)) c.in-Some.is c.lines.invariant.few in
+    subst (λ left. length calls + length (lines_left left) ≤ length (text_lines c.args.text.now)) c.in-Some.is c.lines.invariant.few in
     let shorter =
     rest_shorter c.in-Some.rest.now c.cut_line.result.line.now c.cut_line.result.rest c.cut_line.ensures in
     record {

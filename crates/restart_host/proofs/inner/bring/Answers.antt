@@ -1,5 +1,5 @@
 use Rattle.std.proofs.Common.{map, string_bytes}
-use Rattle.restart_host.specs.Tries.{seen_of}
+use Rattle.restart_host.specs.Tries.{seen_by_host}
 use Rattle.restart_host.proofs.TriesLemmas.{tried_again, tried_done, tried_spent}
 use Rattle.restart_host.proofs.inner.bring.Goals as goal
 
@@ -11,7 +11,7 @@ returns-in-Ok-clause-tried g c =
 pub returns-in-Ok-spend-clause-tried : goal.returns-in-Ok-spend-clause-tried
 returns-in-Ok-spend-clause-tried g c =
     tried_again c.args.child (map string_bytes c.args.kept.now.words.items) g.H.Host.last c.args.left.now c.spend.new.left
-    c.revive-in-Ok-spend.new.left _ (seen_of g.H.Host.running g.H.Host.faults g.H.Host.log c.send.new.host) _ c.in-Err.fault c.revive-in-Ok-spend.result
+    c.revive-in-Ok-spend.new.left _ (seen_by_host g.H.Host.running g.H.Host.faults g.H.Host.log c.send.new.host) _ c.in-Err.fault c.revive-in-Ok-spend.result
     (c.in-Err.ensures.called (map string_bytes c.args.kept.now.words.items)) c.in-Ok-spend.ensures
     (rw c.deref-in-Ok-spend.ensures.value at c.revive-in-Ok-spend.ensures.tried)
 

@@ -1,4 +1,4 @@
-use Rattle.restart_host.specs.Tries.{seen_of}
+use Rattle.restart_host.specs.Tries.{seen_by_host}
 use Rattle.restart_host.proofs.TriesLemmas.{called_quiet, called_sent, called_stop, called_unsent}
 use Rattle.restart_host.proofs.inner.send.Goals as goal
 
@@ -9,7 +9,7 @@ returns-in-Ok-clause-called g c = λ words.
 
 pub returns-in-Err-clause-called : goal.returns-in-Err-clause-called
 returns-in-Err-clause-called g c = λ words.
-    called_quiet c.args.child words g.H.Host.last _ (seen_of g.H.Host.running g.H.Host.faults g.H.Host.log c.send_all.new.host) _ _
+    called_quiet c.args.child words g.H.Host.last _ (seen_by_host g.H.Host.running g.H.Host.faults g.H.Host.log c.send_all.new.host) _ _
     (called_unsent (Unit {0}) c.args.child words g.H.Host.last _ _ c.args.bytes.now c.in-Err.fault c.in-Err.ensures.running
     c.in-Err.ensures.cause c.in-Err.ensures.log_part)
     (called_stop c.args.child words g.H.Host.last _ _ c.stop.result c.stop.ensures.running c.stop.ensures.cause

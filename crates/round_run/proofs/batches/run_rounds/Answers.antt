@@ -1,6 +1,6 @@
 use Rattle.std.proofs.Common.{◌≡◌, ◌+◌, ◌++◌, ◌<◌, ◌≤◌, ℕ, List, length, ap, sym, subst, ◌∙◌, arith, refl, slice_get, Some, rules}
 use Rattle.std.proofs.lemmas.List.{length-take-le, length-drop}
-use Rattle.instance_queue.specs.Level.{instances_of}
+use Rattle.instance_queue.specs.Level.{due_instances}
 use Rattle.session_core.specs.Ready.{AreReady}
 use Rattle.pools.specs.Pools.{Workers}
 use Rattle.transcript_model.specs.Legal.{IsLegal, asks_of}
@@ -13,7 +13,7 @@ use Rattle.round_run.proofs.CallsLemmas.{calls_none, calls_then}
 use Rattle.round_run.proofs.BatchLemmas.{empty_of, filled_of, first_of}
 use Rattle.round_run.proofs.RollingFrontLemmas.{all_work, so_far_front}
 use Rattle.round_run.proofs.StoppedLemmas.{goes_none, goes_then, handed, stopped_as, stopped_then}
-use Rattle.round_run.specs.Calls.{Calls}
+use Rattle.round_run.specs.Calls.{AddsCalls}
 use Rattle.round_run.specs.Dialogue.{workers_in}
 use Rattle.round_run.specs.Rolling.{IsFrontPart, Stopped}
 use Rattle.round_run.proofs.batches.run_rounds.Goals as goal
@@ -23,7 +23,7 @@ rounds-init g c = record {
   works = c.requires.works;
   ready = c.requires.ready;
   all_run = c.requires.all_run;
-  so_far = so_far_none c.args.head.now c.args.task.now c.args.session.now.entries (instances_of c.args.dues.now);
+  so_far = so_far_none c.args.head.now c.args.task.now c.args.session.now.entries (due_instances c.args.dues.now);
   counts = refl;
   grows = omega arith;
   goes = goes_none c.args.session.now.entries (g.O.Sink.taken c.args.out.now);
@@ -44,8 +44,8 @@ returns-then-is_empty g c = record {
         let none = empty_of c.rounds.rest.now (sym c.is_empty.ensures ∙ c.if-is_empty.true) in
         let none_long = ap length none in
         let ran =
-        so_far_end c.args.head.now c.args.task.now c.args.session.now.entries (instances_of c.args.dues.now) now.entries
-        (instances_of c.rounds.rest.now) (none_of_none c.args.head.now now.entries c.rounds.rest.now none) i.so_far in
+        so_far_end c.args.head.now c.args.task.now c.args.session.now.entries (due_instances c.args.dues.now) now.entries
+        (due_instances c.rounds.rest.now) (none_of_none c.args.head.now now.entries c.rounds.rest.now none) i.so_far in
         record {
           more = ran.0;
           pushed = ran.1;
@@ -72,9 +72,9 @@ returns-then-count-eq0 g c = record {
         let all = spent c.args.head.now c.args.task.now now c.rounds.rest.now c.next_round-count.result i.works.of i.works.listens.session
         c.next_round-count.ensures.cut (c.next_round-count.ensures.some c.args.task.now i.works.listens.session) some c.if-count-eq0.true in
         let ran =
-        so_far_end c.args.head.now c.args.task.now c.args.session.now.entries (instances_of c.args.dues.now) now.entries
-        (instances_of c.rounds.rest.now)
-        (none_left c.args.head.now c.args.task.now now (instances_of c.rounds.rest.now) i.works.listens.session all) i.so_far in
+        so_far_end c.args.head.now c.args.task.now c.args.session.now.entries (due_instances c.args.dues.now) now.entries
+        (due_instances c.rounds.rest.now)
+        (none_left c.args.head.now c.args.task.now now (due_instances c.rounds.rest.now) i.works.listens.session all) i.so_far in
         record {
           more = ran.0;
           pushed = ran.1;
@@ -102,7 +102,7 @@ returns-in_err-run_round g c = record {
         let s = c.args.session.now in
         let now = c.rounds.session in
         let i = c.rounds.invariant in
-        let list = instances_of c.args.dues.now in
+        let list = due_instances c.args.dues.now in
         let rest = c.rounds.rest.now in
         let count = c.next_round-count.result in
         let fault = c.in_err-run_round.field-0.0 in
@@ -110,7 +110,7 @@ returns-in_err-run_round g c = record {
         let was = g.H.Host.log c.args.host.now in
         let mid = g.H.Host.log c.rounds.host in
         let log = g.H.Host.log c.run_round.new.host in
-        let round = IsFrontPart now.entries (IsRound task now.entries (instances_of c.split_at.result.0.now)) in
+        let round = IsFrontPart now.entries (IsRound task now.entries (due_instances c.split_at.result.0.now)) in
         let batch = IsFrontPart s.entries (IsBatch (limits_of head) task s.entries list) in
         let first =
         subst (λ v. Stopped v task now.pools round now.entries fault (g.O.Sink.taken c.rounds.out)
@@ -127,7 +127,7 @@ returns-in_err-run_round g c = record {
         λ es legal f. so_far_front head task s.entries list now rest count es i.works.of i.works.listens.session
         c.next_round-count.ensures.cut
         (omega (arith, c.if-count-eq0.false)) work i.so_far
-        (subst (λ ds. IsFrontPart now.entries (IsRound task now.entries (instances_of ds)) es) c.split_at.ensures.front f) in
+        (subst (λ ds. IsFrontPart now.entries (IsRound task now.entries (due_instances ds)) es) c.split_at.ensures.front f) in
         let stopped =
         stopped_as head.version task (workers_in head) spoken batch round now.entries fault
         (g.O.Sink.taken c.rounds.out) (g.O.Sink.taken c.run_round.new.out)
@@ -164,7 +164,7 @@ rounds-preserved g c =
     let long : length c.split_at.result.0.now ≡ count = ap length front ∙ length-take-le count rest c.next_round-count.ensures.cut.within in
     let some : 0 < length rest = filled_of rest (sym c.is_empty.ensures ∙ c.if-is_empty.false) in
     let round =
-    subst (λ ds. (more : List Entry) × (new.entries ≡ now.entries ++ more) × IsRound c.args.task.now now.entries (instances_of ds) more)
+    subst (λ ds. (more : List Entry) × (new.entries ≡ now.entries ++ more) × IsRound c.args.task.now now.entries (due_instances ds) more)
     front (done.ran.more, done.ran.pushed, done.ran.round) in
     let counted : asks_of new.entries ≡ asks_of now.entries + count =
     omega (arith, done.session.counted, done.ran.asked, i.works.listens.session.counted, long) in
@@ -183,9 +183,9 @@ rounds-preserved g c =
           λ later k child p at in_p.
           done.same.running child ∙ i.all_run some k child p (ap (λ ps. slice_get ps k) (sym done.ran.pools) ∙ at) in_p;
       so_far = subst (λ ds.
-          SoFar c.args.head.now c.args.task.now c.args.session.now.entries (instances_of c.args.dues.now) new.entries (instances_of ds))
+          SoFar c.args.head.now c.args.task.now c.args.session.now.entries (due_instances c.args.dues.now) new.entries (due_instances ds))
           (sym back)
-          (so_far_step c.args.head.now c.args.task.now c.args.session.now.entries (instances_of c.args.dues.now) now rest count new.entries
+          (so_far_step c.args.head.now c.args.task.now c.args.session.now.entries (due_instances c.args.dues.now) now rest count new.entries
           i.works.of i.works.listens.session c.next_round-count.ensures.cut (omega (arith, c.if-count-eq0.false)) round counted i.so_far);
       counts = omega (arith, done.ran.asked, long, ap length back, length-drop count rest, c.next_round-count.ensures.cut.within, i.counts);
       grows = omega (arith, done.ran.asked, i.grows);
@@ -193,7 +193,7 @@ rounds-preserved g c =
           (g.O.Sink.taken c.rounds.out) (g.O.Sink.taken c.run_round.new.out) i.goes done.adds.goes;
       order = calls_then c.args.task.now (workers_in c.args.head.now) c.args.session.now.entries now.entries new.entries
           (g.H.Host.log c.args.host.now) (g.H.Host.log c.rounds.host) (g.H.Host.log c.run_round.new.host) i.order
-          (subst (λ ps. Calls c.args.task.now ps now.entries new.entries (g.H.Host.log c.rounds.host) (g.H.Host.log c.run_round.new.host))
+          (subst (λ ps. AddsCalls c.args.task.now ps now.entries new.entries (g.H.Host.log c.rounds.host) (g.H.Host.log c.run_round.new.host))
           i.works.of.pools done.adds.order);
       same = record { started = done.same.started ∙ i.same.started; running = λ k. done.same.running k ∙ i.same.running k };
       host = omega (arith, done.causes.host.later, i.host);

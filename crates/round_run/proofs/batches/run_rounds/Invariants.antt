@@ -1,9 +1,9 @@
 use Rattle.std.proofs.Common.{◌≡◌, ◌+◌, ◌<◌, ◌≤◌, length}
-use Rattle.instance_queue.specs.Level.{instances_of}
+use Rattle.instance_queue.specs.Level.{due_instances}
 use Rattle.session_core.specs.Ready.{AreReady}
 use Rattle.round_run.proofs.BatchLemmas.{SoFar}
 use Rattle.round_run.proofs.batches.run_rounds.Given as goal
-use Rattle.round_run.specs.Calls.{Calls}
+use Rattle.round_run.specs.Calls.{AddsCalls}
 use Rattle.round_run.specs.Dialogue.{workers_in}
 use Rattle.round_run.specs.Rolling.{Goes}
 use Rattle.round_run.specs.Resting.{Stays, Works}
@@ -15,11 +15,11 @@ invariant-rounds g l = record {
   works : Works l.task l.head l.session l.lines (g.H.Host.running l.host) (g.H.Host.spoken l.host);
   ready : AreReady l.task l.session.entries l.rest;
   all_run : 0 < length l.rest → AllRun l.session.pools (g.H.Host.running l.host);
-  so_far : SoFar l.head l.task l.initial.session.entries (instances_of l.initial.rest) l.session.entries (instances_of l.rest);
+  so_far : SoFar l.head l.task l.initial.session.entries (due_instances l.initial.rest) l.session.entries (due_instances l.rest);
   counts : length l.session.asked + length l.rest ≡ length l.initial.session.asked + length l.initial.rest;
   grows : length l.initial.session.asked ≤ length l.session.asked;
   goes : Goes l.initial.session.entries l.session.entries (g.O.Sink.taken l.initial.out) (g.O.Sink.taken l.out);
-  order : Calls l.task (workers_in l.head) l.initial.session.entries l.session.entries (g.H.Host.log l.initial.host) (g.H.Host.log l.host);
+  order : AddsCalls l.task (workers_in l.head) l.initial.session.entries l.session.entries (g.H.Host.log l.initial.host) (g.H.Host.log l.host);
   same : Stays l.initial.lines l.lines (g.H.Host.running l.initial.host) (g.H.Host.running l.host);
   host : g.H.Host.faults l.initial.host ≤ g.H.Host.faults l.host;
   sink : g.O.Sink.faults l.initial.out ≤ g.O.Sink.faults l.out;

@@ -5,9 +5,9 @@ use Rattle.round_run.proofs.BreakingLemmas.{breaks_then}
 use Rattle.round_run.specs.Breaking.{LogBreaks}
 use Rattle.round_run.proofs.CallsLemmas.{calls_then}
 use Rattle.round_run.proofs.StoppedLemmas.{goes_then, handed, stopped_then}
-use Rattle.round_run.specs.Calls.{Calls}
+use Rattle.round_run.specs.Calls.{AddsCalls}
 use Rattle.round_run.specs.Open.{heard_to}
-use Rattle.round_run.specs.Rolling.{Goes, IsFrontPart, Stopped, finished}
+use Rattle.round_run.specs.Rolling.{Goes, IsFrontPart, Stopped, finished_round}
 use Rattle.round_run.proofs.round.hear_all.Goals as goal
 
 pub returns-in_err-hear_one : goal.returns-in_err-hear_one
@@ -25,13 +25,13 @@ returns-in_err-hear_one g c = record {
         let was = g.H.Host.log c.args.host.now in
         let mid = g.H.Host.log c.loop-place.host in
         let log = g.H.Host.log c.hear_one.new.host in
-        let b = s.entries ++ s.asks ++ take c.loop-place.place (finished now.slots) in
+        let b = s.entries ++ s.asks ++ take c.loop-place.place (finished_round now.slots) in
         let stopped =
         subst (λ (x : State).
         Stopped x.version task x.pools (IsFrontPart x.entries (IsRound task x.entries x.instances))
-        (x.entries ++ x.asks ++ take c.loop-place.place (finished now.slots)) fault (g.O.Sink.taken c.loop-place.out)
+        (x.entries ++ x.asks ++ take c.loop-place.place (finished_round now.slots)) fault (g.O.Sink.taken c.loop-place.out)
         (g.O.Sink.taken c.hear_one.new.out) spoken
-        (LogBreaks task x.version x.pools (x.entries ++ x.asks ++ take c.loop-place.place (finished now.slots)) fault mid log))
+        (LogBreaks task x.version x.pools (x.entries ++ x.asks ++ take c.loop-place.place (finished_round now.slots)) fault mid log))
         c.loop-place.invariant.rolled.same
         (c.in_err-hear_one.ensures.hears.stopped task (c.loop-place.invariant.kept task h) (c.loop-place.invariant.said task h talking).0)
         in
@@ -65,17 +65,17 @@ loop-place-preserved g c =
         rolling = e.rolled.rolling;
         many = e.rolled.many ∙ i.rolled.many;
       };
-      goes = goes_then (s.entries ++ s.asks) (s.entries ++ s.asks ++ take place (finished old.slots))
-          (s.entries ++ s.asks ++ take (place + 1) (finished new.slots)) (g.O.Sink.taken c.args.out.now) (g.O.Sink.taken c.loop-place.out)
+      goes = goes_then (s.entries ++ s.asks) (s.entries ++ s.asks ++ take place (finished_round old.slots))
+          (s.entries ++ s.asks ++ take (place + 1) (finished_round new.slots)) (g.O.Sink.taken c.args.out.now) (g.O.Sink.taken c.loop-place.out)
           (g.O.Sink.taken c.hear_one.new.out) i.goes goes;
       said = λ task h t.
           let before = i.said task h t in
           let later = e.said task (i.kept task h) before.0 in
-          let came = subst (λ (x : State). Calls task x.pools (heard_to x old.slots place) (heard_to x new.slots (place + 1))
+          let came = subst (λ (x : State). AddsCalls task x.pools (heard_to x old.slots place) (heard_to x new.slots (place + 1))
           (g.H.Host.log c.loop-place.host) (g.H.Host.log c.hear_one.new.host)) i.rolled.same later.1 in (
             later.0,
-            calls_then task s.pools (s.entries ++ s.asks) (s.entries ++ s.asks ++ take place (finished old.slots))
-                (s.entries ++ s.asks ++ take (place + 1) (finished new.slots))
+            calls_then task s.pools (s.entries ++ s.asks) (s.entries ++ s.asks ++ take place (finished_round old.slots))
+                (s.entries ++ s.asks ++ take (place + 1) (finished_round new.slots))
                 (g.H.Host.log c.args.host.now) (g.H.Host.log c.loop-place.host)
                 (g.H.Host.log c.hear_one.new.host) before.1 came,
           );

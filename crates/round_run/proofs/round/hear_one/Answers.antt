@@ -19,7 +19,7 @@ use Rattle.report_text.proofs.PrintsLemmas.{printed_all}
 use Rattle.round_run.specs.Calls.{LogFollows}
 use Rattle.round_run.specs.Open.{heard_to}
 use Rattle.round_run.specs.Resting.{Rolled}
-use Rattle.round_run.specs.Rolling.{IsFrontPart, finished}
+use Rattle.round_run.specs.Rolling.{IsFrontPart, finished_round}
 use Rattle.round_run.specs.Talking.{Misheard, held_of}
 use Rattle.round_run.proofs.round.hear_one.Goals as goal
 
@@ -63,7 +63,7 @@ returns-in_err-hear_child g c = record {
         there.1
         c.request-child.ensures in
         let legal = round_legal task s c.requires.rolling.begun h in
-        let before = s.entries ++ s.asks ++ take c.args.place (finished s.slots) in
+        let before = s.entries ++ s.asks ++ take c.args.place (finished_round s.slots) in
         let kept = held_of c.args.lines.now in
         let old = g.H.Host.spoken c.args.host.now in
         let now = g.H.Host.spoken c.hear_child.new.host in
@@ -74,7 +74,7 @@ returns-in_err-hear_child g c = record {
         (stopped_blamed s.version task s.pools now front before fault
         (g.O.Sink.taken c.args.out.now)
         (LogBreaks task s.version s.pools before fault (g.H.Host.log c.args.host.now) (g.H.Host.log c.hear_child.new.host))
-        (answers_legal s.version task s.entries s.asks (finished s.slots) c.args.place legal)
+        (answers_legal s.version task s.entries s.asks (finished_round s.slots) c.args.place legal)
         (front_answers task s c.args.place c.requires.rolling.begun h)
         (dialogue_hearing task s (g.H.Host.running c.args.host.now) c.args.place c.requires.rolling c.requires.within there.0 there.1 kept
         old
@@ -206,7 +206,7 @@ returns g c = record {
         is.0 takes in
         let copied = subst (λ o. IfSome o (λ slot. option_copied c.answer.result ≡ slot.answer)) more.at c.answer.ensures in
         let is_it : c.in-Some.answer.now ≡ more.entry = let both = sym (ap option_copied c.in-Some.is) ∙ copied ∙ more.said in cc in
-        let before = s.entries ++ s.asks ++ take c.args.place (finished s.slots) in
+        let before = s.entries ++ s.asks ++ take c.args.place (finished_round s.slots) in
         let legal =
         subst (λ e. IsLegal s.version task (before ++ e ∷ [])) (sym is_it) (more.legal task (c.in_ok-hear_child.ensures.hears.kept task h))
         in

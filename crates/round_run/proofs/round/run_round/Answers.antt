@@ -1,7 +1,7 @@
 use Rattle.std.proofs.Common.{◌≡◌, ℕ, ◌++◌, ap, sym, subst, ◌∙◌, rules, unwrap_or, slice_get, false, length, ◌+◌, drop}
-use Rattle.instance_queue.specs.Level.{instances_of}
+use Rattle.instance_queue.specs.Level.{due_instances}
 use Rattle.session_core.specs.Ready.{AreReady}
-use Rattle.session_core.specs.Session.{begun}
+use Rattle.session_core.specs.Session.{round_begun}
 use Rattle.session_core.specs.State.{State, with_slots}
 use Rattle.std.proofs.lemmas.List.{length-append, length-map}
 use Rattle.instance_queue.specs.declared.due.Due.{Due}
@@ -17,7 +17,7 @@ use Rattle.round_run.proofs.StoppedLemmas.{handed, stopped_memory, stopped_then}
 use Rattle.round_run.proofs.TalkingRoundLemmas.{talking_begun}
 use Rattle.round_run.proofs.TalkingEndLemmas.{round_told}
 use Rattle.round_run.proofs.TalkingLemmas.{dialogue_run}
-use Rattle.round_run.specs.Calls.{Calls}
+use Rattle.round_run.specs.Calls.{AddsCalls}
 use Rattle.round_run.specs.Rolling.{Goes, IsFrontPart, IsRolling, Stopped}
 use Rattle.round_run.specs.Talking.{IsTalking, IsTold, held_of}
 use Rattle.round_run.proofs.round.run_round.Goals as goal
@@ -78,7 +78,7 @@ returns-in_err-hear_all g c = record {
     stopped =
         let s = c.args.session.now in
         let task = c.args.task.now in
-        let x = begun task s c.args.dues.now in
+        let x = round_begun task s c.args.dues.now in
         let fault = c.in_err-hear_all.field-0.0 in
         let spoken = g.H.Host.spoken c.hear_all.new.host in
         let was = g.H.Host.log c.args.host.now in
@@ -91,7 +91,7 @@ returns-in_err-hear_all g c = record {
         c.requires.listens.told)
         in
         let calls =
-        subst (λ (y : State). Calls task y.pools y.entries (y.entries ++ y.asks) was mid) c.in-Ok.ensures.begun
+        subst (λ (y : State). AddsCalls task y.pools y.entries (y.entries ++ y.asks) was mid) c.in-Ok.ensures.begun
         ((c.in_ok-send_all.ensures.sends.said task (held_of c.args.lines.now) c.in-Ok.ensures.kept talking).1) in
         let sent = (c.in_ok-send_all.ensures.sends.said task (held_of c.args.lines.now) c.in-Ok.ensures.kept talking).0 in
         let all_sent = subst (λ n. IsTalking task c.send_all.new.session n 0 (held_of c.args.lines.now) (g.H.Host.spoken
@@ -113,12 +113,12 @@ returns-in_err-hear_all g c = record {
         (λ (y : State). Goes y.entries (y.entries ++ y.asks) (g.O.Sink.taken c.args.out.now) (g.O.Sink.taken c.send_all.new.out))
         c.in-Ok.ensures.begun c.in_ok-send_all.ensures.sends.goes in
         handed c.from_residual-in_err-hear_all.result fault _ c.from_residual-in_err-hear_all.ensures.1
-        (stopped_then s.version task s.pools spoken (IsFrontPart s.entries (IsRound task s.entries (instances_of c.args.dues.now)))
+        (stopped_then s.version task s.pools spoken (IsFrontPart s.entries (IsRound task s.entries (due_instances c.args.dues.now)))
         s.entries
         (x.entries ++ x.asks) fault (g.O.Sink.taken c.args.out.now) (g.O.Sink.taken c.send_all.new.out) (g.O.Sink.taken c.hear_all.new.out)
         (LogBreaks task s.version s.pools s.entries fault was log) (LogBreaks task s.version s.pools (x.entries ++ x.asks) fault mid log)
         goes
-        (breaks_then task s.version s.pools (IsFrontPart s.entries (IsRound task s.entries (instances_of c.args.dues.now)))
+        (breaks_then task s.version s.pools (IsFrontPart s.entries (IsRound task s.entries (due_instances c.args.dues.now)))
         s.entries (x.entries ++ x.asks) fault was mid log calls goes.more goes.pushed) second);
     same = search rules;
     causes = search rules;
@@ -213,7 +213,7 @@ returns-in-Ok-learn g c = record {
           pools = search rules;
           asked = ap (λ (y : State). length y.asked) c.in-Ok-learn.ensures.learnt
               ∙ ap (λ (y : State). length y.asked) c.close_round.ensures.after
-              ∙ ap (λ (y : State). length (y.asked ++ y.instances)) x_is ∙ length-append s.asked (instances_of c.args.dues.now)
+              ∙ ap (λ (y : State). length (y.asked ++ y.instances)) x_is ∙ length-append s.asked (due_instances c.args.dues.now)
               ∙ ap (λ n. length s.asked + n) (length-map c.args.dues.now (λ (d : Due). d.instance));
           more = end.more;
           pushed = ap (λ (y : State). y.entries) c.in-Ok-learn.ensures.learnt
@@ -223,7 +223,7 @@ returns-in-Ok-learn g c = record {
               subst (λ es. AreReady c.args.task.now es (drop count rest))
               (sym (ap (λ (y : State). y.entries) c.in-Ok-learn.ensures.learnt))
               (c.close_round.ensures.rest c.args.task.now rest count kept
-              (ap (λ (y : State). y.instances) x_is ∙ ap instances_of front)
+              (ap (λ (y : State). y.instances) x_is ∙ ap due_instances front)
               (subst (λ es. AreReady c.args.task.now es rest) (sym (ap (λ (y : State). y.entries) x_is)) ready));
         };
     adds =
@@ -266,7 +266,7 @@ returns-in-Ok-learn g c = record {
         sym (ap (λ (y : State). y.entries) c.in-Ok-learn.ensures.learnt ∙ ap (λ (y : State). y.entries) c.close_round.ensures.after) in
         record {
           goes = subst (λ es. Goes s.entries es (g.O.Sink.taken c.args.out.now) (g.O.Sink.taken c.hear_all.new.out)) entries end.goes;
-          order = subst (λ es. Calls task s.pools s.entries es was now) entries order;
+          order = subst (λ es. AddsCalls task s.pools s.entries es was now) entries order;
         };
     stopped = tt;
     same = search rules;
@@ -336,7 +336,7 @@ returns-in-Err-learn g c = record {
         (subst (λ ps. IsTold task closed.version ps closed.entries (g.H.Host.running c.hear_all.new.host)
         (held_of c.hear_all.new.lines) spoken) pools closed_told) in
         let front =
-        front_whole s.entries closed.entries end.more (IsRound task s.entries (instances_of c.args.dues.now))
+        front_whole s.entries closed.entries end.more (IsRound task s.entries (due_instances c.args.dues.now))
         (ap (λ (y : State). y.entries) c.close_round.ensures.after ∙ end.entries) end.round in
         let broken =
         dialogue_run task s.version s.pools closed.entries (g.H.Host.running c.hear_all.new.host)
@@ -351,16 +351,16 @@ returns-in-Err-learn g c = record {
         ((c.in_ok-send_all.ensures.sends.said task (held_of c.args.lines.now) c.in-Ok.ensures.kept talking).1)
         (c.in_ok-hear_all.ensures.hears.said task h all_sent).1 in
         let calls =
-        subst (λ es. Calls task s.pools s.entries es was log) (sym (ap (λ (y : State). y.entries) c.close_round.ensures.after)) order in
-        stopped_then s.version task s.pools spoken (IsFrontPart s.entries (IsRound task s.entries (instances_of c.args.dues.now))) s.entries
+        subst (λ es. AddsCalls task s.pools s.entries es was log) (sym (ap (λ (y : State). y.entries) c.close_round.ensures.after)) order in
+        stopped_then s.version task s.pools spoken (IsFrontPart s.entries (IsRound task s.entries (due_instances c.args.dues.now))) s.entries
         closed.entries fault (g.O.Sink.taken c.args.out.now) (g.O.Sink.taken c.hear_all.new.out) (g.O.Sink.taken c.hear_all.new.out)
         (LogBreaks task s.version s.pools s.entries fault was log) (LogBreaks task s.version s.pools closed.entries fault log log) goes
-        (breaks_then task s.version s.pools (IsFrontPart s.entries (IsRound task s.entries (instances_of c.args.dues.now)))
+        (breaks_then task s.version s.pools (IsFrontPart s.entries (IsRound task s.entries (due_instances c.args.dues.now)))
         s.entries closed.entries fault was log log calls goes.more goes.pushed)
         (stopped_memory s.version task s.pools spoken
-        (IsFrontPart s.entries (IsRound task s.entries (instances_of c.args.dues.now))) closed.entries
+        (IsFrontPart s.entries (IsRound task s.entries (due_instances c.args.dues.now))) closed.entries
         fault (g.O.Sink.taken c.hear_all.new.out) (LogBreaks task s.version s.pools closed.entries fault log log) legal front broken
-        (breaks_none task s.version s.pools (IsFrontPart s.entries (IsRound task s.entries (instances_of c.args.dues.now))) closed.entries
+        (breaks_none task s.version s.pools (IsFrontPart s.entries (IsRound task s.entries (due_instances c.args.dues.now))) closed.entries
         fault
         log
         (tells_memory (HasNoneOpen closed.entries) fault (c.close_round.ensures.kept task kept).none_open c.fault_of-in-Err-learn.ensures))
@@ -380,16 +380,16 @@ returns-in-Err g c = record {
     stopped =
         let s = c.args.session.now in
         let task = c.args.task.now in
-        let round = round_exists task s.entries (instances_of c.args.dues.now) in
+        let round = round_exists task s.entries (due_instances c.args.dues.now) in
         stopped_memory s.version task s.pools (g.H.Host.spoken c.args.host.now)
-        (IsFrontPart s.entries (IsRound task s.entries (instances_of c.args.dues.now))) s.entries c.fault_of.result
+        (IsFrontPart s.entries (IsRound task s.entries (due_instances c.args.dues.now))) s.entries c.fault_of.result
         (g.O.Sink.taken c.args.out.now)
         (LogBreaks task s.version s.pools s.entries c.fault_of.result (g.H.Host.log c.args.host.now) (g.H.Host.log c.args.host.now))
         c.requires.listens.session.legal
-        (front_first s.entries round.0 (IsRound task s.entries (instances_of c.args.dues.now)) round.1)
+        (front_first s.entries round.0 (IsRound task s.entries (due_instances c.args.dues.now)) round.1)
         (dialogue_run task s.version s.pools s.entries (g.H.Host.running c.args.host.now)
         (held_of c.args.lines.now) (g.H.Host.spoken c.args.host.now) c.requires.all_run c.requires.listens.told)
-        (breaks_none task s.version s.pools (IsFrontPart s.entries (IsRound task s.entries (instances_of c.args.dues.now)))
+        (breaks_none task s.version s.pools (IsFrontPart s.entries (IsRound task s.entries (due_instances c.args.dues.now)))
         s.entries c.fault_of.result (g.H.Host.log c.args.host.now)
         (tells_memory (HasNoneOpen s.entries) c.fault_of.result c.requires.listens.session.none_open c.fault_of.ensures))
         c.fault_of.ensures;

@@ -6,7 +6,7 @@ use Rattle.round_run.proofs.BreakingLemmas.{breaks_then}
 use Rattle.round_run.specs.Breaking.{LogBreaks}
 use Rattle.round_run.proofs.CallsLemmas.{calls_then}
 use Rattle.round_run.proofs.StoppedLemmas.{goes_then, handed, stopped_then}
-use Rattle.round_run.specs.Calls.{Calls}
+use Rattle.round_run.specs.Calls.{AddsCalls}
 use Rattle.round_run.specs.Rolling.{Goes, IsFrontPart, Stopped}
 use Rattle.round_run.specs.Talking.{IsTalking}
 use Rattle.round_run.proofs.round.send_all.Goals as goal
@@ -73,7 +73,7 @@ loop-place-preserved g c =
             calls_then task s.pools s.entries (s.entries ++ take place s.asks) (s.entries ++ take (place + 1) s.asks)
                 (g.H.Host.log c.args.host.now) (g.H.Host.log c.loop-place.host) (g.H.Host.log c.send_one.new.host) before.1
                 (subst (λ (x : State).
-                Calls task x.pools (x.entries ++ take place x.asks) (x.entries ++ take (place + 1) x.asks)
+                AddsCalls task x.pools (x.entries ++ take place x.asks) (x.entries ++ take (place + 1) x.asks)
                 (g.H.Host.log c.loop-place.host) (g.H.Host.log c.send_one.new.host)) i.rolled.same later.1),
           );
       kept = λ task h. e.kept task (i.kept task h);
@@ -97,7 +97,7 @@ returns g c =
         said = λ task kept h t.
             let said = c.loop-place.invariant.said task kept h t in (
               subst (λ n. IsTalking task c.loop-place.session n 0 kept (g.H.Host.spoken c.loop-place.host)) all said.0,
-              subst (λ es. Calls task s.pools s.entries (s.entries ++ es) (g.H.Host.log c.args.host.now) (g.H.Host.log c.loop-place.host))
+              subst (λ es. AddsCalls task s.pools s.entries (s.entries ++ es) (g.H.Host.log c.args.host.now) (g.H.Host.log c.loop-place.host))
                   asks said.1,
             );
         stopped = λ task kept h t. tt;

@@ -3,7 +3,7 @@ use Rattle.io_world.specs.Talks.{Same}
 use Rattle.session_core.specs.Session.{IsSession}
 use Rattle.task_model.specs.declared.task.Task.{Task}
 use Rattle.round_run.proofs.round.send_all.Given as goal
-use Rattle.round_run.specs.Calls.{Calls}
+use Rattle.round_run.specs.Calls.{AddsCalls}
 use Rattle.round_run.specs.Resting.{Rolled}
 use Rattle.round_run.specs.Rolling.{Goes}
 use Rattle.round_run.specs.Talking.{IsTalking}
@@ -17,7 +17,7 @@ invariant-loop-place g l = record {
   said : (task : Task) (kept : ℕ → List ℕ) → IsSession task l.initial.session
       → IsTalking task l.initial.session 0 0 kept (g.H.Host.spoken l.initial.host)
       → IsTalking task l.session l.place 0 kept (g.H.Host.spoken l.host)
-      × Calls task l.initial.session.pools l.initial.session.entries
+      × AddsCalls task l.initial.session.pools l.initial.session.entries
       (l.initial.session.entries ++ take l.place l.initial.session.asks) (g.H.Host.log l.initial.host) (g.H.Host.log l.host);
   kept : (task : Task) → IsSession task l.initial.session → IsSession task l.session;
   running : Same (g.H.Host.running l.initial.host) (g.H.Host.running l.host);

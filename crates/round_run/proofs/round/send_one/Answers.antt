@@ -18,7 +18,7 @@ use Rattle.round_run.proofs.StoppedLemmas.{goes_one, handed, ok_map, on_ok, stop
 use Rattle.round_run.proofs.TalkingRoundLemmas.{broken_part, dialogue_after, next_front, next_legal, talking_sent_by}
 use Rattle.report_text.proofs.PrintsLemmas.{printed_all}
 use Rattle.round_run.specs.Resting.{Rolled}
-use Rattle.round_run.specs.Rolling.{IsFrontPart, IsRolling, finished}
+use Rattle.round_run.specs.Rolling.{IsFrontPart, IsRolling, finished_round}
 use Rattle.round_run.specs.Talking.{IsTalking}
 use Rattle.round_run.proofs.round.send_one.Goals as goal
 
@@ -53,7 +53,7 @@ returns-in_err-send g c = record {
         (s.entries ++ take c.args.place s.asks) fault (g.O.Sink.taken c.args.out.now)
         (LogBreaks task s.version s.pools (s.entries ++ take c.args.place s.asks) fault
         (g.H.Host.log c.args.host.now) (g.H.Host.log c.send.new.host))
-        (asks_legal s.version task s.entries s.asks (finished s.slots) c.args.place (round_legal task s opened h))
+        (asks_legal s.version task s.entries s.asks (finished_round s.slots) c.args.place (round_legal task s opened h))
         (front_asks task s c.args.place opened h)
         (broken_part task s c.args.place kept (g.H.Host.spoken c.args.host.now) (g.H.Host.spoken c.send.new.host) there.0 there.1 ask.0
         ask.1

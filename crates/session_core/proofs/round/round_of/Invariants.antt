@@ -1,5 +1,5 @@
 use Rattle.std.proofs.Common.{◌≡◌, [], take}
-use Rattle.instance_queue.specs.Level.{instances_of}
+use Rattle.instance_queue.specs.Level.{due_instances}
 use Rattle.session_core.specs.Slots.{asks_from, slots_from}
 use Rattle.session_core.proofs.round.round_of.Given as goal
 
@@ -7,7 +7,7 @@ use Rattle.session_core.proofs.round.round_of.Given as goal
 abbrev pub invariant-loop-place : goal.invariant-loop-place
 invariant-loop-place l = record {
   asks : l.asks.items ≡ asks_from l.scene.task.now l.scene.facts.now.known.names l.first (take l.place l.dues);
-  instances : l.instances.items ≡ instances_of (take l.place l.dues);
+  instances : l.instances.items ≡ due_instances (take l.place l.dues);
   cells : l.cells.items
       ≡ slots_from l.scene.task.now l.scene.facts.now.known.names l.scene.version l.scene.pools.now l.first [] (take l.place l.dues);
 }

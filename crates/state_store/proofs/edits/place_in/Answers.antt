@@ -1,5 +1,5 @@
 use Rattle.std.proofs.Common.{◌+◌, ◌-◌, ◌/◌, ◌<◌, length, arith}
-use Rattle.state_store.specs.Rows.{atoms_of}
+use Rattle.state_store.specs.Rows.{row_atoms}
 use Rattle.state_store.proofs.EditsLemmas.{row_sorted, below_more, above_less, atom_at}
 use Rattle.state_store.proofs.edits.place_in.Goals as goal
 
@@ -12,7 +12,7 @@ loop-low-preserved-in-Less c =
     let at = atom_at atoms row m c.index-numbered-row.result c.requires.known within c.index-numbered-row.is in (
       omega (arith, c.loop-low-test.true, c.loop-low.invariant.0),
       c.loop-low.invariant.1,
-      below_more c.args.atom.now (atoms_of atoms row) (row_sorted atoms row c.requires) m c.index-numbered-row.result at (cc),
+      below_more c.args.atom.now (row_atoms atoms row) (row_sorted atoms row c.requires) m c.index-numbered-row.result at (cc),
       c.loop-low.invariant.3,
     )
 
@@ -26,5 +26,5 @@ loop-low-preserved c =
       omega (arith, c.loop-low-test.true, c.loop-low.invariant.0),
       omega (arith, c.loop-low-test.true, c.loop-low.invariant.1),
       c.loop-low.invariant.2,
-      above_less c.args.atom.now (atoms_of atoms row) (row_sorted atoms row c.requires) m c.index-numbered-row.result at (cc),
+      above_less c.args.atom.now (row_atoms atoms row) (row_sorted atoms row c.requires) m c.index-numbered-row.result at (cc),
     )

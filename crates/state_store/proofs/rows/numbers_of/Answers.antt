@@ -1,6 +1,6 @@
 use Rattle.std.proofs.Common.{◌<◌, ◌++◌, ◌∷◌, [], length, All, ap, sym, ◌∙◌, subst}
 use Rattle.std.proofs.lemmas.List.{take_more}
-use Rattle.state_store.specs.Rows.{atoms_of}
+use Rattle.state_store.specs.Rows.{row_atoms}
 use Rattle.state_store.proofs.RowsLemmas.{numbers_more, known_more, grows_on}
 use Rattle.state_store.proofs.rows.numbers_of.Goals as goal
 
@@ -14,7 +14,7 @@ loop-atom-preserved c =
     let index = c.loop-atom.atom-index in
     let grows = c.number_of.ensures.grows in
     let pushed = c.in_ok-push.ensures.items in (
-      ap (atoms_of new) pushed ∙ numbers_more old new row n atom grows c.loop-atom.invariant.1 c.in_ok-number_of.ensures.number
+      ap (row_atoms new) pushed ∙ numbers_more old new row n atom grows c.loop-atom.invariant.1 c.in_ok-number_of.ensures.number
           ∙ (λ i. c.loop-atom.invariant.0 i ++ c.atom-item.is i ∷ [])
           ∙ sym (take_more c.args.atoms.now index atom c.loop-atom-test.true),
       subst (All (λ n. n < length new)) (sym pushed)

@@ -2,23 +2,23 @@ use Rattle.std.proofs.Common.{◌≡◌, ◌<◌, ◌∙◌, sym, ap, subst, len
 use Rattle.stream_map.specs.Faults.{map_fault, have_wrong_workers, served_fault, all_places}
 use Rattle.stream_map.specs.Form.{all_stream_names}
 use Rattle.stream_map.specs.Served.{streams_in}
-use Rattle.stream_map.specs.Spelled.{shown}
+use Rattle.stream_map.specs.Spelled.{shown_pool_text}
 use Rattle.stream_map.proofs.FaultsLemmas.{all_below, fault_is, refused_from, streams_numbered}
 use Rattle.stream_map.proofs.pools.pools_of.Goals as goal
 
 pub served_fault-requires : goal.served_fault-requires
 served_fault-requires c =
     let n = c.in_ok-names.names in
-    let flat = streams_numbered n c.in_ok-pools.pools.items 0 (map shown c.args.texts.items) c.in_ok-pools.ensures.pools in
+    let flat = streams_numbered n c.in_ok-pools.pools.items 0 (map shown_pool_text c.args.texts.items) c.in_ok-pools.ensures.pools in
     let P : List ℕ → Type 0 = All (λ s. s < length n) in
-    let low = subst P (sym (ap streams_in c.as_slice-2.ensures.value ∙ flat)) (all_below n (map shown c.args.texts.items)) in
+    let low = subst P (sym (ap streams_in c.as_slice-2.ensures.value ∙ flat)) (all_below n (map shown_pool_text c.args.texts.items)) in
     let count : c.len.result ≡ length n = search rules in
     λ k d lt. let here = low k d lt in omega (arith, here, count)
 
 pub returns-in-Some-clause-refused : goal.returns-in-Some-clause-refused
 returns-in-Some-clause-refused c =
     let n = c.in_ok-names.names in
-    let texts = map shown c.args.texts.items in
+    let texts = map shown_pool_text c.args.texts.items in
     let flat = streams_numbered n c.in_ok-pools.pools.items 0 texts c.in_ok-pools.ensures.pools in
     let count : c.len.result ≡ length n = search rules in
     let right : have_wrong_workers texts ≡ false = search rules in
@@ -31,7 +31,7 @@ returns-in-Some-clause-refused c =
 pub returns-clause-right : goal.returns-clause-right
 returns-clause-right c =
     let n = c.in_ok-names.names in
-    let texts = map shown c.args.texts.items in
+    let texts = map shown_pool_text c.args.texts.items in
     let flat = streams_numbered n c.in_ok-pools.pools.items 0 texts c.in_ok-pools.ensures.pools in
     let count : c.len.result ≡ length n = search rules in
     let right : have_wrong_workers texts ≡ false = search rules in

@@ -1,14 +1,14 @@
 use Rattle.std.proofs.Common.{subst, sym}
 use Rattle.task_reader.specs.Fitness.{IsShort}
 use Rattle.validate_app.proofs.InputsLemmas.{stops_there, streams_named, streams_refused, streams_there}
-use Rattle.validate_app.specs.Held.{held, held_report}
+use Rattle.validate_app.specs.Held.{held_paths, held_report}
 use Rattle.validate_app.specs.declared.stop.FileRole.TheVariants.{Streams}
 use Rattle.validate_app.proofs.texts.read_named_streams.Goals as goal
 
 pub returns-in-Err-clause-stop : goal.returns-in-Err-clause-stop
 returns-in-Err-clause-stop g c =
     stops_there _ _ Streams (c.args.domain.now, c.requires.domain, c.requires.problem) _
-    (streams_named (g.F.Files.told c.args.files.now) (held c.args.paths.now) (held_report c.args.report.now) c.requires.named) c.in-Err.stop c.in-Err.ensures.stop
+    (streams_named (g.F.Files.told c.args.files.now) (held_paths c.args.paths.now) (held_report c.args.report.now) c.requires.named) c.in-Err.stop c.in-Err.ensures.stop
 
 pub returns-clause-stop : goal.returns-clause-stop
 returns-clause-stop g c =

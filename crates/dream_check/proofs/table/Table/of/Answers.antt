@@ -2,7 +2,7 @@ use Rattle.std.proofs.Common.{◌≡◌, ◌≤◌, ◌++◌, ◌∙◌, Some, a
 use Rattle.std.proofs.lemmas.Option.{slice_get-get_or}
 use Rattle.lemmas.proofs.Distinct.{distinct_right}
 use Rattle.lemmas.specs.Lists.{AreDistinct}
-use Rattle.name_tables.specs.Names.{with_name}
+use Rattle.name_tables.specs.Names.{with_table_name}
 use Rattle.dream_check.proofs.TableLemmas.{few_placeholders, name_next}
 use Rattle.dream_check.proofs.table.Table.of.Goals as goal
 
@@ -14,7 +14,7 @@ loop-name-preserved c =
     let distinct = distinct_right d.base.names names (subst AreDistinct c.names-names.ensures d.coherent.names) in
     let at : slice_get names i ≡ Some c.name-item.result =
     slice_get-get_or names i c.name-item.result c.loop-name-test.true ∙ ap Some (sym c.name-item.is) in
-    c.in_ok-_new.ensures.names ∙ (λ k. with_name (c.loop-name.invariant k) (c.bytes.ensures k))
+    c.in_ok-_new.ensures.names ∙ (λ k. with_table_name (c.loop-name.invariant k) (c.bytes.ensures k))
     ∙ name_next names i c.name-item.result distinct c.loop-name-test.true at
 
 pub invariant_of-result : goal.invariant_of-result

@@ -1,5 +1,5 @@
 use Rattle.std.proofs.Common.{◌≡◌, ◌+◌, ◌-◌, ◌++◌, replicate, set, true, false, ap, ◌∙◌, suc, arith}
-use Rattle.fit_check.specs.Filled.{places_of}
+use Rattle.fit_check.specs.Filled.{places_up}
 use Rattle.fit_check.proofs.FilledLemmas.{first_up, next_up}
 use Rattle.fit_check.proofs.slots.Slots.first.Goals as goal
 
@@ -15,5 +15,5 @@ loop-place-preserved c =
 pub returns : goal.returns
 returns c =
     let whole : c.loop-place.place ≡ c.args.count = omega arith in
-    ap (places_of 0) (c.loop-place.invariant ∙ ap (λ n. replicate n true ++ replicate (16 - n) false) whole)
+    ap (places_up 0) (c.loop-place.invariant ∙ ap (λ n. replicate n true ++ replicate (16 - n) false) whole)
     ∙ first_up 0 c.args.count (16 - c.args.count)

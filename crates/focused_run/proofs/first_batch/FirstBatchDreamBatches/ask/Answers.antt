@@ -3,7 +3,7 @@ use Rattle.std.specs.Prelude.{⊤}
 use Rattle.focused_run.proofs.DreamtLemmas.{dreamt_front, firsts_after, may_ask, ran_dreamt}
 use Rattle.focused_run.proofs.FocusingLemmas.{dreamt}
 use Rattle.focused_run.specs.Focusing.{RanFocused, carried}
-use Rattle.instance_queue.specs.Level.{instances_of}
+use Rattle.instance_queue.specs.Level.{due_instances}
 use Rattle.level_run.specs.Advancing.{IsFrontOfTurn}
 use Rattle.level_run.specs.Asking.{IsFrontBehind, RanBehind}
 use Rattle.round_run.proofs.GoingLemmas.{rests_on, turn_handed, turn_ok}
@@ -67,7 +67,7 @@ returns-in_err-ended g c =
     let dues = c.as_slice-2.result.now in
     record {
       goes = turn_handed old new _ (RanBehind old.task old.head dream.line dues s new.state) _
-          (IsFrontBehind old.head old.task s.entries dream.line (instances_of dues))
+          (IsFrontBehind old.head old.task s.entries dream.line (due_instances dues))
           (IsFrontOfTurn old.task old.head (carried c.args.tried.now) s.entries) c.in_err-ended.field-0.0
           c.from_residual-in_err-ended.result c.from_residual-in_err-ended.ensures.1 c.in_err-ended.ensures.goes
           (λ es legal f. dreamt_front old.head old.task h.fit c.requires.mode c.args.tried.now dream.line dream.entries.items s
@@ -94,11 +94,11 @@ returns g c =
     let b = c.in_ok-ended.ended in
     let goes = c.in_ok-ended.ensures.goes in
     let joined = c.in_ok-join.ensures
-    ∙ ap (λ ds. tried ++ instances_of ds) (c.as_slice.ensures.value ∙ sym c.as_slice-2.ensures.value) in
+    ∙ ap (λ ds. tried ++ due_instances ds) (c.as_slice.ensures.value ∙ sym c.as_slice-2.ensures.value) in
     record {
       goes = turn_ok old new _ (RanBehind task head dream.line dues s new.state)
           (RanFocused task head tried c.join.new.self s new.state)
-          (IsFrontBehind head task s.entries dream.line (instances_of dues)) (IsFrontOfTurn task head (carried tried) s.entries) b
+          (IsFrontBehind head task s.entries dream.line (due_instances dues)) (IsFrontOfTurn task head (carried tried) s.entries) b
           c.turned.result goes
           (λ ran. subst (λ next. RanFocused task head tried next s new.state c.turned.result) (sym joined)
           (ran_dreamt head task h.fit c.requires.mode tried dream.line dream.entries.items s

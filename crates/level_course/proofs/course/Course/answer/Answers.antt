@@ -1,9 +1,9 @@
 use Rattle.std.proofs.Common.{◌≡◌, ◌∙◌, subst, ap, drop, ◌+◌, List}
-use Rattle.instance_queue.specs.Level.{instances_of}
+use Rattle.instance_queue.specs.Level.{due_instances}
 use Rattle.instance_queue.specs.declared.due.Due.{Due}
 use Rattle.pools.specs.Pools.{IsLongestFront, shares_of}
 use Rattle.level_course.proofs.AgendasLemmas.{none_to_ask, next_round}
-use Rattle.level_course.specs.Agendas.{Agenda, Starts, shown}
+use Rattle.level_course.specs.Agendas.{Agenda, Starts, shown_agenda}
 use Rattle.level_course.proofs.course.Course.answer.Goals as goal
 
 pub returns-then-self-clause-last : goal.returns-then-self-clause-last
@@ -14,11 +14,11 @@ returns-then-self-clause-last c = λ one.
     let asked = none_to_ask s c.args.self.now c.self.invariant c.self.view_is c.requires.asked in
     let behind : c.split_at.result.1.now ≡ drop s.round s.dues.items =
     c.split_at.ensures.back ∙ ap (drop s.round) c.as_slice.ensures.value in
-    let front : IsLongestFront pools (instances_of (drop s.round s.dues.items)) count =
-    subst (λ (ds : List Due). IsLongestFront pools (instances_of ds) count) behind c.longest_front-count.ensures in
+    let front : IsLongestFront pools (due_instances (drop s.round s.dues.items)) count =
+    subst (λ (ds : List Due). IsLongestFront pools (due_instances ds) count) behind c.longest_front-count.ensures in
     subst (λ (a : Agenda).
     Starts pools a.later (a.next + 1) a.is_cut
-    (shown (record {
+    (shown_agenda (record {
       dues = s.dues;
       asked = s.asked;
       answered = s.answered + 1;

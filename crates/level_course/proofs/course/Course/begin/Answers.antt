@@ -1,10 +1,10 @@
 use Rattle.std.proofs.Common.{◌≡◌, ◌∙◌, refl, sym, subst, ap, ◌+◌, ◌-◌, length, arith, nat_lt, List, take}
 use Rattle.std.proofs.lemmas.List.{take-map}
-use Rattle.instance_queue.specs.Level.{instances_of}
+use Rattle.instance_queue.specs.Level.{due_instances}
 use Rattle.instance_queue.specs.declared.due.Due.{Due}
 use Rattle.pools.specs.Pools.{IsLongestFront, shares_of}
 use Rattle.level_course.proofs.AgendasLemmas.{first_round}
-use Rattle.level_course.specs.Agendas.{Starts, shown}
+use Rattle.level_course.specs.Agendas.{Starts, shown_agenda}
 use Rattle.level_course.proofs.course.Course.begin.Goals as goal
 
 pub returns : goal.returns
@@ -13,15 +13,15 @@ returns c =
     let dues = c.truncate.new.self in
     let pools = shares_of c.args.pools.now in
     let count = c.longest_front-self-inside.result in
-    let front : IsLongestFront pools (instances_of dues.items) count =
-    subst (λ (ds : List Due). IsLongestFront pools (instances_of ds) count) c.as_slice.ensures.value c.longest_front-self-inside.ensures
+    let front : IsLongestFront pools (due_instances dues.items) count =
+    subst (λ (ds : List Due). IsLongestFront pools (due_instances ds) count) c.as_slice.ensures.value c.longest_front-self-inside.ensures
     in
-    let list = take left (instances_of c.args.dues.items) in
-    let is : list ≡ instances_of dues.items =
-    take-map (λ (d : Due). d.instance) left c.args.dues.items ∙ ap instances_of (sym c.truncate.ensures.items) in
+    let list = take left (due_instances c.args.dues.items) in
+    let is : list ≡ due_instances dues.items =
+    take-map (λ (d : Due). d.instance) left c.args.dues.items ∙ ap due_instances (sym c.truncate.ensures.items) in
     let long : c.len.result ≡ length c.args.dues.items = omega (arith, c.len.ensures, c.args.dues.ok) in
     subst (λ n. Starts pools list (c.args.before + 1) (nat_lt left n)
-    (shown (record { dues = dues; asked = 0; answered = 0; round = count; before = c.args.before; is_cut = nat_lt left c.len.result })))
+    (shown_agenda (record { dues = dues; asked = 0; answered = 0; round = count; before = c.args.before; is_cut = nat_lt left c.len.result })))
     long
     (first_round pools
     (record { dues = dues; asked = 0; answered = 0; round = count; before = c.args.before; is_cut = nat_lt left c.len.result }) list is

@@ -1,6 +1,6 @@
 use Rattle.std.proofs.Common.{◌-◌, ap, arith}
 use Rattle.mode_course.specs.Agendas.{ModeAgenda}
-use Rattle.instance_queue.specs.Level.{instances_of}
+use Rattle.instance_queue.specs.Level.{due_instances}
 use Rattle.mode_course.proofs.AgendasLemmas.{dream_begins, firsts_are}
 use Rattle.pools.specs.Pools.{shares_of}
 use Rattle.mode_course.proofs.course.ModeCourse.begin_dream.Goals as goal
@@ -10,7 +10,7 @@ returns-clause-begins c =
     let dues = c.args.asks.items in
     let left = c.args.calls - c.args.before in
     dream_begins c.self.inside c.args.self.now (shares_of c.args.pools.now) dues c.args.before c.args.calls c.begin.new.self
-    c.join.new.self (instances_of c.split_at.result.0.now) c.self.view_is c.in_ok-join.ensures
+    c.join.new.self (due_instances c.split_at.result.0.now) c.self.view_is c.in_ok-join.ensures
     (firsts_are left c.min-count.result c.len.result dues c.as_slice.result.now c.split_at.result.0.now
     (omega (arith, c.len.ensures, c.args.asks.ok))
     c.min-count.ensures c.as_slice.ensures.value c.split_at.ensures.front) c.begin.ensures

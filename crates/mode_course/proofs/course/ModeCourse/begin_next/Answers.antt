@@ -3,9 +3,9 @@ use Rattle.std.proofs.lemmas.Bool.{eqb-false, eqb-true}
 use Rattle.std.proofs.lemmas.List.{nil_from_length}
 use Rattle.dream_asks.specs.Next.{AreDuesOf}
 use Rattle.dream_asks.specs.declared.asks.DreamAsk.{DreamAsk}
-use Rattle.instance_queue.specs.Level.{instances_of}
+use Rattle.instance_queue.specs.Level.{due_instances}
 use Rattle.mode_course.proofs.NextLemmas.{IsSet, next_moves}
-use Rattle.mode_course.specs.Agendas.{Begins, ModeAgenda, MovesOn, phase_of, shown}
+use Rattle.mode_course.specs.Agendas.{BeginsBatch, ModeAgenda, MovesOn, phase_of, shown_mode}
 use Rattle.mode_course.specs.Places.{joining}
 use Rattle.mode_course.specs.declared.course.Phase as stored
 use Rattle.mode_course.specs.Running.{asking, made_by, run_of}
@@ -23,12 +23,12 @@ returns c =
     let asks = c.in_ok-asks.asks in
     let pools = shares_of c.args.pools.now in
     let counted : s.run.before + c.len.result ≡ made_by (run_of s.run) = omega (arith, c.len.ensures, s.run.asks.ok) in
-    let list = λ (n : ℕ). take (c.args.calls - n) (instances_of c.in_ok-dues.dues.items) in
-    let begins : Begins pools c.in_ok-dues.dues.items (s.run.before + c.len.result) c.args.calls
-    (joining (shown s).kept (list (s.run.before + c.len.result))) (shown t) =
-    subst (λ (a : ModeAgenda). Begins pools c.in_ok-dues.dues.items (s.run.before + c.len.result) c.args.calls
-    (joining a.kept (list (s.run.before + c.len.result))) (shown t)) (sym c.self.view_is)
-    (subst (λ (a : ModeAgenda). Begins pools c.in_ok-dues.dues.items (s.run.before + c.len.result) c.args.calls
+    let list = λ (n : ℕ). take (c.args.calls - n) (due_instances c.in_ok-dues.dues.items) in
+    let begins : BeginsBatch pools c.in_ok-dues.dues.items (s.run.before + c.len.result) c.args.calls
+    (joining (shown_mode s).kept (list (s.run.before + c.len.result))) (shown_mode t) =
+    subst (λ (a : ModeAgenda). BeginsBatch pools c.in_ok-dues.dues.items (s.run.before + c.len.result) c.args.calls
+    (joining a.kept (list (s.run.before + c.len.result))) (shown_mode t)) (sym c.self.view_is)
+    (subst (λ (a : ModeAgenda). BeginsBatch pools c.in_ok-dues.dues.items (s.run.before + c.len.result) c.args.calls
     (joining c.args.self.now.kept (list (s.run.before + c.len.result))) a) (sym c.self-2.view_is)
     c.in_ok-begin_dream.ensures.begins) in
     let run = ap (λ (a : ModeAgenda). a.run) c.self-2.view_is ∙ c.begin_dream.ensures.run
@@ -57,7 +57,7 @@ returns c =
     runs set in
     subst (λ (a : ModeAgenda). MovesOn c.args.task.now c.args.facts.now.known c.args.queue.now c.args.behind.now pools
     (phase_of c.args.over a.run) c.args.calls a
-    (shown (record { batch = x.batch; phase = x.phase; tried = x.tried; skeletons = x.skeletons; run = r; alloc = x.alloc })))
+    (shown_mode (record { batch = x.batch; phase = x.phase; tried = x.tried; skeletons = x.skeletons; run = r; alloc = x.alloc })))
     c.self.view_is
     (elim c.if-is_empty.branch [
       | then-is_empty w ↦ moves c.args.over w.self-inside-is (inl (

@@ -1,7 +1,7 @@
 use Rattle.std.proofs.Common.{[], ap}
 use Rattle.std.proofs.lemmas.Result.{on_ok_weaker}
 use Rattle.mode_course.proofs.NextLemmas.{moves_from}
-use Rattle.mode_course.specs.Agendas.{ModeAgenda, shown, with_run}
+use Rattle.mode_course.specs.Agendas.{ModeAgenda, shown_mode, with_run}
 use Rattle.mode_course.specs.Places.{resting}
 use Rattle.pools.specs.Pools.{shares_of}
 use Rattle.mode_course.proofs.course.ModeCourse.follow_dream.Goals as goal
@@ -9,7 +9,7 @@ use Rattle.mode_course.proofs.course.ModeCourse.follow_dream.Goals as goal
 pub returns : goal.returns
 returns c =
     let s = c.self.inside in
-    let old = shown (record {
+    let old = shown_mode (record {
       batch = s.batch;
       phase = s.phase;
       tried = s.tried;

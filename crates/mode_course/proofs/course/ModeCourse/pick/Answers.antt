@@ -2,7 +2,7 @@ use Rattle.std.proofs.Common.{◌≡◌, ◌∙◌, ◌==◌, ◌+◌, [], List,
 use Rattle.std.proofs.lemmas.List.{length-map}
 use Rattle.std.proofs.lemmas.Option.{slice_get_within}
 use Rattle.mode_course.proofs.NextLemmas.{given_up_is, moves_from}
-use Rattle.mode_course.specs.Agendas.{ModeAgenda, shown, with_run}
+use Rattle.mode_course.specs.Agendas.{ModeAgenda, shown_mode, with_run}
 use Rattle.mode_course.specs.Places.{unasked}
 use Rattle.mode_course.specs.Running.{run_of, sent_of}
 use Rattle.pools.specs.Pools.{shares_of}
@@ -24,7 +24,7 @@ returns c = λ k at.
     (omega (arith, slice_get_within (skeletons_in s.skeletons.items) place k own, length-map s.skeletons.items skeleton_of))
     c.index-skeleton.ensures) ∙ own in
     let same : skeleton_of stored ≡ k = cc in
-    let old = shown (record {
+    let old = shown_mode (record {
       batch = s.batch;
       phase = s.phase;
       tried = s.tried;

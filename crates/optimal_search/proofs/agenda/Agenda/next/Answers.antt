@@ -4,7 +4,7 @@ use Rattle.std.proofs.lemmas.List.Sorted.{Contains-permutation, IsPermutation-sy
 use Rattle.lemmas.proofs.Ascending.{contains_here}
 use Rattle.lemmas.proofs.ListTests.{get_some}
 use Rattle.optimal_search.proofs.AgendaLemmas.{none_from, queued_closed, queued_least, queued_none, queued_passed, set_same}
-use Rattle.optimal_search.specs.Agenda.{AreQueued, IsOpenAt}
+use Rattle.optimal_search.specs.Agenda.{AreQueued, IsOpenNodeAt}
 use Rattle.best_first.specs.declared.tree.Link.{Link}
 use Rattle.optimal_search.proofs.agenda.Agenda.next.Goals as goal
 
@@ -28,15 +28,15 @@ returns-in-Some-take c =
     (contains_here first now) in
     let node = c.index_mut.result.now in
     let at = get_some nodes first.0.place node (queued.places first there) c.index_mut.ensures.value in
-    let held : IsOpenAt nodes first.0.place node c.in-Some-take.link = (at, sym c.take.ensures.value ∙ c.in-Some-take.is) in
+    let held : IsOpenNodeAt nodes first.0.place node c.in-Some-take.link = (at, sym c.take.ensures.value ∙ c.in-Some-take.is) in
     let least = queued_least nodes queue first node c.in-Some-take.link queued (c.in-Some.ensures.heap_order queued.heap).1 there held in
     let after = queued_closed nodes queue now first node queued c.in-Some.ensures.permutation
     (c.in-Some.ensures.heap_order queued.heap).0 at in
     let old = c.loop-entry.invariant.1 in
     record {
       node = node;
-      there = subst (λ ns. IsOpenAt ns first.0.place node c.in-Some-take.link) old held;
-      least = λ other v l is. least other v l (subst (λ ns. IsOpenAt ns other v l) (sym old) is);
+      there = subst (λ ns. IsOpenNodeAt ns first.0.place node c.in-Some-take.link) old held;
+      least = λ other v l is. least other v l (subst (λ ns. IsOpenNodeAt ns other v l) (sym old) is);
       nodes = λ i. slice_set (old i) first.0.place (record { cost = node.cost; left = node.left; last = c.take.ensures.after i });
       agenda = subst (λ (l : Option Link). AreQueued (slice_set nodes first.0.place (record { cost = node.cost; left = node.left; last = l })) now)
           (sym c.take.ensures.after) after;
@@ -68,5 +68,5 @@ returns c =
     let none = queued_none last.nodes.items (heap_items last.queue) c.loop-entry.invariant.0
     (omega (arith, c.in_default.ensures.none, last.queue.data.ok.0)) in (
       c.loop-entry.invariant.1,
-      λ place node link is. none place node link (subst (λ ns. IsOpenAt ns place node link) (sym c.loop-entry.invariant.1) is),
+      λ place node link is. none place node link (subst (λ ns. IsOpenNodeAt ns place node link) (sym c.loop-entry.invariant.1) is),
     )

@@ -1,7 +1,7 @@
 use Rattle.std.proofs.Common.{◌≡◌, ◌+◌, ◌≤◌, ◌++◌, List, [], ◌∷◌, ℕ, sym, ap, arith, ◌∙◌, refl}
 use Rattle.std.specs.List.{filter_map}
 use Rattle.transcript_model.specs.Names.{stream_named}
-use Rattle.pools.specs.Pools.{Workers, share_of}
+use Rattle.pools.specs.Pools.{Workers, share_of_workers}
 use Rattle.replay_check.specs.Heads.{are_new, share_in, pool_line_streams}
 use Rattle.replay_check.proofs.HeadsPoolLemmas.{pool_fits, pool_passed}
 use Rattle.replay_check.proofs.head.Before.add.Goals as goal
@@ -18,7 +18,7 @@ returns c = λ before h.
     let fits = pool_fits task before pool b h (omega arith) (omega arith) together
     (ap (are_new task b.served.items) (sym names) ∙ found.0) in
     let own : Workers = record { first = b.workers; workers = pool.workers; streams = c.from_vec-streams.result } in
-    let is : share_of own ≡ share_in task pool =
+    let is : share_of_workers own ≡ share_in task pool =
     ap (λ (s : List ℕ). record { workers = pool.workers; streams = s }) (c.from_vec-streams.ensures ∙ streams) in (
       fits,
       pool_passed task before pool b h _ own fits together

@@ -1,9 +1,9 @@
 use Rattle.std.proofs.Common.{◌≡◌, ap, sym, subst, ◌∙◌, ◌+◌, ◌≤◌, false, length, [], take, vec_len, vec_capacity, arith}
 use Rattle.session_core.proofs.RoundBeginLemmas.{the_state, named_all, children_fit, begun_sound, begun_fresh, begin_kept}
 use Rattle.session_core.specs.Events.{IsFresh}
-use Rattle.pools.specs.Pools.{child_for, streams_of}
+use Rattle.pools.specs.Pools.{child_for, asked_streams}
 use Rattle.session_core.specs.Session.{IsSession, MayBeginRound}
-use Rattle.session_core.specs.Shown.{shown}
+use Rattle.session_core.specs.Shown.{shown_session}
 use Rattle.session_core.specs.Slots.{asks_from, slots_from}
 use Rattle.session_core.specs.State.{State, IsSound}
 use Rattle.session_core.proofs.session.Session.begin_round.Goals as goal
@@ -12,7 +12,7 @@ pub round_of-requires-clause-named : goal.round_of-requires-clause-named
 round_of-requires-clause-named c =
     let task = c.args.task.now in
     let dues = c.args.dues.now in
-    let s = shown c.self.inside in
+    let s = shown_session c.self.inside in
     let may = subst (λ (t : State). t.failed ≡ false → MayBeginRound task t dues) (sym c.self.view_is) c.requires.round c.if-self.false in
     named_all task s dues c.if-self.false may (subst (IsSession task) (sym c.self.view_is) c.requires.session)
 
@@ -20,16 +20,16 @@ pub round_of-requires-clause-children : goal.round_of-requires-clause-children
 round_of-requires-clause-children c = λ k d at.
     let task = c.args.task.now in
     let dues = c.args.dues.now in
-    let s = shown c.self.inside in
+    let s = shown_session c.self.inside in
     let may = subst (λ (t : State). t.failed ≡ false → MayBeginRound task t dues) (sym c.self.view_is) c.requires.round c.if-self.false in
-    subst (λ ps. child_for ps (streams_of (take k dues)) d.instance.stream ≤ 16) (sym c.as_slice.ensures.value)
+    subst (λ ps. child_for ps (asked_streams (take k dues)) d.instance.stream ≤ 16) (sym c.as_slice.ensures.value)
     (children_fit task s dues c.if-self.false may (subst (IsSession task) (sym c.self.view_is) c.requires.session) k d at)
 
 pub invariant_of-self-2 : goal.invariant_of-self-2
 invariant_of-self-2 c =
     let task = c.args.task.now in
     let dues = c.args.dues.now in
-    let s = shown c.self.inside in
+    let s = shown_session c.self.inside in
     let may = subst (λ (t : State). t.failed ≡ false → MayBeginRound task t dues) (sym c.self.view_is) c.requires.round c.if-self.false in
     let was = subst (IsSession task) (sym c.self.view_is) c.requires.session in
     let asked_long : c.len.result ≡ length s.asked = c.len.ensures ∙ c.reserve-2.new.self.ok.0 ∙ ap length c.reserve-2.ensures.items in
@@ -52,7 +52,7 @@ pub returns-clause-kept : goal.returns-clause-kept
 returns-clause-kept c =
     let task = c.args.task.now in
     let dues = c.args.dues.now in
-    let s = shown c.self.inside in
+    let s = shown_session c.self.inside in
     let may = subst (λ (t : State). t.failed ≡ false → MayBeginRound task t dues) (sym c.self.view_is) c.requires.round c.if-self.false in
     let was = subst (IsSession task) (sym c.self.view_is) c.requires.session in
     let asked_long : c.len.result ≡ length s.asked = c.len.ensures ∙ c.reserve-2.new.self.ok.0 ∙ ap length c.reserve-2.ensures.items in
@@ -69,7 +69,7 @@ pub returns-clause-fresh : goal.returns-clause-fresh
 returns-clause-fresh c =
     let task = c.args.task.now in
     let dues = c.args.dues.now in
-    let s = shown c.self.inside in
+    let s = shown_session c.self.inside in
     let may = subst (λ (t : State). t.failed ≡ false → MayBeginRound task t dues) (sym c.self.view_is) c.requires.round c.if-self.false in
     let was = subst (IsSession task) (sym c.self.view_is) c.requires.session in
     let asked_long : c.len.result ≡ length s.asked = c.len.ensures ∙ c.reserve-2.new.self.ok.0 ∙ ap length c.reserve-2.ensures.items in

@@ -1,7 +1,7 @@
 use Rattle.std.proofs.Common.{ap, subst, ◌∙◌, take, IfOk, IfErr}
 use Rattle.std.proofs.Math.Seq.{take-length}
 use Rattle.std.proofs.lemmas.Result.{IfOk-weaker}
-use Rattle.instance_queue.specs.Level.{AreDueInTurn, ComesOf}
+use Rattle.instance_queue.specs.Level.{AreDueInTurn, HasLevelCause}
 use Rattle.transcript_model.specs.Transcript.{known_of, notes_of}
 use Rattle.session_core.proofs.ReadyLemmas.{level_ready}
 use Rattle.session_core.specs.Ready.{AreReady}
@@ -26,8 +26,8 @@ returns-clause-fault c =
     let all = ap (λ n. take n s.entries) c.requires.learnt.all ∙ take-length s.entries in
     let known = ap (λ (t : State). t.known) c.self.view_is ∙ c.requires.session.known c.requires.working ∙ ap (known_of task) all in
     let notes = ap (λ (t : State). t.notes) c.self.view_is ∙ c.requires.session.notes c.requires.working ∙ ap (notes_of task) all in
-    subst (λ ns. IfErr c.next_level.result (ComesOf task (known_of task s.entries) ns)) notes
-    (subst (λ k. IfErr c.next_level.result (ComesOf task k c.self.inside.ledger.queue)) known c.next_level.ensures.fault)
+    subst (λ ns. IfErr c.next_level.result (HasLevelCause task (known_of task s.entries) ns)) notes
+    (subst (λ k. IfErr c.next_level.result (HasLevelCause task k c.self.inside.ledger.queue)) known c.next_level.ensures.fault)
 
 pub returns-clause-ready : goal.returns-clause-ready
 returns-clause-ready c =

@@ -3,7 +3,7 @@ use Rattle.session_core.proofs.SessionLemmas.{line_kept}
 use Rattle.session_core.proofs.StateLemmas.{slots_are, sound_changed, read_slot, heard_is, bad_is}
 use Rattle.session_core.specs.Heard.{is_bad_at}
 use Rattle.session_core.specs.Session.{IsSession}
-use Rattle.session_core.specs.Shown.{shown}
+use Rattle.session_core.specs.Shown.{shown_session}
 use Rattle.session_core.specs.Slots.{Slot, heard_slot, slot_of, reply_fault, reply_to}
 use Rattle.session_core.specs.State.{State, IsSound, with_slots, after_line}
 use Rattle.session_core.specs.declared.fault.Heard.TheVariants.{Taken, Bad}
@@ -11,7 +11,7 @@ use Rattle.session_core.proofs.session.Session.line.Goals as goal
 
 pub invariant_of-self : goal.invariant_of-self
 invariant_of-self c =
-    let s = shown c.self.inside in
+    let s = shown_session c.self.inside in
     let child = c.args.child in
     let change = heard_slot c.args.bytes.now in
     let found : slice_get s.slots c.in-Some.place ≡ slot_of s.slots child =
@@ -28,7 +28,7 @@ invariant_of-self c =
 
 pub invariant_of-self-in-Some-hear : goal.invariant_of-self-in-Some-hear
 invariant_of-self-in-Some-hear c =
-    let s = shown c.self.inside in
+    let s = shown_session c.self.inside in
     let child = c.args.child in
     let change = heard_slot c.args.bytes.now in
     let found : slice_get s.slots c.in-Some.place ≡ slot_of s.slots child =
@@ -45,7 +45,7 @@ invariant_of-self-in-Some-hear c =
 
 pub returns-in-None-clause-heard : goal.returns-in-None-clause-heard
 returns-in-None-clause-heard c =
-    let s = shown c.self.inside in
+    let s = shown_session c.self.inside in
     let child = c.args.child in
     let line = c.args.bytes.now in
     let slot = c.requires.awaited.slot in
@@ -60,7 +60,7 @@ returns-in-None-clause-heard c =
 
 pub returns-in-None-clause-after : goal.returns-in-None-clause-after
 returns-in-None-clause-after c =
-    let s = shown c.self.inside in
+    let s = shown_session c.self.inside in
     let child = c.args.child in
     let line = c.args.bytes.now in
     let slot = c.requires.awaited.slot in
@@ -80,7 +80,7 @@ returns-in-None-clause-after c =
 
 pub returns-in-None-clause-kept : goal.returns-in-None-clause-kept
 returns-in-None-clause-kept c = λ task h.
-    let s = shown c.self.inside in
+    let s = shown_session c.self.inside in
     let child = c.args.child in
     let line = c.args.bytes.now in
     let slot = c.requires.awaited.slot in
@@ -96,7 +96,7 @@ returns-in-None-clause-kept c = λ task h.
 
 pub returns-in-Some-hear-clause-heard : goal.returns-in-Some-hear-clause-heard
 returns-in-Some-hear-clause-heard c =
-    let s = shown c.self.inside in
+    let s = shown_session c.self.inside in
     let child = c.args.child in
     let line = c.args.bytes.now in
     let slot = c.requires.awaited.slot in
@@ -111,7 +111,7 @@ returns-in-Some-hear-clause-heard c =
 
 pub returns-in-Some-hear-clause-after : goal.returns-in-Some-hear-clause-after
 returns-in-Some-hear-clause-after c =
-    let s = shown c.self.inside in
+    let s = shown_session c.self.inside in
     let child = c.args.child in
     let line = c.args.bytes.now in
     let slot = c.requires.awaited.slot in
@@ -130,7 +130,7 @@ returns-in-Some-hear-clause-after c =
 
 pub returns-in-Some-hear-clause-kept : goal.returns-in-Some-hear-clause-kept
 returns-in-Some-hear-clause-kept c = λ task h.
-    let s = shown c.self.inside in
+    let s = shown_session c.self.inside in
     let child = c.args.child in
     let line = c.args.bytes.now in
     let slot = c.requires.awaited.slot in

@@ -2,7 +2,7 @@ use Rattle.std.proofs.Common.{◌≡◌, ap, sym, subst, ◌∙◌, slice_get, S
 use Rattle.session_core.proofs.SessionLemmas.{sent_kept}
 use Rattle.session_core.proofs.StateLemmas.{slots_are, sound_changed}
 use Rattle.session_core.specs.Session.{IsSession}
-use Rattle.session_core.specs.Shown.{shown}
+use Rattle.session_core.specs.Shown.{shown_session}
 use Rattle.session_core.specs.Slots.{sent_slot, slot_of}
 use Rattle.session_core.specs.State.{State, IsSound, with_slots, after_sent}
 use Rattle.std.proofs.Common.{vec_capacity}
@@ -10,7 +10,7 @@ use Rattle.session_core.proofs.session.Session.sent.Goals as goal
 
 pub invariant_of-self : goal.invariant_of-self
 invariant_of-self c =
-    let s = shown c.self.inside in
+    let s = shown_session c.self.inside in
     let child = c.args.child in
     let found : slice_get s.slots c.in-Some.place ≡ slot_of s.slots child =
     sym (ap (λ xs. slice_get xs c.in-Some.place) c.as_slice.ensures.value) ∙ c.in-Some.ensures.found
@@ -26,7 +26,7 @@ invariant_of-self c =
 
 pub returns-clause-after : goal.returns-clause-after
 returns-clause-after c =
-    let s = shown c.self.inside in
+    let s = shown_session c.self.inside in
     let child = c.args.child in
     let found : slice_get s.slots c.in-Some.place ≡ slot_of s.slots child =
     sym (ap (λ xs. slice_get xs c.in-Some.place) c.as_slice.ensures.value) ∙ c.in-Some.ensures.found
@@ -39,7 +39,7 @@ returns-clause-after c =
 
 pub returns-clause-kept : goal.returns-clause-kept
 returns-clause-kept c = λ task h.
-    let s = shown c.self.inside in
+    let s = shown_session c.self.inside in
     let child = c.args.child in
     let found : slice_get s.slots c.in-Some.place ≡ slot_of s.slots child =
     sym (ap (λ xs. slice_get xs c.in-Some.place) c.as_slice.ensures.value) ∙ c.in-Some.ensures.found

@@ -1,6 +1,6 @@
 use Rattle.std.proofs.Common.{◌≡◌, ◌∙◌, ap, sym, subst, arith, replicate}
 use Rattle.spread_state.proofs.CellsLemmas.{empty_is, empty_spread}
-use Rattle.spread_state.specs.Cells.{IsSpread, atoms_of}
+use Rattle.spread_state.specs.Cells.{IsSpread, cell_atoms}
 use Rattle.spread_state.specs.declared.cells.TheConstants.{CELLS}
 use Rattle.task_model.specs.State.{empty}
 use Rattle.spread_state.proofs.cells.SpreadState.new.Goals as goal
@@ -13,4 +13,4 @@ invariant_of-result c =
 pub returns : goal.returns
 returns c =
     let all : c.loop.counter ≡ CELLS = omega (arith, c.loop-test.false) in
-    ap atoms_of (c.loop.invariant ∙ ap (λ n. replicate n empty) all) ∙ empty_is
+    ap cell_atoms (c.loop.invariant ∙ ap (λ n. replicate n empty) all) ∙ empty_is

@@ -1,7 +1,7 @@
 use Rattle.std.proofs.Common.{◌<◌, map, length, get_or, Some, slice_get, option_map, ap, sym, ◌∙◌, subst, All}
 use Rattle.std.proofs.lemmas.Option.{slice_get-map}
 use Rattle.task_model.specs.State.{from_list}
-use Rattle.state_store.specs.Rows.{state_of, states_of, atoms_of}
+use Rattle.state_store.specs.Rows.{state_of, states_of, row_atoms}
 use Rattle.state_store.proofs.RowsLemmas.{row_at}
 use Rattle.state_store.proofs.store.StateStore.get.Goals as goal
 
@@ -27,6 +27,6 @@ returns c =
     let at = row_at (λ v. v.items) atoms keys key c.args.id within
     (c.index-as_slice-id.is ∙ ap (λ ks. get_or ks c.args.id key) c.as_slice.ensures.keys) in
     let is = c.from_atoms.ensures
-    ∙ ap from_list (c.in_ok-atoms.ensures ∙ (λ i. atoms_of (c.as_slice-2.ensures.keys i) (c.as_slice-3.ensures.value i))) in
+    ∙ ap from_list (c.in_ok-atoms.ensures ∙ (λ i. row_atoms (c.as_slice-2.ensures.keys i) (c.as_slice-3.ensures.value i))) in
     ap (λ ss. slice_get ss c.args.id) (sym c.self.view_is) ∙ slice_get-map (state_of atoms) (map (λ v. v.items) keys) c.args.id
     ∙ ap (option_map (state_of atoms)) at ∙ ap Some (sym is)
