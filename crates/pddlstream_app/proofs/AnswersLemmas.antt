@@ -11,22 +11,23 @@ use Rattle.command_line.specs.Words.{Command, PlayWords, ReplayWords, TaskFiles,
 use Rattle.grid_text.specs.Files.{IsGridOf}
 use Rattle.grid_text.specs.Grids.{GridFile}
 use Rattle.pddlstream_app.proofs.AskedLemmas.{asked_reading}
-use Rattle.pddlstream_app.proofs.InputsLemmas.{command_input}
+use Rattle.pddlstream_app.proofs.NoInputLemmas.{command_input}
 use Rattle.pddlstream_app.proofs.RunsLemmas.{stopped_early, stopped_reading}
 use Rattle.pddlstream_app.specs.AnswerOf.{HasAnswer, IsCommandAnswer, IsVerdictFor, SaysVerdict}
-use Rattle.pddlstream_app.specs.Answering.{AreReported, IsAnswerTold, IsUnmade}
-use Rattle.pddlstream_app.specs.Asked.{AsksAll, AsksAllOf, AsksBefore}
-use Rattle.pddlstream_app.specs.Files.{FileWanted, HoldsFile, file_of}
-use Rattle.pddlstream_app.specs.Inputs.{EndsAtFile, HasNoInput, ReadsNothing, reads, task_files}
-use Rattle.pddlstream_app.specs.Outside.{FilesSeen, Outside, Written, resting}
+use Rattle.command_files.specs.Inputs.{AreReported, AsksAllOf, EndsAtFile, reads, task_files}
+use Rattle.pddlstream_app.specs.Answering.{IsAnswerTold, IsUnmade}
+use Rattle.pddlstream_app.specs.Asked.{AsksAll, AsksBefore}
+use Rattle.command_files.specs.Files.{FileWanted, HoldsFile, file_of}
+use Rattle.pddlstream_app.specs.NoInput.{HasNoInput, ReadsNothing}
+use Rattle.command_files.specs.Outside.{FilesSeen, Outside, Written, resting}
 use Rattle.pddlstream_app.specs.Plans.{SaysOfReport, SaysOrder, SaysPlay}
 use Rattle.pddlstream_app.specs.Runs.{IsCompleted, IsStopped}
-use Rattle.pddlstream_app.specs.Stop.{IsOfInput}
-use Rattle.pddlstream_app.specs.declared.status.Status.{Status}
-use Rattle.pddlstream_app.specs.declared.stop.FileRole.TheVariants as role
-use Rattle.pddlstream_app.specs.declared.stop.Stop.{Stop}
-use Rattle.pddlstream_app.specs.declared.stop.Stop.TheVariants as stop
-use Rattle.pddlstream_app.specs.declared.texts.Reported.{Reported}
+use Rattle.command_files.specs.Stop.{IsOfInput}
+use Rattle.command_files.specs.declared.status.Status.{Status}
+use Rattle.command_files.specs.declared.stop.FileRole.TheVariants as role
+use Rattle.command_files.specs.declared.stop.Stop.{Stop}
+use Rattle.command_files.specs.declared.stop.Stop.TheVariants as stop
+use Rattle.command_files.specs.declared.texts.Reported.{Reported}
 
 -- ---- a task and a report
 

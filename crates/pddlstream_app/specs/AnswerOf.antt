@@ -10,12 +10,12 @@ use Rattle.task_reader.specs.Tasks.{SpellsTask}
 use Rattle.optimal_check.specs.Verdicts.{IsCostVerdict}
 use Rattle.replay_check.specs.Verdicts.{IsVerdict}
 use Rattle.replay_check.specs.declared.verdict.Verdict.{Verdict}
-use Rattle.pddlstream_app.specs.Files.{AreBytes}
-use Rattle.pddlstream_app.specs.Inputs.{files_named}
-use Rattle.pddlstream_app.specs.Outside.{IsUntouched, Outside}
+use Rattle.command_files.specs.Files.{AreBytes}
+use Rattle.command_files.specs.Inputs.{files_named}
+use Rattle.command_files.specs.Outside.{IsUntouched, Outside}
 use Rattle.pddlstream_app.specs.Replays.{IsMigrated, kind_of_verdict, verdict_text}
 use Rattle.pddlstream_app.specs.Plans.{SaysOfReport, SaysOrder, SaysPlay}
-use Rattle.pddlstream_app.specs.declared.status.Status.{Status}
+use Rattle.command_files.specs.declared.status.Status.{Status}
 
 -- the command reads files and answers with one text; the others solve a task and may ask children
 abbrev pub only_reads : Command → Bool

@@ -11,8 +11,8 @@ use Rattle.transcript_model.specs.Transcript.{known_of, names_of}
 use Rattle.transcript_model.specs.declared.entry.Call.{Call}
 use Rattle.transcript_model.specs.declared.outcome.Origin.{Origin}
 use Rattle.transcript_model.specs.declared.outcome.Outcome.TheVariants as outcome
-use Rattle.pddlstream_app.specs.Outside.{Written}
-use Rattle.pddlstream_app.specs.Runs.{ProgramRun, shown_text}
+use Rattle.command_files.specs.Outside.{Written}
+use Rattle.run_command.specs.Runs.{ProgramRun, shown_text}
 
 -- The sink took all that is shown of a run with this plan: its report, or the line of `generate`. The run's transcript
 -- is legal; over what its answers certify and what the problem says at first the steps are executable, one after

@@ -1,10 +1,10 @@
 //! What `replay` answers.
-ghost use Rattle.std.specs.Prelude.{◌≡◌, ◌<◌, ◌≤◌, ◌^◌, ◌++◌, length, codes, IfOk, IfErr};
+ghost use Rattle.std.specs.Prelude.{◌≡◌, ◌<◌, ◌≤◌, ◌^◌, ◌++◌, length, codes, IfOk};
 ghost use Rattle.std.specs.Fmt.{decimal};
 ghost use Rattle.pddlstream_app.specs.AnswerOf.{IsVerdictFor, SaysVerdict};
 ghost use Rattle.pddlstream_app.specs.Answering.{IsMade};
-ghost use Rattle.pddlstream_app.specs.Outside.{seen_of};
-ghost use Rattle.pddlstream_app.specs.Paths.{held_files};
+ghost use Rattle.command_files.specs.Outside.{seen_of};
+ghost use Rattle.command_files.specs.Paths.{held_files};
 ghost use Rattle.pddlstream_app.specs.Replays.{kind_of_verdict, verdict_text};
 ghost use Rattle.command_line.specs.Held.{held_replay};
 ghost use Rattle.command_line.specs.Ranges.{IsFromOne};
@@ -14,9 +14,7 @@ ghost use Rattle.task_model.specs.declared.limits.TheConstants.{MOST_STATES};
 ghost use Rattle.replay_check.specs.Kinds.{breach_number};
 
 use crate::said::Said;
-use crate::status::Status;
-use crate::stop::Stop;
-use crate::texts::{TaskPaths, read_reported};
+use command_files::{Status, Stop, TaskPaths, read_reported};
 use command_line::ReplayConfig;
 use io_world::Files;
 use level_run::RunFault;

@@ -7,9 +7,9 @@ use Rattle.command_line.specs.Numbers.{is_count}
 use Rattle.command_line.specs.Words.{Command, SolveWords, command_of, generate, read_by, solve}
 use Rattle.io_world.specs.Talks.{silence, spelled}
 use Rattle.pddlstream_app.specs.Complete.{AreGivenAnswers}
-use Rattle.pddlstream_app.specs.Inputs.{IsTaskOf}
-use Rattle.pddlstream_app.specs.Runs.{ProgramRun}
-use Rattle.pddlstream_app.specs.Works.{Work, command_for, files_of, making, solving, words_of}
+use Rattle.command_files.specs.Inputs.{IsTaskOf}
+use Rattle.run_command.specs.Runs.{ProgramRun}
+use Rattle.run_command.specs.Works.{Work, command_for, files_of, making, solving, words_of}
 use Rattle.table_runs.specs.Asking.{SpeaksBy}
 use Rattle.task_model.specs.declared.task.Task.{Task}
 use Rattle.task_reader.proofs.SpelledLemmas.{one_task}

@@ -8,9 +8,9 @@ use Rattle.lemmas.proofs.Options.{none_at}
 use Rattle.level_run.specs.Reports.{IsRun}
 use Rattle.level_run.specs.Turns.{IsSure}
 use Rattle.mode_turns.specs.Lazy.{IsFewDue, IsLazy, IsLazyEnd, begins}
-use Rattle.pddlstream_app.specs.Heads.{IsHeadOf}
-use Rattle.pddlstream_app.specs.Runs.{ProgramRun}
-use Rattle.pddlstream_app.specs.Works.{solving}
+use Rattle.run_command.specs.Heads.{IsHeadOf}
+use Rattle.run_command.specs.Runs.{ProgramRun}
+use Rattle.run_command.specs.Works.{solving}
 use Rattle.task_model.specs.Fit.{IsFit}
 use Rattle.task_reader.proofs.FitTask.{spelled_tasks_fit}
 use Rattle.transcript_model.specs.Legal.{asks_of}

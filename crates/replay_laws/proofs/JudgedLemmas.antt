@@ -3,11 +3,11 @@ use Rattle.std.proofs.Common.{◌≡◌, ℕ, ◌<◌, ◌^◌, List, [], ◌∷
 use Rattle.command_line.specs.Words.{Command, ReplayWords, command_of, replay}
 use Rattle.io_world.specs.FileMap.{FileMap}
 use Rattle.pddlstream_app.specs.AnswerOf.{AnswerOf, HasAnswer, IsCommandAnswer, IsVerdictFor}
-use Rattle.pddlstream_app.specs.Files.{AreBytes, FileHolds}
-use Rattle.pddlstream_app.specs.Inputs.{IsTaskOf, files_named}
-use Rattle.pddlstream_app.specs.Outside.{Outside}
+use Rattle.command_files.specs.Files.{AreBytes, FileHolds}
+use Rattle.command_files.specs.Inputs.{IsTaskOf, files_named}
+use Rattle.command_files.specs.Outside.{Outside}
 use Rattle.pddlstream_app.specs.Replays.{kind_of_verdict, verdict_text}
-use Rattle.pddlstream_app.specs.declared.status.Status.{Status}
+use Rattle.command_files.specs.declared.status.Status.{Status}
 use Rattle.replay_check.specs.declared.verdict.Verdict.{Verdict}
 use Rattle.task_model.specs.declared.task.Task.{Task}
 

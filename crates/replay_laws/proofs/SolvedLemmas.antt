@@ -5,22 +5,22 @@ use Rattle.level_run.specs.Reports.{whole_text}
 use Rattle.command_line.proofs.RangesLemmas.{in_range}
 use Rattle.command_line.specs.Ranges.{AreInRange}
 use Rattle.command_line.specs.Words.{ReplayWords, SolveWords, TaskFiles, command_of, replay, solve}
-use Rattle.pddlstream_app.proofs.HeadsLemmas.{head_runs}
+use Rattle.run_command.proofs.HeadsLemmas.{head_runs}
 use Rattle.level_run.proofs.ReportsLemmas.{whole_is}
 use Rattle.level_run.specs.Turns.{IsSure}
 use Rattle.optimal_check.specs.Verdicts.{IsOutcomeSaid}
 use Rattle.pddlstream_app.specs.AnswerOf.{HasAnswer, IsVerdictFor}
-use Rattle.pddlstream_app.specs.Files.{FileHolds}
-use Rattle.pddlstream_app.specs.Heads.{IsHeadOf}
-use Rattle.pddlstream_app.specs.Inputs.{IsTaskOf}
+use Rattle.command_files.specs.Files.{FileHolds}
+use Rattle.run_command.specs.Heads.{IsHeadOf}
+use Rattle.command_files.specs.Inputs.{IsTaskOf}
 use Rattle.pddlstream_app.specs.Replays.{kind_of_verdict, verdict_text}
 use Rattle.level_run.specs.Reports.{report_of}
-use Rattle.pddlstream_app.specs.Outside.{Outside}
-use Rattle.pddlstream_app.specs.Runs.{HasOutcome, ProgramRun, shown_text}
-use Rattle.pddlstream_app.specs.declared.status.Status.{Status}
-use Rattle.pddlstream_app.specs.declared.status.Status.TheVariants as status
+use Rattle.command_files.specs.Outside.{Outside}
+use Rattle.run_command.specs.Runs.{HasOutcome, ProgramRun, shown_text}
+use Rattle.command_files.specs.declared.status.Status.{Status}
+use Rattle.command_files.specs.declared.status.Status.TheVariants as status
 use Rattle.report_text.proofs.ReportsReadBack.{same_report}
-use Rattle.pddlstream_app.specs.Works.{Work, command_for, files_of, making, solving, words_of}
+use Rattle.run_command.specs.Works.{Work, command_for, files_of, making, solving, words_of}
 use Rattle.report_text.specs.Texts.{text_of_report}
 use Rattle.task_reader.proofs.SpelledLemmas.{one_task}
 use Rattle.replay_check.specs.declared.verdict.Verdict.{Verdict}

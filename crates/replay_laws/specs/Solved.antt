@@ -4,11 +4,11 @@ use Rattle.std.specs.Prelude.{◌≡◌, ◌⊎◌, ℕ, ◌≤◌, List, Some, 
 use Rattle.command_line.specs.Words.{ReplayWords, SolveWords, TaskFiles, command_of, replay, solve}
 use Rattle.io_world.specs.FileMap.{FileMap}
 use Rattle.pddlstream_app.specs.AnswerOf.{HasAnswer}
-use Rattle.pddlstream_app.specs.Outside.{Outside}
+use Rattle.command_files.specs.Outside.{Outside}
 use Rattle.pddlstream_app.specs.Replays.{verdict_text}
-use Rattle.pddlstream_app.specs.Runs.{HasOutcome}
-use Rattle.pddlstream_app.specs.declared.status.Status.{Status}
-use Rattle.pddlstream_app.specs.declared.status.Status.TheVariants as status
+use Rattle.run_command.specs.Runs.{HasOutcome}
+use Rattle.command_files.specs.declared.status.Status.{Status}
+use Rattle.command_files.specs.declared.status.Status.TheVariants as status
 use Rattle.replay_check.specs.declared.verdict.Verdict.TheVariants as verdict
 
 -- Under these paths of the first files stand the same three texts as under those of the later files.

@@ -5,9 +5,9 @@ use Rattle.io_world.specs.Talks.{Talk}
 use Rattle.level_run.specs.Reports.{IsRun}
 use Rattle.level_run.specs.Turns.{HasFewSteps, IsPast}
 use Rattle.mode_turns.specs.Lazy.{IsLazy, IsLazyEnd}
-use Rattle.pddlstream_app.specs.Outside.{Outside}
-use Rattle.pddlstream_app.specs.Runs.{HasOutcome}
-use Rattle.pddlstream_app.specs.declared.status.Status.{Status}
+use Rattle.command_files.specs.Outside.{Outside}
+use Rattle.run_command.specs.Runs.{HasOutcome}
+use Rattle.command_files.specs.declared.status.Status.{Status}
 use Rattle.round_run.specs.Dialogue.{Dialogue, workers_in}
 use Rattle.task_model.specs.Plans.{IsReached, MoreThan}
 use Rattle.task_model.specs.declared.task.Task.{Task}

@@ -3,9 +3,9 @@ use Rattle.std.specs.Prelude.{◌≡◌, ℕ, ◌<◌, List, [], ◌∷◌, Opti
 use Rattle.command_line.specs.Words.{command_of, generate}
 use Rattle.io_world.specs.Talks.{Talk}
 use Rattle.level_run.specs.Reports.{IsRun}
-use Rattle.pddlstream_app.specs.Outside.{Outside}
-use Rattle.pddlstream_app.specs.Runs.{HasOutcome}
-use Rattle.pddlstream_app.specs.declared.status.Status.{Status}
+use Rattle.command_files.specs.Outside.{Outside}
+use Rattle.run_command.specs.Runs.{HasOutcome}
+use Rattle.command_files.specs.declared.status.Status.{Status}
 use Rattle.pools.specs.Pools.{AreFitPools}
 use Rattle.round_run.specs.Dialogue.{Dialogue, workers_in}
 use Rattle.task_model.specs.Fit.{IsFit}
