@@ -1,11 +1,15 @@
-use Rattle.std.proofs.Common.{◌∙◌, ap, sym, Some}
+use Rattle.std.proofs.Common.{◌≡◌, ◌∙◌, Bool, List, ap, codes, sym, Some}
 use Rattle.std.proofs.lemmas.Result.{err_from_is_err_and}
-use Rattle.clap.specs.Words.{is_simple_and_free}
+use Rattle.clap.specs.Words.{Row, found_of, is_simple_and_free, rows_of}
 use Rattle.command_line.specs.Apps.{replay_app}
-use Rattle.command_line.specs.Words.{replay_in}
+use Rattle.command_line.specs.Words.{is_set, replay_in, report_in}
 use Rattle.command_line.proofs.AppsLemmas.{replay_simple}
 use Rattle.command_line.proofs.WordsLemmas.{read_rows, read_none}
 use Rattle.command_line.proofs.replay.replay.Goals as goal
+
+-- the words are read as the flag was
+read_so : (rows : List Row) (optimal : Bool) → optimal ≡ is_set (codes "optimal") rows → replay_in rows ≡ report_in optimal rows
+read_so rows optimal is = ap (λ set. report_in set rows) (sym is)
 
 pub matches_of_words-requires : goal.matches_of_words-requires
 matches_of_words-requires c = ap is_simple_and_free c.in_ok-command.ensures ∙ replay_simple
@@ -18,9 +22,11 @@ returns-in_err-matches-clause-usage c =
 pub returns-in_default-clause-usage : goal.returns-in_default-clause-usage
 returns-in_default-clause-usage c = λ why.
     read_rows replay_app _ replay_in _ c.in_ok-command.ensures _
-    c.in_ok-matches.ensures.taken c.in_ok-matches.ensures.rows ∙ sym c.in_default.ensures
+    c.in_ok-matches.ensures.taken c.in_ok-matches.ensures.rows ∙ read_so (rows_of (found_of c.in_ok-matches.matches)) _ c.set_in.ensures
+    ∙ sym c.in_default.ensures
 
 pub returns-clause-config : goal.returns-clause-config
 returns-clause-config c =
     read_rows replay_app _ replay_in _ c.in_ok-command.ensures _
-    c.in_ok-matches.ensures.taken c.in_ok-matches.ensures.rows ∙ sym c.in-Some.ensures ∙ ap Some (sym c.in_ok-replay_held.ensures)
+    c.in_ok-matches.ensures.taken c.in_ok-matches.ensures.rows ∙ read_so (rows_of (found_of c.in_ok-matches.matches)) _ c.set_in.ensures
+    ∙ sym c.in-Some.ensures ∙ ap Some (sym c.in_ok-replay_held.ensures)
