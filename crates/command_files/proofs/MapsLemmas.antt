@@ -9,7 +9,7 @@ use Rattle.std.proofs.lemmas.List.{append-nil}
 use Rattle.std.proofs.lemmas.Str.{IsUtf8-from_ascii}
 use Rattle.io_world.specs.FileMap.{AskedPath}
 use Rattle.grid_text.specs.Files.{BlamesGridText, IsGridOf}
-use Rattle.command_files.specs.Inputs.{EndsAtPools, EndsHere, IsFileAnswer, MayEnd, stop_for_grid, stop_for_map}
+use Rattle.command_files.specs.Inputs.{EndsAtPools, EndsHere, IsFileAnswer, MayEnd, ask, stop_for_grid, stop_for_map}
 use Rattle.io_world.specs.Faults.{Extends}
 use Rattle.command_files.specs.Outside.{FilesSeen}
 use Rattle.grid_text.specs.declared.fault.GridFault.{GridFault}

@@ -79,12 +79,6 @@ AreFilesOf told (solve w) files =
     × (files ≡ files_named (solve w) ++ file_at role.Grid (grid_file (map plain pools)))
 AreFilesOf told command files = files ≡ files_named command
 
--- The files of a command were asked for and read.
-pub record AsksAllOf (command : Command) (files : FilesSeen) : Type 0 where
-  pub all : List FileWanted
-  pub are : AreFilesOf files.told command all
-  pub asked : Extends files.before files.after (reads all)
-
 -- where a run may end at one of the files, these are all that the words name, or these and then the grid's
 abbrev pub MayBeFilesOf : Option FileMap → Command → List FileWanted → Type 0
 MayBeFilesOf told command files = (files ≡ files_named command) ⊎ AreFilesOf told command files
@@ -144,6 +138,12 @@ ask answer wanted = record { path = wanted.path; answer = answer }
 -- the files were asked for and read, one after another
 abbrev pub reads : List FileWanted → List AskedPath
 reads files = map (ask (Ok tt)) files
+
+-- The files of a command were asked for and read.
+pub record AsksAllOf (command : Command) (files : FilesSeen) : Type 0 where
+  pub all : List FileWanted
+  pub are : AreFilesOf files.told command all
+  pub asked : Extends files.before files.after (reads all)
 
 -- the file has more bytes than it may have, where files are told
 abbrev pub IsTooLong : Option FileMap → FileWanted → Type 0
