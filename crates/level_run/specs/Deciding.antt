@@ -40,7 +40,7 @@ pub record SeeksPlan (cheapest : Bool) (head : Head) : Type 0 where
 
 -- The head has the mode, and asks for plans that are looked for so.
 pub record IsHeadFor (mode : Mode) (cheapest : Bool) (head : Head) : Type 0 where
-  pub mode : head.mode ≡ mode
+  pub is : head.mode ≡ mode
   pub seeks : SeeksPlan cheapest head
 
 -- What a search answers: a plan that is one, with at most as many steps as the limit of states, and the cheapest where

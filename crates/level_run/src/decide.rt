@@ -1,5 +1,5 @@
 //! What a turn does: it ends the run, or asks a level.
-ghost use Rattle.std.specs.Prelude.{◌≡◌, length, true, IfOk, IfErr, MatchOption};
+ghost use Rattle.std.specs.Prelude.{◌≡◌, length, IfOk, IfErr, MatchOption};
 ghost use Rattle.level_run.specs.Deciding.{FindsPlan, MayDecide, MayDecideAt, SeeksPlan};
 ghost use Rattle.level_run.specs.Turns.{IsDecided, IsPast, IsSettledEnd};
 ghost use Rattle.mode_turns.specs.Lazy.{IsTurnNeeded};

@@ -1,5 +1,5 @@
 //! How a mode looks for plans.
-ghost use Rattle.std.specs.Prelude.{◌≡◌, Bool, IfOk, IsTrue, true, false};
+ghost use Rattle.std.specs.Prelude.{Bool, IfOk, IsTrue, true, false};
 ghost use Rattle.level_run.specs.Deciding.{MayFindPlan};
 ghost use Rattle.round_run.specs.Batches.{IsRunnable};
 ghost use Rattle.task_model.specs.Fit.{IsFit};

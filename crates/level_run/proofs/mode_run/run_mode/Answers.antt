@@ -21,7 +21,7 @@ report-result-requires g c =
     record {
       fit = subst IsFit (sym clean.task) c.requires.may.fit;
       mode = subst (IsHeadFor g.M.Turns.mode g.M.PlanSearch.cheapest) (sym clean.head) (record {
-        mode = c.requires.may.is;
+        is = c.requires.may.is;
         seeks = record { is = c.requires.seeks; alone = λ asked. c.requires.may.is ∙ c.requires.may.alone asked };
       });
       fresh = c.requires.fresh;
