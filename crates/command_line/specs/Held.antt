@@ -17,6 +17,7 @@ held_solve c = record {
   mode = c.mode;
   limits = record { calls = c.calls; states = c.states; depth = c.depth };
   protocol = c.protocol;
+  optimal = c.optimal;
 }
 
 -- `replay` or `deorder`, by the bytes of its texts
@@ -25,6 +26,7 @@ held_replay c = record {
   files = record { domain = string_bytes c.domain; problem = string_bytes c.problem; streams = string_bytes c.streams };
   report = string_bytes c.report;
   states = c.states;
+  optimal = c.optimal;
 }
 
 -- `play`, by the bytes of its texts

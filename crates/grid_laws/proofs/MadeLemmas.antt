@@ -13,10 +13,10 @@ use Rattle.grid_laws.specs.Runs.{end_word}
 use Rattle.grid_text.specs.Tasks.{grid_task}
 use Rattle.grid_world.specs.Sessions.{talk_of}
 use Rattle.plain_runs.proofs.SaidLemmas.{knows_same}
-use Rattle.pddlstream_app.specs.Heads.{IsHeadOf}
-use Rattle.pddlstream_app.specs.Inputs.{IsTaskOf}
-use Rattle.pddlstream_app.specs.Runs.{ProgramRun, shown_text}
-use Rattle.pddlstream_app.specs.Works.{Work, command_for, files_of, made_files, made_line, made_words, making, outcome_word, solving, words_of}
+use Rattle.run_command.specs.Heads.{IsHeadOf}
+use Rattle.command_files.specs.Inputs.{IsTaskOf}
+use Rattle.run_command.specs.Runs.{ProgramRun, shown_text}
+use Rattle.run_command.specs.Works.{Work, command_for, files_of, made_files, made_line, made_words, making, outcome_word, solving, words_of}
 use Rattle.io_world.specs.FileMap.{FileMap}
 use Rattle.table_runs.specs.Asking.{SpeaksBy}
 use Rattle.task_model.specs.declared.task.Task.{Task}

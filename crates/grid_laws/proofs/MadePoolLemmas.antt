@@ -6,9 +6,9 @@ use Rattle.std.proofs.lemmas.Simd.{map-map}
 use Rattle.command_line.specs.Words.{command_of, generate}
 use Rattle.grid_laws.proofs.MadeLemmas.{headed_as, made_run}
 use Rattle.io_world.specs.FileMap.{FileMap}
-use Rattle.pddlstream_app.specs.Heads.{HaveText}
-use Rattle.pddlstream_app.specs.Runs.{ProgramRun}
-use Rattle.pddlstream_app.specs.Works.{made_files, made_words}
+use Rattle.command_files.specs.Pools.{HaveText}
+use Rattle.run_command.specs.Runs.{ProgramRun}
+use Rattle.run_command.specs.Works.{made_files, made_words}
 use Rattle.pools.specs.Pools.{Workers, workers_of}
 use Rattle.round_run.specs.Dialogue.{workers_in}
 use Rattle.stream_map.specs.Accepted.{Accepted}

@@ -4,10 +4,10 @@ use Rattle.command_line.proofs.RangesLemmas.{in_range}
 use Rattle.command_line.specs.Ranges.{AreInRange}
 use Rattle.command_line.specs.Words.{command_of, solve}
 use Rattle.io_world.specs.FileMap.{FileMap}
-use Rattle.pddlstream_app.proofs.HeadsLemmas.{head_runs}
-use Rattle.pddlstream_app.proofs.MakingLemmas.{made_in_range}
-use Rattle.pddlstream_app.specs.Runs.{ProgramRun}
-use Rattle.pddlstream_app.specs.Works.{Work, command_for, files_of, made_words, making, solving, words_of}
+use Rattle.run_command.proofs.HeadsLemmas.{head_runs}
+use Rattle.run_command.proofs.MakingLemmas.{made_in_range}
+use Rattle.run_command.specs.Runs.{ProgramRun}
+use Rattle.run_command.specs.Works.{Work, command_for, files_of, made_words, making, solving, words_of}
 use Rattle.round_run.specs.Batches.{IsRunnable}
 
 work_within : (words : List (List ℕ)) (work : Work) → command_of words ≡ Some (command_for work) → AreInRange (words_of work)

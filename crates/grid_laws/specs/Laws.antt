@@ -9,9 +9,9 @@ use Rattle.grid_text.specs.Files.{IsGridOf}
 use Rattle.grid_text.specs.Grids.{GridFile}
 use Rattle.grid_text.specs.Tasks.{grid_task}
 use Rattle.grid_world.specs.Sessions.{SessionState, talk_of}
-use Rattle.pddlstream_app.specs.Outside.{Outside}
-use Rattle.pddlstream_app.specs.Runs.{HasOutcome}
-use Rattle.pddlstream_app.specs.declared.status.Status.{Status}
+use Rattle.command_files.specs.Outside.{Outside}
+use Rattle.run_command.specs.Runs.{HasOutcome}
+use Rattle.command_files.specs.declared.status.Status.{Status}
 use Rattle.round_run.specs.Dialogue.{count_to, requests_of, workers_in}
 use Rattle.table_runs.specs.Asking.{AnsweredBy, SpeaksBy}
 use Rattle.task_model.specs.declared.task.Task.{Task}

@@ -7,27 +7,27 @@ use Rattle.round_run.proofs.CallsRunLemmas.{stops_none}
 use Rattle.round_run.proofs.StoppedLemmas.{same_err}
 use Rattle.round_run.specs.declared.fault.RunFault.TheVariants as fault
 use Rattle.report_text.proofs.PrintsLemmas.{appends_none}
-use Rattle.replay_check.specs.Verdicts.{IsVerdict}
 use Rattle.command_line.specs.Words.{Command, PlayWords, ReplayWords, TaskFiles, command_of, deorder, play, replay}
 use Rattle.grid_text.specs.Files.{IsGridOf}
 use Rattle.grid_text.specs.Grids.{GridFile}
 use Rattle.pddlstream_app.proofs.AskedLemmas.{asked_reading}
-use Rattle.pddlstream_app.proofs.InputsLemmas.{command_input}
+use Rattle.pddlstream_app.proofs.NoInputLemmas.{command_input}
 use Rattle.pddlstream_app.proofs.RunsLemmas.{stopped_early, stopped_reading}
-use Rattle.pddlstream_app.specs.AnswerOf.{HasAnswer, IsCommandAnswer, SaysVerdict}
-use Rattle.pddlstream_app.specs.Answering.{AreReported, IsAnswerTold, IsUnmade}
-use Rattle.pddlstream_app.specs.Asked.{AsksAll, AsksAllOf, AsksBefore}
-use Rattle.pddlstream_app.specs.Files.{FileWanted, HoldsFile, file_of}
-use Rattle.pddlstream_app.specs.Inputs.{EndsAtFile, HasNoInput, ReadsNothing, reads, task_files}
-use Rattle.pddlstream_app.specs.Outside.{FilesSeen, Outside, Written, resting}
+use Rattle.pddlstream_app.specs.AnswerOf.{HasAnswer, IsCommandAnswer, IsVerdictFor, SaysVerdict}
+use Rattle.command_files.specs.Inputs.{AreReported, AsksAllOf, EndsAtFile, reads, task_files}
+use Rattle.pddlstream_app.specs.Answering.{IsAnswerTold, IsUnmade}
+use Rattle.pddlstream_app.specs.Asked.{AsksAll, AsksBefore}
+use Rattle.command_files.specs.Files.{FileWanted, HoldsFile, file_of}
+use Rattle.pddlstream_app.specs.NoInput.{HasNoInput, ReadsNothing}
+use Rattle.command_files.specs.Outside.{FilesSeen, Outside, Written, resting}
 use Rattle.pddlstream_app.specs.Plans.{SaysOfReport, SaysOrder, SaysPlay}
 use Rattle.pddlstream_app.specs.Runs.{IsCompleted, IsStopped}
-use Rattle.pddlstream_app.specs.Stop.{IsOfInput}
-use Rattle.pddlstream_app.specs.declared.status.Status.{Status}
-use Rattle.pddlstream_app.specs.declared.stop.FileRole.TheVariants as role
-use Rattle.pddlstream_app.specs.declared.stop.Stop.{Stop}
-use Rattle.pddlstream_app.specs.declared.stop.Stop.TheVariants as stop
-use Rattle.pddlstream_app.specs.declared.texts.Reported.{Reported}
+use Rattle.command_files.specs.Stop.{IsOfInput}
+use Rattle.command_files.specs.declared.status.Status.{Status}
+use Rattle.command_files.specs.declared.stop.FileRole.TheVariants as role
+use Rattle.command_files.specs.declared.stop.Stop.{Stop}
+use Rattle.command_files.specs.declared.stop.Stop.TheVariants as stop
+use Rattle.command_files.specs.declared.texts.Reported.{Reported}
 
 -- ---- a task and a report
 
@@ -53,7 +53,7 @@ ends_reported {files} {why} more {paths} {others} {path} {other} same is ends =
 
 -- a verdict on the report is an answer
 pub judged : (w : ReplayWords) (told : Option FileMap) (r : Reported) → AreReported told w.files w.report r
-    → (status : Status) (text : List ℕ) → SaysVerdict (IsVerdict w.states r.task r.bytes.items) status text
+    → (status : Status) (text : List ℕ) → SaysVerdict (IsVerdictFor w.optimal w.states r.task r.bytes.items) status text
     → IsCommandAnswer (replay w) told status text
 judged w told r read status text said =
     let t = read.task in

@@ -9,24 +9,27 @@ use Rattle.transcript_model.specs.declared.outcome.Outcome.TheVariants as outcom
 use Rattle.pddlstream_app.proofs.RunsLemmas.{before_last}
 use Rattle.pddlstream_app.proofs.SaidLemmas.{answer_said, said_asks}
 use Rattle.pddlstream_app.specs.AnswerOf.{HasAnswer}
-use Rattle.pddlstream_app.specs.Asked.{AsksAll, AsksAllOf, AsksBefore, AsksFiles, AsksSome, AsksToNamed, AsksUpTo}
+use Rattle.pddlstream_app.specs.Asked.{AsksAll, AsksBefore, AsksFiles, AsksSome, AsksToNamed, AsksUpTo}
+use Rattle.command_files.specs.Inputs.{AsksAllOf, EndsReading, SolvesNothing, file_at, files_named}
 use Rattle.command_line.specs.Words.{Command, SolveWords, command_of, generate, solve}
-use Rattle.pddlstream_app.proofs.InputsLemmas.{is_of_input, made_nothing}
-use Rattle.pddlstream_app.specs.Files.{file_of}
-use Rattle.pddlstream_app.specs.Inputs.{EndsReading, HasNoInput, ReadsNothing, SolvesNothing, file_at, files_named, seen_made}
-use Rattle.pddlstream_app.specs.declared.stop.FileRole.TheVariants as role
-use Rattle.pddlstream_app.specs.declared.stop.Text.TheVariants.{Domain, Problem, Streams}
-use Rattle.pddlstream_app.specs.Outside.{FilesSeen, Outside, Written}
-use Rattle.pddlstream_app.specs.Runs.{ClosesRun, HasOutcome, IsBeforeLast, IsCompleted, IsLined, IsStopped, outcome_status}
-use Rattle.level_run.specs.declared.mode_run.Ran.{Ran}
-use Rattle.pddlstream_app.specs.Solving.{HasNoReport, IsSolved}
-use Rattle.pddlstream_app.specs.Works.{made_words}
+use Rattle.pddlstream_app.proofs.NoInputLemmas.{is_of_input, made_nothing}
+use Rattle.command_files.specs.Files.{file_of}
+use Rattle.pddlstream_app.specs.NoInput.{HasNoInput, ReadsNothing}
+use Rattle.run_command.specs.Works.{made_words}
+use Rattle.command_files.specs.declared.stop.FileRole.TheVariants as role
+use Rattle.command_files.specs.declared.stop.Text.TheVariants.{Domain, Problem, Streams}
+use Rattle.command_files.specs.Outside.{FilesSeen, Outside, Written}
+use Rattle.pddlstream_app.specs.Runs.{ClosesRun, IsBeforeLast, IsCompleted, IsStopped}
+use Rattle.run_command.specs.Runs.{HasOutcome, outcome_status}
+use Rattle.run_command.specs.Making.{IsLined, IsMadeUnsolved, MakesRun}
+use Rattle.run_command.specs.Solving.{HasNoReport, SolvesRun}
 use Rattle.io_world.specs.Faults.{Extends}
-use Rattle.io_world.specs.Talks.{Event, Talk}
-use Rattle.pddlstream_app.specs.Stop.{is_write, status_at, last_text}
-use Rattle.pddlstream_app.specs.declared.status.Status.{Status}
-use Rattle.pddlstream_app.specs.declared.stop.Stop.{Stop}
-use Rattle.pddlstream_app.specs.declared.stop.Stop.TheVariants as stop
+use Rattle.command_files.specs.Stop.{is_write, status_at, last_text}
+use Rattle.command_files.specs.declared.status.Status.{Status}
+use Rattle.command_files.specs.declared.stop.Stop.{Stop}
+use Rattle.command_files.specs.declared.stop.Stop.TheVariants as stop
+use Rattle.round_run.specs.Calls.{LogStops}
+use Rattle.run_command.proofs.MakingLemmas.{over_made}
 
 module _ (words : List (List ℕ)) (files : FilesSeen) where
   reading_up_to : (command : Command) → command_of words ≡ Some command → (why : Stop)
@@ -72,7 +75,7 @@ module _ (words : List (List ℕ)) (files : FilesSeen) where
   up_to why n = command_some n.command n.meant why n.cause
 
   -- the run over the task stopped
-  pub asked_running : (f : RunFault) → AsksAll words files → AsksBefore words files (stop.Run f)
+  asked_running : (f : RunFault) → AsksAll words files → AsksBefore words files (stop.Run f)
   asked_running (fault.Answer number why) all = all
   asked_running fault.Generator all = all
   asked_running fault.Write all = all
@@ -95,16 +98,11 @@ module _ (words : List (List ℕ)) (files : FilesSeen) where
   asked_reading (stop.Run fault.Memory) n = up_to (stop.Run fault.Memory) n
 
   -- the line of a run was written, or not
-  pub asked_lined : (kind : Status) (line : List ℕ) (written : Written) (r : Result Status Stop)
+  asked_lined : (kind : Status) (line : List ℕ) (written : Written) (r : Result Status Stop)
       → IsLined kind line written r → AsksAll words files → IfErr r (AsksBefore words files)
   asked_lined kind line written (Ok status) said all = tt
   asked_lined kind line written (Err why) (inl x) all = subst (AsksBefore words files) (sym x.0) (inr (inl all))
   asked_lined kind line written (Err why) (inr x) all = subst (AsksBefore words files) (sym x.0) all
-
-  pub asked_if_ok : (r : Result Status Stop) → AsksAll words files
-      → IfOk r (λ status. AsksAll words files)
-  asked_if_ok (Ok status) all = all
-  asked_if_ok (Err why) all = tt
 
   pub some_before : (why : Stop) → AsksBefore words files why → AsksSome words files
   some_before stop.Usage a = inl a.1
@@ -120,35 +118,55 @@ module _ (words : List (List ℕ)) (files : FilesSeen) where
 
 module _ (words : List (List ℕ)) (outside : Outside) (asked : SolveWords) (meant : command_of words ≡ Some (solve asked)) where
   -- the files of a task that is to be solved were read
-  pub asks_solving : AsksAllOf (solve asked) outside.files → AsksAll words outside.files
+  asks_solving : AsksAllOf (solve asked) outside.files → AsksAll words outside.files
   asks_solving all = record { command = solve asked; meant = meant; asks = all }
 
-  pub asked_solved : (written : Written) (ran : Ran) → IsSolved asked outside written ran → AsksAll words outside.files
-  asked_solved written ran solved = asks_solving solved.asks
-
   -- it has no report
-  pub asked_solving : (written : Written) (why : Stop) → HasNoReport asked outside written why
+  asked_unsolved : (written : Written) (why : Stop) → HasNoReport asked outside written why
       → AsksBefore words outside.files why
-  asked_solving written why (inl u) =
+  asked_unsolved written why (inl u) =
       asked_reading words outside.files why (record { command = solve asked; meant = meant; cause = u.cause })
-  asked_solving written why (inr u) =
+  asked_unsolved written why (inr u) =
       subst (AsksBefore words outside.files) (sym u.is) (asked_running words outside.files u.fault (asks_solving u.asks))
 
-module _ (words : List (List ℕ)) (files : FilesSeen) (number : ℕ) (meant : command_of words ≡ Some (generate number))
-    (nothing : Extends files.before files.after []) where
+  pub solved_asked : (written : Written) (r : Result Status Stop) → SolvesRun asked outside written r
+      → IfOk r (λ status. AsksAll words outside.files)
+  solved_asked written (Ok status) e = asks_solving e.solved.asks
+  solved_asked written (Err why) e = tt
+
+  pub solved_asked_before : (written : Written) (r : Result Status Stop) → SolvesRun asked outside written r
+      → IfErr r (AsksBefore words outside.files)
+  solved_asked_before written (Ok status) e = tt
+  solved_asked_before written (Err why) none = asked_unsolved written why none
+
+module _ (words : List (List ℕ)) (outside : Outside) (number : ℕ) (meant : command_of words ≡ Some (generate number))
+    (nothing : Extends outside.files.before outside.files.after []) where
   -- the task of a number is to be made: it has no files
-  pub asks_making : AsksAll words files
+  asks_making : AsksAll words outside.files
   asks_making = record { command = generate number; meant = meant; asks = record { all = []; are = refl; asked = nothing } }
 
   -- it has no report
-  pub asked_unmade : (made : FilesSeen) → made ≡ seen_made number → (w : SolveWords) → w ≡ made_words
-      → (spoken : ℕ → Option Talk) (was now : Option (List Event)) (written : Written) (why : Stop)
-      → HasNoReport w (record { files = made; spoken = spoken; was = was; now = now }) written why
-      → AsksBefore words files why
-  asked_unmade made are w same spoken was now written why (inl u) =
-      asked_reading words files why (made_nothing words files made number meant nothing are w same why u.cause)
-  asked_unmade made are w same spoken was now written why (inr u) =
-      subst (AsksBefore words files) (sym u.is) (asked_running words files u.fault asks_making)
+  asked_unmade : (written : Written) (why : Stop) → HasNoReport made_words (over_made number outside) written why
+      → AsksBefore words outside.files why
+  asked_unmade written why (inl u) =
+      asked_reading words outside.files why (made_nothing words outside.files number meant nothing why u.cause)
+  asked_unmade written why (inr u) =
+      subst (AsksBefore words outside.files) (sym u.is) (asked_running words outside.files u.fault asks_making)
+
+  pub made_asked : (r : Result Status Stop) → IfOk r (λ status. AsksAll words outside.files)
+  made_asked (Ok status) = asks_making
+  made_asked (Err why) = tt
+
+  pub made_asked_before : (written : Written) (r : Result Status Stop) → MakesRun number (over_made number outside) written r
+      → IfErr r (AsksBefore words outside.files)
+  made_asked_before written (Ok status) e = tt
+  made_asked_before written (Err why) (inl e) = asked_lined words outside.files _ _ written (Err why) e.lined asks_making
+  made_asked_before written (Err why) (inr none) = of none.cause
+    where
+      of : ((why ≡ stop.Run fault.Memory) × LogStops outside.was outside.now) ⊎ IsMadeUnsolved (over_made number outside) why
+          → AsksBefore words outside.files why
+      of (inl m) = subst (AsksBefore words outside.files) (sym m.0) (inl nothing)
+      of (inr made) = asked_unmade made.inner why made.none
 
 -- the run has an outcome, or the command answers
 pub asked_completed : (words : List (List ℕ)) (outside : Outside) (some written : Written) (status : Status)

@@ -13,13 +13,16 @@ use Rattle.transcript_model.specs.declared.outcome.Outcome.{Outcome}
 use Rattle.transcript_model.specs.declared.outcome.Outcome.TheVariants as outcome
 use Rattle.round_run.specs.declared.fault.RunFault.TheVariants as fault
 use Rattle.pddlstream_app.specs.Complete.{AreGivenAnswers, Completes, EndsPlain, EndsWell, GoesWell, SettlesBy}
-use Rattle.pddlstream_app.specs.Files.{AreBytes, FileWanted, HasBytes}
-use Rattle.pddlstream_app.specs.Heads.{AreServed, HaveText, MeansBy, MeansPools}
-use Rattle.pddlstream_app.specs.Inputs.{EndsReading, HasNoInput, HasNoPool, IsInputRefused, IsRefusedMap, IsTaskOf, IsTooLong, MayBeFilesOf, ReadsNothing, SolvesNothing, file_at, files_named}
-use Rattle.pddlstream_app.specs.Outside.{Outside, Written}
+use Rattle.command_files.specs.Files.{AreBytes, FileWanted, HasBytes}
+use Rattle.run_command.specs.Heads.{AreServed}
+use Rattle.command_files.specs.Pools.{HaveText, MeansBy, MeansPools}
+use Rattle.command_files.specs.Inputs.{EndsReading, HasNoPool, IsInputRefused, IsRefusedMap, IsTaskOf, IsTooLong, MayBeFilesOf, SolvesNothing, file_at, files_named}
+use Rattle.pddlstream_app.specs.NoInput.{HasNoInput, ReadsNothing}
+use Rattle.command_files.specs.Outside.{Outside, Written}
 use Rattle.pddlstream_app.specs.AnswerOf.{AnswerOf, HasAnswer}
-use Rattle.pddlstream_app.specs.Runs.{ClosesRun, HasOutcome, IsBeforeLast, IsCompleted, outcome_status}
-use Rattle.pddlstream_app.specs.Stop.{status_at}
+use Rattle.pddlstream_app.specs.Runs.{ClosesRun, IsBeforeLast, IsCompleted}
+use Rattle.run_command.specs.Runs.{HasOutcome, outcome_status}
+use Rattle.command_files.specs.Stop.{status_at}
 use Rattle.command_line.specs.Words.{Command, SolveWords, command_of, solve}
 use Rattle.grid_text.specs.Files.{BlamesGridText, IsGridOf}
 use Rattle.grid_text.specs.Grids.{GridFile}
@@ -29,12 +32,12 @@ use Rattle.stream_map.specs.Children.{grid_file, plain}
 use Rattle.stream_map.specs.Faults.{Refused}
 use Rattle.stream_map.specs.Form.{all_stream_names, words_form}
 use Rattle.transcript_model.specs.declared.head.Pool.{Pool}
-use Rattle.pddlstream_app.specs.declared.stop.FileRole.{FileRole}
-use Rattle.pddlstream_app.specs.declared.stop.FileRole.TheVariants as role
-use Rattle.pddlstream_app.specs.declared.status.Status.{Status}
-use Rattle.pddlstream_app.specs.declared.status.Status.TheVariants.{Memory, WriteFault}
-use Rattle.pddlstream_app.specs.declared.stop.Stop.{Stop}
-use Rattle.pddlstream_app.specs.declared.stop.Stop.TheVariants as stop
+use Rattle.command_files.specs.declared.stop.FileRole.{FileRole}
+use Rattle.command_files.specs.declared.stop.FileRole.TheVariants as role
+use Rattle.command_files.specs.declared.status.Status.{Status}
+use Rattle.command_files.specs.declared.status.Status.TheVariants.{Memory, WriteFault}
+use Rattle.command_files.specs.declared.stop.Stop.{Stop}
+use Rattle.command_files.specs.declared.stop.Stop.TheVariants as stop
 use Rattle.pddlstream_app.proofs.RefusalsLemmas.{before_map, form_not_refused, grid_not_blamed, map_not_refused, none_refused, not_long, one_meaning, one_spelled, one_text}
 
 -- ---- all files of a run

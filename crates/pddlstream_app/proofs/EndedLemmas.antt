@@ -2,10 +2,11 @@
 use Rattle.std.proofs.Common.{◌≡◌, ℕ, ◌≤◌, List, Bool, true, false, refl, sym, ap, ◌∙◌, ◌⊎◌, inl, inr}
 use Rattle.pddlstream_app.proofs.SaidLemmas.{answer_said, is_said}
 use Rattle.pddlstream_app.specs.AnswerOf.{HasAnswer}
-use Rattle.pddlstream_app.specs.Outside.{Outside, Written}
-use Rattle.pddlstream_app.specs.Runs.{Caused, HasOutcome, IsCompleted, outcome_status}
-use Rattle.pddlstream_app.specs.declared.status.Status.{Status}
-use Rattle.pddlstream_app.specs.declared.status.Status.TheVariants.{Done, Invalid, Limit, NoPlan, Plan}
+use Rattle.command_files.specs.Outside.{Outside, Written}
+use Rattle.pddlstream_app.specs.Runs.{Caused, IsCompleted}
+use Rattle.run_command.specs.Runs.{HasOutcome, outcome_status}
+use Rattle.command_files.specs.declared.status.Status.{Status}
+use Rattle.command_files.specs.declared.status.Status.TheVariants.{Done, Invalid, Limit, NoPlan, Plan}
 use Rattle.transcript_model.specs.declared.outcome.Outcome.{Outcome}
 use Rattle.transcript_model.specs.declared.outcome.Outcome.TheVariants as outcome
 

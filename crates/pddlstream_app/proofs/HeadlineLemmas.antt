@@ -8,13 +8,14 @@ use Rattle.transcript_model.specs.declared.outcome.Outcome.TheVariants as outcom
 use Rattle.pddlstream_app.proofs.RunsLemmas.{taken_all}
 use Rattle.pddlstream_app.proofs.SaidLemmas.{answer_said, is_said}
 use Rattle.pddlstream_app.specs.Headline.{PrintsNoPlan, PrintsPlan}
-use Rattle.pddlstream_app.specs.Outside.{Outside, Written}
-use Rattle.pddlstream_app.specs.Runs.{Ends, HasOutcome, ProgramRun, RunWrites, outcome_status, shown_text}
-use Rattle.pddlstream_app.specs.Stop.{status_at}
-use Rattle.pddlstream_app.specs.declared.status.Status.{Status}
-use Rattle.pddlstream_app.specs.declared.status.Status.TheVariants.{NoPlan, Plan}
-use Rattle.pddlstream_app.specs.declared.stop.Stop.{Stop}
-use Rattle.pddlstream_app.specs.declared.stop.Stop.TheVariants as stop
+use Rattle.command_files.specs.Outside.{Outside, Written}
+use Rattle.pddlstream_app.specs.Runs.{Ends, RunWrites}
+use Rattle.run_command.specs.Runs.{HasOutcome, ProgramRun, outcome_status, shown_text}
+use Rattle.command_files.specs.Stop.{status_at}
+use Rattle.command_files.specs.declared.status.Status.{Status}
+use Rattle.command_files.specs.declared.status.Status.TheVariants.{NoPlan, Plan}
+use Rattle.command_files.specs.declared.stop.Stop.{Stop}
+use Rattle.command_files.specs.declared.stop.Stop.TheVariants as stop
 
 -- a plan was found, or that there is none
 abbrev is_found : Status → Bool
@@ -62,6 +63,7 @@ module _ (words : List (List ℕ)) (outside : Outside) (written : Written) where
         shown = plan.shown;
         valid = plan.valid;
         origins = plan.origins;
+        least = turns.sure.least;
         took = took;
       }
   plan_from outcome.NoPlan kind run turns took = absurd (cc)

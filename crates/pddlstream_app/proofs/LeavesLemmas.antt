@@ -5,15 +5,19 @@ use Rattle.command_line.specs.Words.{Command, SolveWords, command_of, generate, 
 use Rattle.pddlstream_app.proofs.SaidLemmas.{answer_said, said_behind}
 use Rattle.pddlstream_app.specs.AnswerOf.{HasAnswer, only_reads}
 use Rattle.pddlstream_app.specs.Asked.{AsksFiles, HasReadCause}
-use Rattle.pddlstream_app.specs.Inputs.{EndsReading, HasNoInput, ReadsNothing, SolvesNothing, seen_made}
-use Rattle.pddlstream_app.specs.Outside.{FilesSeen, HaveFailed, Outside, Written}
-use Rattle.pddlstream_app.specs.Runs.{ClosesRun, HasOutcome, IsAtText, IsBeforeHost, IsCompleted, IsLined, LeavesHost, SparesHost, outcome_status}
-use Rattle.pddlstream_app.specs.Stop.{last_text, status_at}
-use Rattle.pddlstream_app.specs.declared.status.Status.{Status}
-use Rattle.pddlstream_app.specs.declared.status.Status.TheVariants.{ReadFault}
-use Rattle.pddlstream_app.specs.declared.stop.FileRole.{FileRole}
-use Rattle.pddlstream_app.specs.declared.stop.Stop.{Stop}
-use Rattle.pddlstream_app.specs.declared.stop.Stop.TheVariants as stop
+use Rattle.command_files.specs.Inputs.{EndsReading, SolvesNothing}
+use Rattle.pddlstream_app.specs.NoInput.{HasNoInput, ReadsNothing}
+use Rattle.run_command.specs.Works.{seen_made}
+use Rattle.command_files.specs.Outside.{FilesSeen, HaveFailed, Outside, Written}
+use Rattle.pddlstream_app.specs.Runs.{ClosesRun, IsBeforeHost, IsCompleted, LeavesHost, SparesHost}
+use Rattle.run_command.specs.Runs.{HasOutcome, outcome_status}
+use Rattle.run_command.specs.Solving.{IsAtText}
+use Rattle.command_files.specs.Stop.{last_text, status_at}
+use Rattle.command_files.specs.declared.status.Status.{Status}
+use Rattle.command_files.specs.declared.status.Status.TheVariants.{ReadFault}
+use Rattle.command_files.specs.declared.stop.FileRole.{FileRole}
+use Rattle.command_files.specs.declared.stop.Stop.{Stop}
+use Rattle.command_files.specs.declared.stop.Stop.TheVariants as stop
 use Rattle.round_run.specs.declared.fault.RunFault.TheVariants as fault
 use Rattle.transcript_model.specs.declared.outcome.Outcome.{Outcome}
 use Rattle.transcript_model.specs.declared.outcome.Outcome.TheVariants as outcome
@@ -49,13 +53,6 @@ module _ (words : List (List ℕ)) (command : Command) (meant : command_of words
     usage = λ e. let both : Some command ≡ None = sym meant ∙ e in absurd (cc);
     input = input;
   }
-
--- no text is to blame where the line of a run was written, or not
-pub lined_at_text : (P : Type 0) (kind : Status) (line : List ℕ) (written : Written) (r : Result Status Stop)
-    → IsLined kind line written r → IfErr r (λ why. IsAtText why → P)
-lined_at_text P kind line written (Ok status) said = tt
-lined_at_text P kind line written (Err why) (inl x) = λ t. absurd (subst IsAtText x.0 t)
-lined_at_text P kind line written (Err why) (inr x) = λ t. absurd (subst IsAtText x.0 t)
 
 -- a run that ends with such a status stopped at the words, a file or a text
 at_text : (why : Stop) → IsBeforeHost (status_at why) → IsAtText why

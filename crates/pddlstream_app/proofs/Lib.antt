@@ -4,14 +4,12 @@ pub mod RunsLemmas
 pub mod SaidLemmas
 pub mod MigrateLemmas
 pub mod CompleteLemmas
-pub mod HeadsLemmas
-pub mod InputsLemmas
+pub mod NoInputLemmas
 pub mod MakingLemmas
 pub mod EndedLemmas
 pub mod HeadlineLemmas
 pub mod PlansLemmas
 pub mod PlayFilesLemmas
-pub mod PoolsLemmas
 pub mod RefusalsLemmas
 pub mod CausesLemmas
 pub mod LeavesLemmas

@@ -7,8 +7,8 @@ use Rattle.report_text.specs.Forms.{IsFormed}
 use Rattle.report_text.specs.Texts.{in_version, text_of_report}
 use Rattle.transcript_model.specs.declared.report.Report.{Report}
 use Rattle.pddlstream_app.specs.Replays.{IsMigrated, kind_of_verdict, verdict_text}
-use Rattle.pddlstream_app.specs.declared.status.Status.{Status}
-use Rattle.pddlstream_app.specs.declared.status.Status.TheVariants.{Done}
+use Rattle.command_files.specs.declared.status.Status.{Status}
+use Rattle.command_files.specs.declared.status.Status.TheVariants.{Done}
 
 pub migrated : (report : Report) {bytes : List ℕ} → IsFormed report → text_of_report report ≡ bytes → {status : Status}
     {text : List ℕ} → (status ≡ Done) × (text ≡ text_of_report (in_version 2 report)) → IsMigrated bytes status text

@@ -19,7 +19,7 @@ use Rattle.transcript_model.specs.declared.outcome.Origin.{Origin}
 use Rattle.transcript_model.specs.declared.outcome.Outcome.TheVariants as outcome
 use Rattle.transcript_model.specs.declared.report.Report.{Report}
 use Rattle.pddlstream_app.specs.Plans.{SaysOfReport}
-use Rattle.pddlstream_app.specs.declared.status.Status.{Status}
+use Rattle.command_files.specs.declared.status.Status.{Status}
 
 -- it is valid over what is known
 pub plan_there : (task : Task) (r : Report) (known : Known) (calls : List Call) (cost : ℕ) (from : List Origin)

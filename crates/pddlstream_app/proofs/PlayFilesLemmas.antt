@@ -5,19 +5,14 @@ use Rattle.io_world.specs.FileMap.{AskedPath, FileMap}
 use Rattle.io_world.specs.Faults.{Extends}
 use Rattle.command_line.specs.Words.{PlayWords, play}
 use Rattle.grid_text.specs.Files.{IsGridOf}
-use Rattle.grid_text.specs.Grids.{GridFile}
-use Rattle.pddlstream_app.proofs.InputsLemmas.{ends_behind}
-use Rattle.pddlstream_app.specs.Answering.{AreReported}
-use Rattle.pddlstream_app.specs.Asked.{AsksAllOf}
-use Rattle.pddlstream_app.specs.Files.{FileWanted, HoldsFile, file_of}
-use Rattle.pddlstream_app.specs.Inputs.{EndsAtFile, EndsHere, ask, files_named, reads, task_files}
-use Rattle.pddlstream_app.specs.Outside.{FilesSeen}
-use Rattle.pddlstream_app.specs.declared.stop.FileRole.TheVariants as role
-use Rattle.pddlstream_app.specs.declared.stop.Stop.{Stop}
-use Rattle.pddlstream_app.specs.declared.texts.Reported.{Reported}
-
-abbrev looks : Option FileMap → ℕ → ℕ → Option (List AskedPath) → Option (List AskedPath) → FilesSeen
-looks told first last old new = record { told = told; first = first; last = last; before = old; after = new }
+use Rattle.command_files.proofs.InputsLemmas.{ends_behind, looks}
+use Rattle.command_files.specs.Inputs.{AreReported, AsksAllOf, EndsAtFile, EndsHere, ask, files_named, reads, task_files}
+use Rattle.command_files.specs.Files.{FileWanted, HoldsFile, file_of}
+use Rattle.command_files.specs.declared.stop.FileRole.TheVariants as role
+use Rattle.command_files.specs.declared.stop.Stop.{Stop}
+use Rattle.command_files.specs.declared.texts.Reported.{Reported}
+use Rattle.command_files.specs.declared.maps.GridRead.{GridRead}
+use Rattle.command_files.specs.Pools.{IsGridRead}
 
 module _ (w : PlayWords) where
   -- the files that stand before the grid
@@ -49,9 +44,9 @@ module _ (w : PlayWords) where
   }
 
   -- the grid's file holds this grid
-  pub grid_held : (told later : Option FileMap) → later ≡ told → (path : List ℕ) → path ≡ w.grid → (grid : GridFile)
-      → HoldsFile later (file_of role.Grid path) (λ bytes. IsGridOf bytes grid)
-      → HoldsFile told (file_of role.Grid w.grid) (λ bytes. IsGridOf bytes grid)
-  grid_held told later same path is grid holds =
-      subst (λ o. HoldsFile o (file_of role.Grid w.grid) (λ bytes. IsGridOf bytes grid)) same
-      (subst (λ p. HoldsFile later (file_of role.Grid p) (λ bytes. IsGridOf bytes grid)) is holds)
+  pub grid_held : (told later : Option FileMap) → later ≡ told → (path : List ℕ) → path ≡ w.grid → (drawn : GridRead)
+      → IsGridRead later path drawn → HoldsFile told (file_of role.Grid w.grid) (λ bytes. IsGridOf bytes drawn.grid)
+  grid_held told later same path is drawn read =
+      subst (λ o. HoldsFile o (file_of role.Grid w.grid) (λ bytes. IsGridOf bytes drawn.grid)) same
+      (subst (λ p. HoldsFile later (file_of role.Grid p) (λ bytes. IsGridOf bytes drawn.grid)) is
+      (record { bytes = drawn.bytes.items; has = read.has; so = read.is }))

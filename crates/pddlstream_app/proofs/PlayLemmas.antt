@@ -7,14 +7,15 @@ use Rattle.grid_text.specs.Grids.{GridFile}
 use Rattle.io_world.specs.FileMap.{FileMap}
 use Rattle.pddlstream_app.proofs.RunsLemmas.{taken_all}
 use Rattle.pddlstream_app.specs.AnswerOf.{AnswerOf, HasAnswer, IsCommandAnswer}
-use Rattle.pddlstream_app.specs.Files.{AreBytes}
-use Rattle.pddlstream_app.specs.Inputs.{files_named}
-use Rattle.pddlstream_app.specs.Outside.{Outside, Written}
+use Rattle.command_files.specs.Files.{AreBytes}
+use Rattle.command_files.specs.Inputs.{files_named}
+use Rattle.command_files.specs.Outside.{Outside, Written}
 use Rattle.pddlstream_app.specs.Plans.{SaysBy, SaysOfReport, SaysPlay, SaysPlayBy, play_status}
 use Rattle.pddlstream_app.specs.Plays.{HasTruePlay, PlaysSafely}
-use Rattle.pddlstream_app.specs.Runs.{Ends, RunHasFault, RunWrites, outcome_status}
-use Rattle.pddlstream_app.specs.declared.status.Status.{Status}
-use Rattle.pddlstream_app.specs.declared.status.Status.TheVariants.{Done, Invalid, Limit}
+use Rattle.pddlstream_app.specs.Runs.{Ends, RunHasFault, RunWrites}
+use Rattle.run_command.specs.Runs.{outcome_status}
+use Rattle.command_files.specs.declared.status.Status.{Status}
+use Rattle.command_files.specs.declared.status.Status.TheVariants.{Done, Invalid, Limit}
 use Rattle.play_laws.proofs.SafeLemmas.{true_reports_play_safely}
 use Rattle.play_laws.specs.Problems.{AreTrueYields, IsGridProblem}
 use Rattle.replay_check.proofs.RightReportLemmas.{no_breach}

@@ -6,9 +6,9 @@ use Rattle.task_model.specs.declared.task.Task.{Task}
 use Rattle.task_reader.specs.Tasks.{SpellsTask, RefusesSecond, RefusesThird}
 use Rattle.task_reader.specs.Texts.{RefusesDomain}
 use Rattle.task_reader.specs.declared.refusal.FaultKind.{FaultKind}
-use Rattle.pddlstream_app.specs.Files.{FileWanted, HasBytes, file_of, most_of}
-use Rattle.pddlstream_app.specs.Heads.{MeansBy}
-use Rattle.pddlstream_app.specs.Inputs.{IsInputRefused, IsRefusedMap, IsTaskOf, IsTooLong}
+use Rattle.command_files.specs.Files.{FileWanted, HasBytes, file_of, most_of}
+use Rattle.command_files.specs.Pools.{MeansBy}
+use Rattle.command_files.specs.Inputs.{IsInputRefused, IsRefusedMap, IsTaskOf, IsTooLong}
 use Rattle.command_line.specs.Words.{SolveWords, TaskFiles}
 use Rattle.grid_text.specs.Files.{BlamesGridText, IsGridOf}
 use Rattle.grid_text.specs.Grids.{GridFile}
@@ -23,9 +23,9 @@ use Rattle.stream_map.specs.Spelled.{Spelled}
 use Rattle.stream_map.specs.declared.fault.MapFault.{MapFault}
 use Rattle.stream_map.specs.declared.fault.MapFault.TheVariants as maps
 use Rattle.transcript_model.specs.declared.head.Pool.{Pool}
-use Rattle.pddlstream_app.specs.declared.stop.FileRole.TheVariants as role
-use Rattle.pddlstream_app.specs.declared.stop.Text.{Text}
-use Rattle.pddlstream_app.specs.declared.stop.Text.TheVariants.{Domain, Problem, Streams}
+use Rattle.command_files.specs.declared.stop.FileRole.TheVariants as role
+use Rattle.command_files.specs.declared.stop.Text.{Text}
+use Rattle.command_files.specs.declared.stop.Text.TheVariants.{Domain, Problem, Streams}
 
 -- ---- texts
 

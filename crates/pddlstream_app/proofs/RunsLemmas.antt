@@ -1,5 +1,5 @@
 -- How runs end.
-use Rattle.std.proofs.Common.{◌≡◌, ℕ, ◌+◌, arith, List, [], ◌++◌, length, take, true, false, MatchBool, Option, Some, refl, sym, subst, ap, ◌∙◌, ◌⊎◌, inl, inr}
+use Rattle.std.proofs.Common.{◌≡◌, ℕ, ◌+◌, arith, List, [], ◌++◌, length, take, true, false, MatchBool, Option, Some, refl, sym, subst, ap, ◌∙◌, ◌⊎◌, inl, inr, Err, IfErr, IfOk, Ok, Result}
 use Rattle.std.proofs.Math.Seq.{take-append-add}
 use Rattle.std.proofs.lemmas.List.{length-append}
 use Rattle.std.specs.Io.KnownBytes.{Appends}
@@ -17,22 +17,23 @@ use Rattle.transcript_model.specs.declared.entry.Entry.{Entry}
 use Rattle.transcript_model.specs.declared.head.Head.{Head}
 use Rattle.transcript_model.specs.declared.outcome.Outcome.{Outcome}
 use Rattle.transcript_model.specs.declared.outcome.Outcome.TheVariants as outcome
-use Rattle.pddlstream_app.proofs.InputsLemmas.{is_of_input}
+use Rattle.pddlstream_app.proofs.NoInputLemmas.{is_of_input}
 use Rattle.pddlstream_app.proofs.SaidLemmas.{answer_said, said_whole}
 use Rattle.pddlstream_app.specs.AnswerOf.{HasAnswer}
-use Rattle.pddlstream_app.specs.Inputs.{HasNoInput}
-use Rattle.pddlstream_app.specs.Outside.{IsUntouched, Outside, Written}
-use Rattle.pddlstream_app.specs.Runs.{ClosesRun, Ends, RunHasFault, HasOutcome, IsBefore, IsBeforeLast, IsCompleted, IsPartOfRun, IsStopped, IsUnneeded, ProgramRun, TellsStatus, TookAll, TookPart, outcome_status, shown_so_far, shown_text}
-use Rattle.pddlstream_app.specs.Stop.{is_write, is_write_fault, status_at, last_text}
+use Rattle.pddlstream_app.specs.NoInput.{HasNoInput}
+use Rattle.command_files.specs.Outside.{IsUntouched, Outside, Written}
+use Rattle.pddlstream_app.specs.Runs.{ClosesRun, Ends, RunHasFault, IsBefore, IsBeforeLast, IsCompleted, IsStopped, IsUnneeded, TellsStatus, TookAll, TookPart}
+use Rattle.run_command.specs.Runs.{HasOutcome, IsPartOfRun, ProgramRun, outcome_status, shown_so_far, shown_text}
+use Rattle.command_files.specs.Stop.{is_write, is_write_fault, status_at, last_text}
 use Rattle.command_line.specs.Words.{SolveWords, command_of, solve}
-use Rattle.pddlstream_app.specs.Solving.{HasNoReport, IsPosed, IsSolved}
-use Rattle.pddlstream_app.specs.Works.{Work, command_for, files_of, solving, words_of}
+use Rattle.run_command.specs.Solving.{HasNoReport, IsPosed, IsSolved, SolvesRun}
+use Rattle.run_command.specs.Works.{Work, command_for, files_of, solving, words_of}
 use Rattle.round_run.specs.declared.fault.RunFault.{RunFault}
 use Rattle.round_run.specs.declared.fault.RunFault.TheVariants as fault
-use Rattle.pddlstream_app.specs.declared.status.Status.{Status}
-use Rattle.pddlstream_app.specs.declared.status.Status.TheVariants.{WriteFault}
-use Rattle.pddlstream_app.specs.declared.stop.Stop.{Stop}
-use Rattle.pddlstream_app.specs.declared.stop.Stop.TheVariants as stop
+use Rattle.command_files.specs.declared.status.Status.{Status}
+use Rattle.command_files.specs.declared.status.Status.TheVariants.{WriteFault}
+use Rattle.command_files.specs.declared.stop.Stop.{Stop}
+use Rattle.command_files.specs.declared.stop.Stop.TheVariants as stop
 
 -- ---- ways to end
 
@@ -226,7 +227,7 @@ module _ (words : List (List ℕ)) (outside : Outside) where
   -- a task is to be solved
   module _ (asked : SolveWords) (meant : command_of words ≡ Some (solve asked)) where
     -- the report was written
-    pub completed : (written : Written) (ran : Ran) (status : Status) → IsSolved asked outside written ran
+    completed : (written : Written) (ran : Ran) (status : Status) → IsSolved asked outside written ran
         → status ≡ outcome_status ran.outcome → IsCompleted words outside written status
     completed written ran status s is =
         let r = s.reported in
@@ -276,13 +277,24 @@ module _ (words : List (List ℕ)) (outside : Outside) where
         }
 
     -- the task has no report
-    pub stopped_solving : (written : Written) (why : Stop) → HasNoReport asked outside written why
+    stopped_solving : (written : Written) (why : Stop) → HasNoReport asked outside written why
         → IsStopped words outside written why
     stopped_solving written why (inl u) =
         subst (λ after. IsStopped words outside (record { before = written.before; after = after }) why) (sym u.nothing)
         (stopped_reading written.before why (record { command = solve asked; meant = meant; cause = u.cause }) u.none)
     stopped_solving written why (inr u) =
         subst (IsStopped words outside written) (sym u.is) (stopped_running written u.fault u.task u.head u.posed u.broken)
+
+    -- how the run ends
+    pub solved_completed : (written : Written) (r : Result Status Stop) → SolvesRun asked outside written r
+        → IfOk r (IsCompleted words outside written)
+    solved_completed written (Ok status) e = completed written e.ran status e.solved e.kind
+    solved_completed written (Err why) e = tt
+
+    pub solved_stopped : (written : Written) (r : Result Status Stop) → SolvesRun asked outside written r
+        → IfErr r (IsStopped words outside written)
+    solved_stopped written (Ok status) e = tt
+    solved_stopped written (Err why) none = stopped_solving written why none
 
   -- ---- last lines
 

@@ -13,13 +13,13 @@ use Rattle.transcript_model.specs.declared.outcome.Outcome.TheVariants as outcom
 use Rattle.transcript_model.specs.declared.report.Report.{Report}
 use Rattle.pddlstream_app.specs.AnswerOf.{AnswerOf, HasAnswer, SaysVerdict}
 use Rattle.pddlstream_app.specs.Asked.{AsksAll, AsksFiles}
-use Rattle.pddlstream_app.specs.Outside.{FilesSeen, Outside, Written}
+use Rattle.command_files.specs.Outside.{FilesSeen, Outside, Written}
 use Rattle.pddlstream_app.specs.Replays.{IsMigrated, kind_of_verdict}
 use Rattle.pddlstream_app.specs.Plans.{IsOrderTold, IsOrderTooLong, SaysBy, SaysOfReport, SaysOrder, SaysOrderBy, SaysPlay, SaysPlayBy, play_status}
 use Rattle.pddlstream_app.specs.Runs.{IsBeforeHost}
-use Rattle.pddlstream_app.specs.Stop.{is_write_fault}
-use Rattle.pddlstream_app.specs.declared.status.Status.{Status}
-use Rattle.pddlstream_app.specs.declared.status.Status.TheVariants.{Done, Invalid, Limit, NoPlan, Plan, WriteFault}
+use Rattle.command_files.specs.Stop.{is_write_fault}
+use Rattle.command_files.specs.declared.status.Status.{Status}
+use Rattle.command_files.specs.declared.status.Status.TheVariants.{Done, Invalid, Limit, NoPlan, Plan, WriteFault}
 
 -- what was asked for is done, a limit stands in its way, or something is wrong
 abbrev pub is_said : Status → Bool

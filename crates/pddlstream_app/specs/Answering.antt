@@ -1,26 +1,21 @@
 -- How a command answers: its text is made whole of its files, and then told.
-use Rattle.std.specs.Prelude.{◌≡◌, ◌⊎◌, ℕ, ◌<◌, List, length, string_bytes, take, Option, Result, Ok, Err}
+use Rattle.std.specs.Prelude.{◌≡◌, ◌⊎◌, ℕ, ◌<◌, List, length, string_bytes, take, Result, Ok, Err}
 use Rattle.std.specs.Io.KnownBytes.{Appends}
 use Rattle.command_line.specs.Held.{held_play, held_replay, held_solve}
-use Rattle.command_line.specs.Words.{Command, TaskFiles, deorder, generate, migrate, play, replay, solve}
-use Rattle.io_world.specs.FileMap.{FileMap}
+use Rattle.command_line.specs.Words.{Command, deorder, generate, migrate, play, replay, solve}
 use Rattle.round_run.specs.declared.fault.RunFault.TheVariants as fault
-use Rattle.task_model.specs.Fit.{IsFit}
 use Rattle.pddlstream_app.specs.AnswerOf.{IsCommandAnswer}
-use Rattle.pddlstream_app.specs.Asked.{AsksAllOf}
-use Rattle.pddlstream_app.specs.Files.{HasBytes, file_of}
-use Rattle.pddlstream_app.specs.Inputs.{IsTaskOf, ReadsNothing}
-use Rattle.pddlstream_app.specs.Outside.{FilesSeen, Written}
+use Rattle.command_files.specs.Inputs.{AsksAllOf}
+use Rattle.pddlstream_app.specs.NoInput.{ReadsNothing}
+use Rattle.command_files.specs.Outside.{FilesSeen, Written}
 use Rattle.pddlstream_app.specs.declared.answer.AnswerConfig.{AnswerConfig}
 use Rattle.pddlstream_app.specs.declared.answer.AnswerConfig.TheVariants as answers
 use Rattle.pddlstream_app.specs.declared.job.Job.{Job}
 use Rattle.pddlstream_app.specs.declared.job.Job.TheVariants as jobs
 use Rattle.pddlstream_app.specs.declared.said.Said.{Said}
-use Rattle.pddlstream_app.specs.declared.status.Status.{Status}
-use Rattle.pddlstream_app.specs.declared.stop.FileRole.TheVariants as role
-use Rattle.pddlstream_app.specs.declared.stop.Stop.{Stop}
-use Rattle.pddlstream_app.specs.declared.stop.Stop.TheVariants.{Run}
-use Rattle.pddlstream_app.specs.declared.texts.Reported.{Reported}
+use Rattle.command_files.specs.declared.status.Status.{Status}
+use Rattle.command_files.specs.declared.stop.Stop.{Stop}
+use Rattle.command_files.specs.declared.stop.Stop.TheVariants.{Run}
 
 -- ---- commands, as they are done
 
@@ -38,12 +33,6 @@ command_done (jobs.Make number) = generate number
 command_done (jobs.Answer c) = command_answering c
 
 -- ---- an answer is made
-
--- The files spell this task, which is fit, and these are the bytes of the report's file.
-pub record AreReported (told : Option FileMap) (paths : TaskFiles) (report : List ℕ) (r : Reported) : Type 0 where
-  pub task : IsTaskOf told paths r.task
-  pub fit : IsFit r.task
-  pub bytes : HasBytes told (file_of role.Report report) r.bytes.items
 
 -- why no answer is made: what the command reads is no input, or its files were read and memory is wanting
 abbrev pub IsUnmade : Command → FilesSeen → Stop → Type 0

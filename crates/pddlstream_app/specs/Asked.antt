@@ -4,15 +4,16 @@ use Rattle.std.specs.Io.KnownBytes.{Appends}
 use Rattle.io_world.specs.Faults.{Extends}
 use Rattle.round_run.specs.declared.fault.RunFault.TheVariants as fault
 use Rattle.command_line.specs.Words.{Command, command_of}
-use Rattle.pddlstream_app.specs.Files.{FileWanted}
-use Rattle.pddlstream_app.specs.Inputs.{AreFilesOf, FileAnswer, HasNoInput, MayBeFilesOf, ask, reads}
-use Rattle.pddlstream_app.specs.Outside.{FilesSeen, HaveFailed, Written}
-use Rattle.pddlstream_app.specs.Stop.{status_at, last_text}
-use Rattle.pddlstream_app.specs.declared.status.Status.{Status}
-use Rattle.pddlstream_app.specs.declared.status.Status.TheVariants.{Usage, Input, ReadFault, WriteFault, Memory}
-use Rattle.pddlstream_app.specs.declared.stop.FileRole.{FileRole}
-use Rattle.pddlstream_app.specs.declared.stop.Stop.{Stop}
-use Rattle.pddlstream_app.specs.declared.stop.Stop.TheVariants as stop
+use Rattle.command_files.specs.Files.{FileWanted}
+use Rattle.command_files.specs.Inputs.{FileAnswer, MayBeFilesOf, ask, reads, AsksAllOf}
+use Rattle.pddlstream_app.specs.NoInput.{HasNoInput}
+use Rattle.command_files.specs.Outside.{FilesSeen, HaveFailed, Written}
+use Rattle.command_files.specs.Stop.{status_at, last_text}
+use Rattle.command_files.specs.declared.status.Status.{Status}
+use Rattle.command_files.specs.declared.status.Status.TheVariants.{Usage, Input, ReadFault, WriteFault, Memory}
+use Rattle.command_files.specs.declared.stop.FileRole.{FileRole}
+use Rattle.command_files.specs.declared.stop.Stop.{Stop}
+use Rattle.command_files.specs.declared.stop.Stop.TheVariants as stop
 
 -- no file was asked for
 abbrev pub AsksNothing : FilesSeen → Type 0
@@ -21,12 +22,6 @@ AsksNothing files = Extends files.before files.after []
 -- no file was asked for, where the words mean no command
 abbrev pub AsksNone : List (List ℕ) → FilesSeen → Type 0
 AsksNone words files = (command_of words ≡ None) × AsksNothing files
-
--- The files of a command were asked for and read.
-pub record AsksAllOf (command : Command) (files : FilesSeen) : Type 0 where
-  pub all : List FileWanted
-  pub are : AreFilesOf files.told command all
-  pub asked : Extends files.before files.after (reads all)
 
 -- The words mean a command, and its files were asked for and read: none for `generate`.
 pub record AsksAll (words : List (List ℕ)) (files : FilesSeen) : Type 0 where

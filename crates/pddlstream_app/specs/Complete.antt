@@ -13,12 +13,12 @@ use Rattle.transcript_model.specs.declared.head.Mode.TheVariants.{Incremental}
 use Rattle.transcript_model.specs.declared.head.Pool.{Pool}
 use Rattle.transcript_model.specs.declared.outcome.Outcome.{Outcome}
 use Rattle.command_line.specs.Words.{SolveWords, command_of, solve}
-use Rattle.pddlstream_app.specs.Heads.{AreServed}
-use Rattle.pddlstream_app.specs.Inputs.{IsTaskOf}
-use Rattle.pddlstream_app.specs.Outside.{HaveFailed, Outside}
-use Rattle.pddlstream_app.specs.Runs.{HasBadAnswer, ProgramRun}
-use Rattle.pddlstream_app.specs.declared.status.Status.{Status}
-use Rattle.pddlstream_app.specs.declared.status.Status.TheVariants.{Plan, NoPlan, Limit, Memory}
+use Rattle.run_command.specs.Heads.{AreServed}
+use Rattle.command_files.specs.Inputs.{IsTaskOf}
+use Rattle.command_files.specs.Outside.{HaveFailed, Outside}
+use Rattle.run_command.specs.Runs.{HasBadAnswer, ProgramRun}
+use Rattle.command_files.specs.declared.status.Status.{Status}
+use Rattle.command_files.specs.declared.status.Status.TheVariants.{Plan, NoPlan, Limit, Memory}
 
 -- Whichever run's dialogue it was that was said with the children: none of its requests has a bad answer.
 abbrev pub OnlyAnswers : List (List ℕ) → Outside → Type 0

@@ -4,9 +4,9 @@ use Rattle.command_line.specs.Words.{PlayWords, command_of, play}
 use Rattle.grid_text.specs.Files.{IsGridOf}
 use Rattle.grid_text.specs.Grids.{GridFile}
 use Rattle.io_world.specs.FileMap.{FileMap}
-use Rattle.pddlstream_app.specs.Inputs.{IsTaskOf}
-use Rattle.pddlstream_app.specs.declared.status.Status.{Status}
-use Rattle.pddlstream_app.specs.declared.status.Status.TheVariants.{Invalid}
+use Rattle.command_files.specs.Inputs.{IsTaskOf}
+use Rattle.command_files.specs.declared.status.Status.{Status}
+use Rattle.command_files.specs.declared.status.Status.TheVariants.{Invalid}
 use Rattle.play_laws.specs.Problems.{AreTrueYields, IsGridProblem}
 use Rattle.replay_check.specs.Verdicts.{IsRightReport}
 use Rattle.report_text.specs.Forms.{IsFormed}

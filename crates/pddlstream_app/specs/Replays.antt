@@ -9,8 +9,8 @@ use Rattle.report_text.specs.Faults.{IsFirstFault}
 use Rattle.report_text.specs.Forms.{IsFormed}
 use Rattle.report_text.specs.Texts.{in_version, text_of_report}
 use Rattle.transcript_model.specs.declared.report.Report.{Report}
-use Rattle.pddlstream_app.specs.declared.status.Status.{Status}
-use Rattle.pddlstream_app.specs.declared.status.Status.TheVariants as status
+use Rattle.command_files.specs.declared.status.Status.{Status}
+use Rattle.command_files.specs.declared.status.Status.TheVariants as status
 
 abbrev pub kind_of_verdict : Verdict → Status
 kind_of_verdict verdict.Valid = status.Done

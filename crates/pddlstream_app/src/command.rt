@@ -4,22 +4,20 @@ ghost use Rattle.io_world.specs.Faults.{last_count, HasCause, Rose};
 ghost use Rattle.pddlstream_app.specs.Asked.{AsksAll, AsksBefore, AsksFiles, HasReadCause};
 ghost use Rattle.pddlstream_app.specs.Complete.{Completes};
 ghost use Rattle.pddlstream_app.specs.Headline.{PrintsNoPlan, PrintsPlan};
-ghost use Rattle.pddlstream_app.specs.Outside.{outside_of, seen_of, written_of};
+ghost use Rattle.command_files.specs.Outside.{outside_of, seen_of, written_of};
 ghost use Rattle.pddlstream_app.specs.Plays.{PlaysSafely};
 ghost use Rattle.pddlstream_app.specs.Runs.{Caused, ClosesRun, Ends, IsCompleted, IsStopped, LeavesAnswers, LeavesHost, SparesHost, TellsStatus};
 ghost use Rattle.round_run.specs.declared.fault.RunFault.TheVariants as fault;
-ghost use Rattle.pddlstream_app.specs.declared.status.Status.TheVariants.{GeneratorFault, NoPlan, Plan, ReadFault, WriteFault};
-ghost use Rattle.pddlstream_app.specs.declared.stop.Stop.TheVariants.{Run};
+ghost use Rattle.command_files.specs.declared.status.Status.TheVariants.{GeneratorFault, NoPlan, Plan, ReadFault, WriteFault};
+ghost use Rattle.command_files.specs.declared.stop.Stop.TheVariants.{Run};
 
 use crate::answer::answer;
 use crate::job::{Job, job_of};
-use crate::make::make;
-use crate::solve::solve;
-use crate::status::Status;
-use crate::stop::{MEMORY, Stop};
+use command_files::{MEMORY, Status, Stop};
 use command_line::{WordsFault, read_words};
 use io_world::{Files, Host, Sink, write_all};
 use level_run::RunFault;
+use run_command::{make, solve};
 use std::alloc::Global;
 
 /// Writes the last line of a run that ends so.

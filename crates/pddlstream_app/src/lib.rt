@@ -4,19 +4,11 @@
 mod answer;
 mod command;
 mod deorder;
-mod head;
 mod job;
-mod make;
-mod maps;
 mod migrate;
-mod modes;
 mod play;
 mod replay;
 mod said;
-mod solve;
-mod status;
-mod stop;
-mod texts;
 
 pub use command::run;
-pub use status::Status;
+pub use command_files::Status;

@@ -2,16 +2,14 @@
 ghost use Rattle.std.specs.Prelude.{◌≡◌, ◌<◌, ◌^◌, length, IfOk};
 ghost use Rattle.command_line.specs.Words.{migrate as to_migrate};
 ghost use Rattle.pddlstream_app.specs.Answering.{IsMade};
-ghost use Rattle.pddlstream_app.specs.Outside.{seen_of};
+ghost use Rattle.command_files.specs.Outside.{seen_of};
 ghost use Rattle.pddlstream_app.specs.Replays.{IsMigrated};
 ghost use Rattle.report_text.specs.Texts.{in_version, text_of_report};
-ghost use Rattle.pddlstream_app.specs.declared.status.Status.TheVariants as status;
+ghost use Rattle.command_files.specs.declared.status.Status.TheVariants as status;
 
 use crate::replay::said_of;
 use crate::said::Said;
-use crate::status::Status;
-use crate::stop::{FileRole, Stop};
-use crate::texts::read_file;
+use command_files::{FileRole, Status, Stop, read_file};
 use io_world::Files;
 use level_run::RunFault;
 use replay_check::{BreachKind, Verdict};

@@ -4,19 +4,16 @@ ghost use Rattle.command_line.specs.Held.{held_play};
 ghost use Rattle.command_line.specs.Ranges.{IsFromOne};
 ghost use Rattle.command_line.specs.Words.{play as to_play};
 ghost use Rattle.pddlstream_app.specs.Answering.{IsMade};
-ghost use Rattle.pddlstream_app.specs.Outside.{seen_of};
-ghost use Rattle.pddlstream_app.specs.Paths.{held_files};
+ghost use Rattle.command_files.specs.Outside.{seen_of};
+ghost use Rattle.command_files.specs.Paths.{held_files};
 ghost use Rattle.pddlstream_app.specs.Plans.{SaysOfReport, SaysPlay, SaysPlayOf, play_status};
 ghost use Rattle.report_text.specs.Texts.{lines_of_report};
 ghost use Rattle.task_model.specs.Fit.{IsFit};
 ghost use Rattle.task_model.specs.declared.limits.TheConstants.{MOST_STATES};
 
-use crate::maps::read_grid_file;
 use crate::replay::said_of;
 use crate::said::Said;
-use crate::status::Status;
-use crate::stop::Stop;
-use crate::texts::{TaskPaths, read_reported};
+use command_files::{Status, Stop, TaskPaths, read_grid_file, read_reported};
 use command_line::PlayConfig;
 use grid_play::{PlayVerdict, act, play_text};
 use grid_text::Grid;
@@ -111,12 +108,12 @@ pub(crate) fn play_answer<F: Files>(
 {
     let paths = paths_of(words);
     let read = read_reported(alloc, files, &paths, words.report.as_str())?;
-    let grid = read_grid_file(alloc, files, words.grid.as_str())?;
+    let drawn = read_grid_file(alloc, files, words.grid.as_str())?;
     match played(
         alloc,
         &read.task,
         read.bytes.as_slice(),
-        &grid,
+        &drawn.grid,
         words.states,
     ) {
         Ok(said) => Ok(said),

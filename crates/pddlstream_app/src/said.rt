@@ -1,7 +1,7 @@
 //! What a command answers.
 ghost use Rattle.std.specs.Prelude.{◌≡◌, IfOk};
 
-use crate::status::Status;
+use command_files::Status;
 use std::alloc::{AllocError, Global};
 
 /// The answer of a command, whole.

@@ -1,5 +1,5 @@
 -- Each run of these words over these files is one of the first worked task, and the table is the one of its child.
-use Rattle.std.proofs.Common.{◌≡◌, ℕ, ◌≤◌, [], ◌∷◌, codes, refl, sym, ap, subst, ◌∙◌, arith, None, Some}
+use Rattle.std.proofs.Common.{◌≡◌, ℕ, ◌≤◌, [], ◌∷◌, codes, false, refl, sym, ap, subst, ◌∙◌, arith, None, Some}
 use Rattle.std.proofs.lemmas.Option.{same_Some}
 use Rattle.clap.proofs.OnLiterals.{clap_on_literals}
 use Rattle.command_line.specs.Apps.{is_taken, solve_app}
@@ -7,9 +7,9 @@ use Rattle.command_line.specs.Numbers.{is_count}
 use Rattle.command_line.specs.Words.{Command, SolveWords, command_of, generate, read_by, solve}
 use Rattle.io_world.specs.Talks.{silence, spelled}
 use Rattle.pddlstream_app.specs.Complete.{AreGivenAnswers}
-use Rattle.pddlstream_app.specs.Inputs.{IsTaskOf}
-use Rattle.pddlstream_app.specs.Runs.{ProgramRun}
-use Rattle.pddlstream_app.specs.Works.{Work, command_for, files_of, making, solving, words_of}
+use Rattle.command_files.specs.Inputs.{IsTaskOf}
+use Rattle.run_command.specs.Runs.{ProgramRun}
+use Rattle.run_command.specs.Works.{Work, command_for, files_of, making, solving, words_of}
 use Rattle.table_runs.specs.Asking.{SpeaksBy}
 use Rattle.task_model.specs.declared.task.Task.{Task}
 use Rattle.task_reader.proofs.SpelledLemmas.{one_task}
@@ -35,6 +35,7 @@ cup_asked = record {
   mode = Incremental;
   limits = record { calls = 10000; states = 100000; depth = 3 };
   protocol = 1;
+  optimal = false;
 }
 
 pub cup_meant : command_of cup_words ≡ Some (solve cup_asked)

@@ -4,8 +4,8 @@ use Rattle.std.specs.declared.alloc.Global.{Global}
 use Rattle.io_world.specs.Faults.{Rose, last_count}
 use Rattle.io_world.specs.Talks.{silence, spelled}
 use Rattle.pddlstream_app.specs.Complete.{GoesWell, OnlyAnswers}
-use Rattle.pddlstream_app.specs.Heads.{AreServed}
-use Rattle.pddlstream_app.specs.Inputs.{IsTaskOf}
+use Rattle.run_command.specs.Heads.{AreServed}
+use Rattle.command_files.specs.Inputs.{IsTaskOf}
 use Rattle.round_run.specs.Dialogue.{IsBadLine, called_stream, count_to, replies_of, requests_of, workers_in}
 use Rattle.session_core.specs.Slots.{wanted_at}
 use Rattle.stream_map.specs.Spelled.{is_grid_word}

@@ -4,7 +4,7 @@ use Rattle.std.specs.Prelude.{◌<◌}
 use Rattle.io_world.specs.Faults.{Rose, last_count}
 use Rattle.level_run.specs.Reports.{IsRun}
 use Rattle.pddlstream_app.specs.Complete.{AreGivenAnswers, GoesWell}
-use Rattle.pddlstream_app.specs.Runs.{ProgramRun}
+use Rattle.run_command.specs.Runs.{ProgramRun}
 use Rattle.round_run.specs.Dialogue.{Dialogue, workers_in}
 use Rattle.table_runs.specs.Asking.{AnsweredBy}
 use Rattle.transcript_model.specs.Legal.{asks_of}

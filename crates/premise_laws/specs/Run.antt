@@ -3,8 +3,8 @@ use Rattle.std.specs.Prelude.{ℕ, List, [], ◌∷◌, codes, true, None, Ok, S
 use Rattle.io_world.specs.FileMap.{FileMap, StoredFile, map_or_empty}
 use Rattle.io_world.specs.Logs.{Calls, no_calls, said_of, told_of}
 use Rattle.io_world.specs.Talks.{Event, heard, started, stopped, wrote}
-use Rattle.pddlstream_app.specs.Outside.{Outside, unread}
-use Rattle.pddlstream_app.specs.Works.{file_with}
+use Rattle.command_files.specs.Outside.{Outside, unread}
+use Rattle.run_command.specs.Works.{file_with}
 use Rattle.pools.specs.Pools.{Workers}
 use Rattle.witness_laws.specs.Texts.{fetch_domain_text, fetch_problem_text, fetch_streams_text}
 

@@ -24,8 +24,9 @@ use Rattle.stream_map.specs.Spelled.{Spelled, begins_grid, is_program}
 use Rattle.task_model.specs.declared.stream.Stream.{Stream}
 use Rattle.task_model.specs.declared.task.Task.{Task}
 use Rattle.transcript_model.specs.declared.head.Pool.{Pool}
-use Rattle.pddlstream_app.proofs.HeadsLemmas.{all_before}
-use Rattle.pddlstream_app.specs.Heads.{AreServed, HaveText, MeansBy}
+use Rattle.run_command.proofs.HeadsLemmas.{all_before}
+use Rattle.run_command.specs.Heads.{AreServed}
+use Rattle.command_files.specs.Pools.{HaveText, MeansBy}
 use Rattle.run_laws.specs.Reports.{ArePoolsOfReports}
 
 -- Each pool has at most 16 workers, and one stream at least; no stream is in two places.

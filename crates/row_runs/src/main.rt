@@ -21,7 +21,7 @@ use std::process::ExitCode;
 use std::{env, io};
 
 /// The files of rows, in the order in which they are run.
-const SUBJECTS: [&str; 31] = [
+const SUBJECTS: [&str; 32] = [
     "outcomes.rows",
     "limits.rows",
     "faults.rows",
@@ -51,6 +51,7 @@ const SUBJECTS: [&str; 31] = [
     "orders.rows",
     "plays.rows",
     "costs.rows",
+    "cheapest.rows",
     "tuples.rows",
     "migrations.rows",
 ];

@@ -5,8 +5,8 @@ use Rattle.command_line.specs.Words.{command_of, generate}
 use Rattle.grid_laws.proofs.MadeLemmas.{headed_as, spelled_as}
 use Rattle.grid_laws.proofs.MadePoolLemmas.{made_workers, workers_are}
 use Rattle.io_world.specs.FileMap.{FileMap}
-use Rattle.pddlstream_app.specs.Runs.{ProgramRun}
-use Rattle.pddlstream_app.specs.Works.{made_files, made_words}
+use Rattle.run_command.specs.Runs.{ProgramRun}
+use Rattle.run_command.specs.Works.{made_files, made_words}
 use Rattle.pools.specs.Pools.{Workers, share_of_workers, workers_of}
 use Rattle.replay_laws.proofs.SolvedLemmas.{same_task}
 use Rattle.round_run.specs.Dialogue.{workers_in}
@@ -63,6 +63,7 @@ module _ (n : ℕ) {words : List (List ℕ)} {told : Option FileMap} (run : Prog
             depth = (a.depth ∙ sym b.depth) i;
             pools = shares i;
           };
+          optimal = a.optimal ∙ sym b.optimal;
           workers = same;
         }
 

@@ -4,11 +4,11 @@ use Rattle.command_line.proofs.RangesLemmas.{in_range}
 use Rattle.command_line.specs.Words.{SolveWords, command_of, solve}
 use Rattle.grid_laws.proofs.ProgramLemmas.{program_runs}
 use Rattle.level_run.specs.Reports.{report_of}
-use Rattle.pddlstream_app.specs.Heads.{IsHeadOf}
-use Rattle.pddlstream_app.specs.Outside.{Outside}
-use Rattle.pddlstream_app.specs.Runs.{HasOutcome, shown_text}
-use Rattle.pddlstream_app.specs.Works.{files_of, solving, words_of}
-use Rattle.pddlstream_app.specs.declared.status.Status.{Status}
+use Rattle.run_command.specs.Heads.{IsHeadOf}
+use Rattle.command_files.specs.Outside.{Outside}
+use Rattle.run_command.specs.Runs.{HasOutcome, shown_text}
+use Rattle.run_command.specs.Works.{files_of, solving, words_of}
+use Rattle.command_files.specs.declared.status.Status.{Status}
 use Rattle.replay_laws.proofs.MapPoolLemmas.{served_shown}
 use Rattle.report_text.specs.Forms.{IsFormed}
 use Rattle.report_text.specs.Texts.{text_of_report}

@@ -1,9 +1,9 @@
 -- What the text of a run's report names. The law is the contract of a public function of `laws.rt`, and so is proved.
 use Rattle.std.specs.Prelude.{◌≡◌, ℕ, List, Some}
 use Rattle.command_line.specs.Words.{SolveWords, command_of, solve}
-use Rattle.pddlstream_app.specs.Outside.{Outside}
-use Rattle.pddlstream_app.specs.Runs.{HasOutcome}
-use Rattle.pddlstream_app.specs.declared.status.Status.{Status}
+use Rattle.command_files.specs.Outside.{Outside}
+use Rattle.run_command.specs.Runs.{HasOutcome}
+use Rattle.command_files.specs.declared.status.Status.{Status}
 use Rattle.run_laws.specs.Reports.{HasCountedSteps}
 use Rattle.transcript_model.specs.declared.entry.Entry.{Entry}
 use Rattle.transcript_model.specs.declared.head.Head.{Head}

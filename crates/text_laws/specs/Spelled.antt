@@ -3,9 +3,9 @@ use Rattle.std.specs.Prelude.{◌≡◌, ℕ, ◌<◌, List, [], ◌∷◌, Opti
 use Rattle.command_line.specs.Words.{command_of, generate}
 use Rattle.io_world.specs.Talks.{Talk}
 use Rattle.level_run.specs.Reports.{IsRun}
-use Rattle.pddlstream_app.specs.Outside.{Outside}
-use Rattle.pddlstream_app.specs.Runs.{HasOutcome}
-use Rattle.pddlstream_app.specs.declared.status.Status.{Status}
+use Rattle.command_files.specs.Outside.{Outside}
+use Rattle.run_command.specs.Runs.{HasOutcome}
+use Rattle.command_files.specs.declared.status.Status.{Status}
 use Rattle.pools.specs.Pools.{AreFitPools}
 use Rattle.round_run.specs.Dialogue.{Dialogue, workers_in}
 use Rattle.task_model.specs.Fit.{IsFit}
@@ -54,6 +54,7 @@ OneWorkerSpellsOneRun =
 -- The heads differ in nothing but the words that start their children.
 pub record AreAlike (head other : Head) : Type 0 where
   pub limits : limits_of head ≡ limits_of other
+  pub optimal : head.optimal ≡ other.optimal
   pub workers : workers_in head ≡ workers_in other
 
 -- In incremental mode no other child can be asked than this: it is the one worker of the one pool.

@@ -1,7 +1,7 @@
 use Rattle.std.proofs.Common.{inl, refl}
 use Rattle.pddlstream_app.proofs.AnswersLemmas.{unmade_unfailed}
 use Rattle.pddlstream_app.specs.Answering.{command_answering}
-use Rattle.pddlstream_app.specs.Outside.{seen_of}
+use Rattle.command_files.specs.Outside.{seen_of}
 use Rattle.pddlstream_app.proofs.answer.answer.Goals as goal
 
 pub returns-in-Err-clause-told : goal.returns-in-Err-clause-told

@@ -5,7 +5,11 @@ use Rattle.command_line.specs.Words.{generate, solve}
 use Rattle.pddlstream_app.proofs.AnswersLemmas.{answer_asked, answer_asked_before, answer_completed, answer_stopped, answer_ungenerated}
 use Rattle.pddlstream_app.proofs.LeavesLemmas.{leaves_running, spares_running, spares_same}
 use Rattle.pddlstream_app.specs.Answering.{command_answering}
-use Rattle.pddlstream_app.specs.Outside.{seen_of, written_of}
+use Rattle.command_files.proofs.MapsLemmas.{extends_none}
+use Rattle.command_files.specs.Outside.{outside_of, seen_of, written_of}
+use Rattle.pddlstream_app.proofs.AskedLemmas.{made_asked, made_asked_before, solved_asked, solved_asked_before}
+use Rattle.pddlstream_app.proofs.MakingLemmas.{made_completed, made_stopped}
+use Rattle.pddlstream_app.proofs.RunsLemmas.{solved_completed, solved_stopped}
 use Rattle.pddlstream_app.proofs.command.attempt.Goals as goal
 
 -- ---- a task is to be solved
@@ -17,11 +21,13 @@ solve-requires-clause-within g c =
 
 pub returns-in-Solve-clause-completed : goal.returns-in-Solve-clause-completed
 returns-in-Solve-clause-completed g c =
-    c.solve.ensures.completed (map string_bytes c.args.words.now) (c.in-Ok.ensures.config ∙ ap Some (sym c.in-Solve.ensures))
+    solved_completed (map string_bytes c.args.words.now) _ (held_solve c.in-Solve.words)
+    (c.in-Ok.ensures.config ∙ ap Some (sym c.in-Solve.ensures)) _ c.solve.result c.solve.ensures.ends
 
 pub returns-in-Solve-clause-stopped : goal.returns-in-Solve-clause-stopped
 returns-in-Solve-clause-stopped g c =
-    c.solve.ensures.stopped (map string_bytes c.args.words.now) (c.in-Ok.ensures.config ∙ ap Some (sym c.in-Solve.ensures))
+    solved_stopped (map string_bytes c.args.words.now) _ (held_solve c.in-Solve.words)
+    (c.in-Ok.ensures.config ∙ ap Some (sym c.in-Solve.ensures)) _ c.solve.result c.solve.ensures.ends
 
 pub returns-in-Solve-clause-answers : goal.returns-in-Solve-clause-answers
 returns-in-Solve-clause-answers g c =
@@ -36,11 +42,13 @@ returns-in-Solve-clause-leaves g c =
 
 pub returns-in-Solve-clause-asked : goal.returns-in-Solve-clause-asked
 returns-in-Solve-clause-asked g c =
-    c.solve.ensures.asked (map string_bytes c.args.words.now) (c.in-Ok.ensures.config ∙ ap Some (sym c.in-Solve.ensures))
+    solved_asked (map string_bytes c.args.words.now) _ (held_solve c.in-Solve.words)
+    (c.in-Ok.ensures.config ∙ ap Some (sym c.in-Solve.ensures)) _ c.solve.result c.solve.ensures.ends
 
 pub returns-in-Solve-clause-asked_before : goal.returns-in-Solve-clause-asked_before
 returns-in-Solve-clause-asked_before g c =
-    c.solve.ensures.asked_before (map string_bytes c.args.words.now) (c.in-Ok.ensures.config ∙ ap Some (sym c.in-Solve.ensures))
+    solved_asked_before (map string_bytes c.args.words.now) _ (held_solve c.in-Solve.words)
+    (c.in-Ok.ensures.config ∙ ap Some (sym c.in-Solve.ensures)) _ c.solve.result c.solve.ensures.ends
 
 -- ---- the task of a number is to be made and solved
 
@@ -51,15 +59,15 @@ make-requires-clause-within g c =
 
 pub returns-in-Make-clause-completed : goal.returns-in-Make-clause-completed
 returns-in-Make-clause-completed g c =
-    c.make.ensures.completed (map string_bytes c.args.words.now) (g.F.Files.told c.args.files.now)
-    (g.F.Files.faults c.args.files.now) (g.F.Files.asked c.args.files.now)
-    (c.in-Ok.ensures.config ∙ ap Some (sym c.in-Make.ensures))
+    made_completed (map string_bytes c.args.words.now) (outside_of (seen_of g.F.Files.told g.F.Files.faults g.F.Files.asked c.args.files.now c.args.files.now) g.H.Host.spoken
+    g.H.Host.log c.args.host.now c.make.new.host) c.in-Make.number
+    (c.in-Ok.ensures.config ∙ ap Some (sym c.in-Make.ensures)) (extends_none (g.F.Files.asked c.args.files.now)) _ c.make.result c.make.ensures.ends
 
 pub returns-in-Make-clause-stopped : goal.returns-in-Make-clause-stopped
 returns-in-Make-clause-stopped g c =
-    c.make.ensures.stopped (map string_bytes c.args.words.now) (g.F.Files.told c.args.files.now)
-    (g.F.Files.faults c.args.files.now) (g.F.Files.asked c.args.files.now)
-    (c.in-Ok.ensures.config ∙ ap Some (sym c.in-Make.ensures))
+    made_stopped (map string_bytes c.args.words.now) (outside_of (seen_of g.F.Files.told g.F.Files.faults g.F.Files.asked c.args.files.now c.args.files.now) g.H.Host.spoken
+    g.H.Host.log c.args.host.now c.make.new.host) c.in-Make.number
+    (c.in-Ok.ensures.config ∙ ap Some (sym c.in-Make.ensures)) (extends_none (g.F.Files.asked c.args.files.now)) _ c.make.result c.make.ensures.ends
 
 pub returns-in-Make-clause-answers : goal.returns-in-Make-clause-answers
 returns-in-Make-clause-answers g c =
@@ -74,14 +82,15 @@ returns-in-Make-clause-leaves g c =
 
 pub returns-in-Make-clause-asked : goal.returns-in-Make-clause-asked
 returns-in-Make-clause-asked g c =
-    c.make.ensures.asked (map string_bytes c.args.words.now) (g.F.Files.told c.args.files.now) (g.F.Files.faults c.args.files.now)
-    (g.F.Files.asked c.args.files.now) (c.in-Ok.ensures.config ∙ ap Some (sym c.in-Make.ensures))
+    made_asked (map string_bytes c.args.words.now) (outside_of (seen_of g.F.Files.told g.F.Files.faults g.F.Files.asked c.args.files.now c.args.files.now) g.H.Host.spoken
+    g.H.Host.log c.args.host.now c.make.new.host) c.in-Make.number
+    (c.in-Ok.ensures.config ∙ ap Some (sym c.in-Make.ensures)) (extends_none (g.F.Files.asked c.args.files.now)) c.make.result
 
 pub returns-in-Make-clause-asked_before : goal.returns-in-Make-clause-asked_before
 returns-in-Make-clause-asked_before g c =
-    c.make.ensures.asked_before (map string_bytes c.args.words.now) (g.F.Files.told c.args.files.now)
-    (g.F.Files.faults c.args.files.now) (g.F.Files.asked c.args.files.now)
-    (c.in-Ok.ensures.config ∙ ap Some (sym c.in-Make.ensures))
+    made_asked_before (map string_bytes c.args.words.now) (outside_of (seen_of g.F.Files.told g.F.Files.faults g.F.Files.asked c.args.files.now c.args.files.now) g.H.Host.spoken
+    g.H.Host.log c.args.host.now c.make.new.host) c.in-Make.number
+    (c.in-Ok.ensures.config ∙ ap Some (sym c.in-Make.ensures)) (extends_none (g.F.Files.asked c.args.files.now)) _ c.make.result c.make.ensures.ends
 
 -- ---- a command is to be answered
 

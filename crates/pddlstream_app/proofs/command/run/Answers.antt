@@ -9,7 +9,7 @@ use Rattle.pddlstream_app.proofs.LeavesLemmas.{leaves_closed, leaves_completed, 
 use Rattle.pddlstream_app.proofs.CompleteLemmas.{completes_closed, completes_cut, completes_done, sink_whole}
 use Rattle.pddlstream_app.specs.Asked.{AsksFiles}
 use Rattle.pddlstream_app.specs.Runs.{SparesHost}
-use Rattle.pddlstream_app.specs.declared.status.Status.TheVariants.{GeneratorFault, WriteFault}
+use Rattle.command_files.specs.declared.status.Status.TheVariants.{GeneratorFault, WriteFault}
 use Rattle.pddlstream_app.proofs.command.run.Goals as goal
 
 pub returns-in-Ok-clause-ends : goal.returns-in-Ok-clause-ends

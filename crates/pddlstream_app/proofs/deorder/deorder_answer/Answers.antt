@@ -3,10 +3,10 @@ use Rattle.round_run.proofs.StoppedLemmas.{handed_err}
 use Rattle.command_line.specs.Held.{held_replay}
 use Rattle.command_line.specs.Words.{deorder}
 use Rattle.pddlstream_app.proofs.AnswersLemmas.{asked_reported, deordered, ends_reported, reported_in}
-use Rattle.pddlstream_app.proofs.InputsLemmas.{ends_reading}
+use Rattle.pddlstream_app.proofs.NoInputLemmas.{ends_reading}
 use Rattle.pddlstream_app.specs.Answering.{IsMade}
-use Rattle.pddlstream_app.specs.Inputs.{files_named}
-use Rattle.pddlstream_app.specs.Outside.{seen_of}
+use Rattle.command_files.specs.Inputs.{files_named}
+use Rattle.command_files.specs.Outside.{seen_of}
 use Rattle.pddlstream_app.specs.Plans.{SaysOfReport, SaysOrder}
 use Rattle.pddlstream_app.proofs.deorder.deorder_answer.Goals as goal
 

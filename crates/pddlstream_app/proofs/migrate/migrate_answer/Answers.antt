@@ -1,13 +1,14 @@
 use Rattle.std.proofs.Common.{[], ◌∷◌, inl, inr, refl, subst, sym}
 use Rattle.round_run.proofs.StoppedLemmas.{handed_err}
 use Rattle.command_line.specs.Words.{migrate}
-use Rattle.pddlstream_app.proofs.InputsLemmas.{ends_first, ends_reading}
+use Rattle.command_files.proofs.InputsLemmas.{ends_first}
+use Rattle.pddlstream_app.proofs.NoInputLemmas.{ends_reading}
 use Rattle.pddlstream_app.specs.Answering.{IsMade}
-use Rattle.pddlstream_app.specs.Files.{file_of}
-use Rattle.pddlstream_app.specs.Inputs.{files_named}
-use Rattle.pddlstream_app.specs.Outside.{seen_of}
+use Rattle.command_files.specs.Files.{file_of}
+use Rattle.command_files.specs.Inputs.{files_named}
+use Rattle.command_files.specs.Outside.{seen_of}
 use Rattle.pddlstream_app.specs.Replays.{IsMigrated}
-use Rattle.pddlstream_app.specs.declared.stop.FileRole.TheVariants as role
+use Rattle.command_files.specs.declared.stop.FileRole.TheVariants as role
 use Rattle.pddlstream_app.proofs.migrate.migrate_answer.Goals as goal
 
 pub returns-in_err-bytes : goal.returns-in_err-bytes

@@ -1,0 +1,4 @@
+pub mod CausesLemmas
+pub mod HeadsLemmas
+pub mod MakingLemmas
+pub mod PoolsLemmas

@@ -1,0 +1,72 @@
+-- What is done to solve a task: the parts of a run before what it shows.
+use Rattle.std.specs.Prelude.{◌≡◌, ◌⊎◌, Option, Err, Ok, Result, ⊤}
+use Rattle.command_line.specs.Words.{SolveWords, solve}
+use Rattle.io_world.specs.FileMap.{FileMap}
+use Rattle.round_run.specs.Calls.{LogStops}
+use Rattle.level_run.specs.Reports.{IsBroken, IsReported}
+use Rattle.round_run.specs.declared.fault.RunFault.{RunFault}
+use Rattle.level_run.specs.declared.mode_run.Ran.{Ran}
+use Rattle.task_model.specs.Fit.{IsFit}
+use Rattle.task_model.specs.declared.task.Task.{Task}
+use Rattle.transcript_model.specs.declared.head.Head.{Head}
+use Rattle.command_files.specs.Inputs.{AsksAllOf, IsTaskOf, SolvesNothing}
+use Rattle.run_command.specs.Heads.{IsHeadOf}
+use Rattle.command_files.specs.Outside.{IsUntouched, Outside, Written}
+use Rattle.command_files.specs.declared.stop.Stop.{Stop}
+use Rattle.command_files.specs.declared.stop.Stop.TheVariants as stop
+use Rattle.command_files.specs.declared.status.Status.{Status}
+use Rattle.run_command.specs.Runs.{outcome_status}
+
+-- The files spell a task, and with the words they mean this head.
+pub record IsPosed (told : Option FileMap) (asked : SolveWords) (task : Task) (head : Head) : Type 0 where
+  pub spelled : IsTaskOf told asked.files task
+  pub fit : IsFit task
+  pub headed : IsHeadOf told asked task head
+
+-- The files were read, and the task's report was written.
+pub record IsSolved (asked : SolveWords) (outside : Outside) (written : Written) (ran : Ran) : Type 0 where
+  pub task : Task
+  pub head : Head
+  pub posed : IsPosed outside.files.told asked task head
+  pub reported : IsReported task head outside.spoken outside.was outside.now written.before written.after ran
+  pub unneeded : ran.asks ≡ 0 → IsUntouched outside
+  pub asks : AsksAllOf (solve asked) outside.files
+
+-- What the words name is no input, and nothing was done but that stops came.
+pub record IsUnposed (asked : SolveWords) (outside : Outside) (written : Written) (why : Stop) : Type 0 where
+  pub cause : SolvesNothing asked outside.files why
+  pub none : LogStops outside.was outside.now
+  pub nothing : written.after ≡ written.before
+
+-- The files were read, and the run over the task stopped.
+pub record IsUnsolved (asked : SolveWords) (outside : Outside) (written : Written) (why : Stop) : Type 0 where
+  pub fault : RunFault
+  pub is : why ≡ stop.Run fault
+  pub task : Task
+  pub head : Head
+  pub posed : IsPosed outside.files.told asked task head
+  pub broken : IsBroken task head outside.spoken outside.was outside.now written.before written.after fault
+  pub asks : AsksAllOf (solve asked) outside.files
+
+-- why a task has no report
+abbrev pub HasNoReport : SolveWords → Outside → Written → Stop → Type 0
+HasNoReport asked outside written why =
+    IsUnposed asked outside written why ⊎ IsUnsolved asked outside written why
+
+-- ---- how it ends
+
+-- the run stopped at the words, a file or a text
+abbrev pub IsAtText : Stop → Type 0
+IsAtText (stop.Run f) = ⊥
+IsAtText why = ⊤
+
+-- The task was solved, and the run ends as its outcome says.
+pub record EndsSolved (asked : SolveWords) (outside : Outside) (written : Written) (status : Status) : Type 0 where
+  pub ran : Ran
+  pub kind : status ≡ outcome_status ran.outcome
+  pub solved : IsSolved asked outside written ran
+
+-- the task was solved, and the run ends so; or it has no report, for this cause
+abbrev pub SolvesRun : SolveWords → Outside → Written → Result Status Stop → Type 0
+SolvesRun asked outside written (Ok status) = EndsSolved asked outside written status
+SolvesRun asked outside written (Err why) = HasNoReport asked outside written why

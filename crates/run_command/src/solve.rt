@@ -1,0 +1,106 @@
+//! Solving a task.
+ghost use Rattle.std.specs.Prelude.{◌≡◌, ℕ, false, IfOk, IfErr};
+ghost use Rattle.io_world.specs.Faults.{last_count, HasCause};
+ghost use Rattle.command_files.specs.Outside.{outside_of, seen_of, written_of};
+ghost use Rattle.command_files.specs.Paths.{held_files};
+ghost use Rattle.run_command.specs.Solving.{HasNoReport, IsAtText, IsSolved, SolvesRun};
+ghost use Rattle.run_command.specs.Runs.{outcome_status};
+ghost use Rattle.command_line.specs.Held.{held_solve};
+ghost use Rattle.command_line.specs.Ranges.{AreInRange};
+ghost use Rattle.round_run.specs.declared.fault.RunFault.TheVariants as fault;
+ghost use Rattle.command_files.specs.declared.stop.Stop.TheVariants.{Run};
+
+use crate::head::head_of;
+use crate::modes::run_in_mode;
+use command_files::{Status, Stop, TaskPaths, meant_pools, place_grid, read_task};
+use command_line::SolveConfig;
+use io_world::{Files, Host, Sink};
+use level_run::Ran;
+use std::alloc::Global;
+use transcript_model::Outcome;
+
+/// How a run ends that has this outcome.
+pub(crate) fn status_of(outcome: &Outcome) -> Status
+    ensures { result ≡ outcome_status outcome.now }
+{
+    match outcome {
+        Outcome::Plan { .. } => Status::Plan,
+        Outcome::NoPlan => Status::NoPlan,
+        Outcome::Limit(_) => Status::Limit,
+    }
+}
+
+/// The paths of the task's texts.
+fn paths_of(words: &SolveConfig) -> TaskPaths<'_>
+    ensures { held_files result ≡ (held_solve words.now).files }
+{
+    TaskPaths {
+        domain: words.domain.as_str(),
+        problem: words.problem.as_str(),
+        streams: words.streams.as_str(),
+    }
+}
+
+/// Reads the files, and writes the report of the task that they spell.
+pub(crate) fn report<F: Files, H: Host, O: Sink>(
+    alloc: Global,
+    words: &SolveConfig,
+    files: &mut F,
+    host: &mut H,
+    out: &mut O,
+) -> Result<Ran, Stop>
+    requires within { AreInRange (held_solve words.now) }
+    requires idle { (k : ℕ) → H.running host.old k ≡ false }
+    ensures solved { IfOk result (IsSolved (held_solve words.now) (outside_of (seen_of F.told
+        F.faults F.asked files.old files.new) H.spoken H.log host.old host.new)
+        (written_of O.taken out.old out.new)) }
+    ensures failed { IfErr result (HasNoReport (held_solve words.now) (outside_of (seen_of F.told
+        F.faults F.asked files.old files.new) H.spoken H.log host.old host.new)
+        (written_of O.taken out.old out.new)) }
+    ensures idle { (k : ℕ) → H.running host.new k ≡ false }
+    ensures leaves { IfErr result (λ why. IsAtText why → host.new ≡ host.old) }
+    ensures host { HasCause (Run fault.Generator) H.last (H.faults host.old) (H.faults host.new)
+        result }
+    ensures sink { HasCause (Run fault.Write) last_count (O.faults out.old) (O.faults out.new)
+        result }
+{
+    let paths = paths_of(words);
+    let task = read_task(alloc, files, &paths)?;
+    let meant = meant_pools(alloc, files, words, &task)?;
+    let pools = place_grid(alloc, files, meant)?;
+    let head = head_of(words, pools);
+    match run_in_mode(alloc, &task, &head, host, out) {
+        Ok(ran) => Ok(ran),
+        Err(fault) => Err(Stop::Run(fault)),
+    }
+}
+
+/// Solves the task that the files spell, as `solve` (this project): reads the files, writes the
+/// report, and answers how the run ends. The numbers of the words are in their ranges, and no child
+/// runs before it and after it. Where the run stops, the cause is answered, and the line that tells
+/// it isn't written: a file or text (`Input`, `Map`, `Grid`, `Failed`, `TooLong`), a bad answer, a
+/// fault of the generator or of the sink, or want of memory (`Run`).
+pub fn solve<F: Files, H: Host, O: Sink>(
+    alloc: Global,
+    words: &SolveConfig,
+    files: &mut F,
+    host: &mut H,
+    out: &mut O,
+) -> Result<Status, Stop>
+    requires within { AreInRange (held_solve words.now) }
+    requires idle { (k : ℕ) → H.running host.old k ≡ false }
+    ensures ends { SolvesRun (held_solve words.now) (outside_of (seen_of F.told F.faults F.asked
+        files.old files.new) H.spoken H.log host.old host.new)
+        (written_of O.taken out.old out.new) result }
+    ensures idle { (k : ℕ) → H.running host.new k ≡ false }
+    ensures leaves { IfErr result (λ why. IsAtText why → host.new ≡ host.old) }
+    ensures host { HasCause (Run fault.Generator) H.last (H.faults host.old) (H.faults host.new)
+        result }
+    ensures sink { HasCause (Run fault.Write) last_count (O.faults out.old) (O.faults out.new)
+        result }
+{
+    match report(alloc, words, files, host, out) {
+        Ok(ran) => Ok(status_of(&ran.outcome)),
+        Err(stop) => Err(stop),
+    }
+}
