@@ -13,14 +13,16 @@ use Rattle.transcript_model.specs.declared.entry.Entry.{Entry}
 use Rattle.transcript_model.specs.declared.entry.Entry.TheVariants as entry
 use Rattle.transcript_model.specs.declared.report.Report.{Report}
 use Rattle.replay_check.proofs.FindingsLemmas.{not_later}
-use Rattle.replay_check.proofs.LinesLemmas.{entry_long, line_within, lines_past, lines_rise, offset_few, report_count}
+use Rattle.legal_report.proofs.LinesLemmas.{lines_past, lines_rise}
+use Rattle.replay_check.proofs.LinesLemmas.{entry_long, line_within, offset_few, report_count}
 use Rattle.replay_check.proofs.PlacesLemmas.{stops}
 use Rattle.replay_check.proofs.RightEntriesLemmas.{entry_right}
 use Rattle.replay_check.proofs.RightReportLemmas.{head_right}
 use Rattle.replay_check.specs.Breaches.{BreaksEntry, BreaksEntries, BreaksOutcome, IsBreach}
 use Rattle.replay_check.specs.Findings.{IsRightFinding, NoneEarlier}
 use Rattle.replay_check.specs.Heads.{IsFitReportHead, reported_limits}
-use Rattle.replay_check.specs.Lines.{Precedes, line_of, outcome_line}
+use Rattle.legal_report.specs.Lines.{line_of}
+use Rattle.replay_check.specs.Lines.{Precedes, outcome_line}
 use Rattle.replay_check.specs.Standings.{AreBounds, IsStanding, NoLineEarlier, limits_by}
 use Rattle.replay_check.specs.Verdicts.{HasOpenNone, IsOpenNone, IsReportVerdict, IsUndecidedAt, IsUndecidedClaim, NonePrecedes}
 use Rattle.replay_check.specs.Walks.{IsOpenAt, IsWrongAt}

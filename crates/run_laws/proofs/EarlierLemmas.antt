@@ -1,19 +1,17 @@
 -- What is said in protocol 1 by a table is said in protocol 2 too.
-use Rattle.std.proofs.Common.{◌≡◌, ℕ, ◌∙◌, Bool, true, false, ◌&&◌, ◌||◌, ◌==◌, append-nil, eqb-true, length, not, nat_lt, List, [], ◌∷◌, ◌++◌, refl, sym, subst, ap, Option, None, Some, All, bytes_eq, codes, if◌then◌else◌, slice_get}
+use Rattle.std.proofs.Common.{◌≡◌, ℕ, ◌∙◌, Bool, true, false, ◌&&◌, ◌==◌, append-nil, eqb-true, length, List, [], ◌∷◌, ◌++◌, refl, sym, subst, ap, Option, None, Some, All, bytes_eq, codes, if◌then◌else◌, slice_get}
 use Rattle.std.proofs.lemmas.List.Elements.{All-cons, All-head, All-nil, All-tail}
 use Rattle.std.proofs.lemmas.List.Splits.{slice_split_none}
 use Rattle.std.specs.Cmp.{first_so, second_so}
-use Rattle.std.specs.List.{list_all, slice_split}
+use Rattle.std.specs.List.{list_all}
 use Rattle.std.specs.Option.{is_none}
-use Rattle.gen_lines.specs.Reply.{Reply, are_of_width, bad, ends, fields, has_bars, is_bar, is_value, is_value_byte, joined_tuples, number, parted, reply_of, reply_of_fields, yield_reply, yields}
+use Rattle.gen_lines.specs.Reply.{Reply, are_of_width, bad, ends, fields, has_bars, is_bar, is_value, is_value_byte, number, parted, reply_of, reply_of_fields, yield_reply, yields}
 use Rattle.gen_lines.specs.declared.answer.Wanted.TheVariants as wanted
 use Rattle.gen_lines.specs.declared.answer.Why.{Why}
 use Rattle.gen_lines.specs.declared.answer.Why.TheVariants.{Count, Value}
-use Rattle.io_world.specs.Talks.{Talk}
 use Rattle.round_run.specs.Dialogue.{called_stream}
 use Rattle.run_laws.specs.Tables.{EarlierTalksStay}
 use Rattle.session_core.specs.Slots.{wanted_at}
-use Rattle.table_runs.specs.Asking.{Asking}
 use Rattle.task_model.specs.declared.stream.Stream.{Stream}
 use Rattle.task_model.specs.declared.task.Task.{Task}
 use Rattle.transcript_model.specs.Tables.{IsTable, IsTableRow, MayAnswer, TableRow, reply_in, same_call}

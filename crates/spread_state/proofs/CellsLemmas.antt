@@ -1,6 +1,5 @@
 -- Atoms in cells, and the set that they make.
-use Rattle.std.proofs.Common.{◌≡◌, ◌≢◌, ◌⊎◌, ◌==◌, ◌*◌, ◌%◌, inl, inr, ℕ, eqb-true, eq-eqb, fold, zero, suc, ◌+◌, ◌-◌, ◌<◌, ◌≤◌, Bool, true, false, ◌||◌, ◌&&◌, not, List, [], ◌∷◌, ◌++◌, length, get_or, replicate, refl, sym, ap, ◌∙◌, subst, arith, slice_set}
-use Rattle.std.proofs.Math.ListN.{set}
+use Rattle.std.proofs.Common.{◌≡◌, ◌≢◌, ◌⊎◌, ◌==◌, ◌*◌, ◌%◌, inl, inr, ℕ, eqb-true, eq-eqb, fold, zero, suc, ◌+◌, ◌-◌, ◌<◌, Bool, true, false, ◌||◌, ◌&&◌, not, List, [], ◌∷◌, ◌++◌, length, get_or, replicate, refl, sym, ap, ◌∙◌, subst, arith, slice_set}
 use Rattle.std.proofs.lemmas.Bool.{false≢true}
 use Rattle.std.specs.Cmp.{second_so}
 use Rattle.std.proofs.lemmas.List.{get_or-set_other, get_or-set_same, length-replicate, length-set}
@@ -13,7 +12,7 @@ use Rattle.spread_state.specs.declared.cells.TheConstants.{CELLS}
 use Rattle.task_model.proofs.StateLemmas.{contains-empty, contains-from_list, contains-insert, contains-remove, contains-with_atoms, same_atoms}
 use Rattle.task_model.proofs.StateOrderLemmas.{same_is, ties}
 use Rattle.task_model.specs.AtomOrder.{atom_cmp}
-use Rattle.task_model.specs.State.{Atoms, contains, empty, from_list, insert, items, remove, with_atoms}
+use Rattle.task_model.specs.State.{Atoms, contains, empty, insert, items, remove, with_atoms}
 use Rattle.task_model.specs.declared.fact.Atom.{Atom}
 
 abbrev same : Atom → Atom → Bool

@@ -1,5 +1,5 @@
 -- Told files are judged in one way.
-use Rattle.std.proofs.Common.{◌≡◌, ◌⊎◌, inl, inr, ℕ, ◌<◌, ◌≤◌, List, [], length, refl, sym, ap, subst, ◌∙◌, arith, Option, None, Some, option_map, Ok, Err}
+use Rattle.std.proofs.Common.{◌≡◌, ℕ, List, [], refl, sym, ap, subst, ◌∙◌, Option, None, Some}
 use Rattle.std.proofs.lemmas.Option.{same_Some}
 use Rattle.io_world.specs.FileMap.{FileMap}
 use Rattle.legal_report.proofs.LawsLemmas.{one_transcript}

@@ -7,7 +7,7 @@ use Rattle.legal_report.proofs.LawsLemmas as reports
 use Rattle.legal_report.specs.Reports.{RefusesReport, SpellsTranscript}
 use Rattle.legal_report.specs.declared.flaw.ReportFlaw.{ReportFlaw}
 use Rattle.plan_reader.specs.Claims.{claimed_cost}
-use Rattle.plan_reader.specs.Plans.{RefusesPlan, SpellsPlan, WrongLine, plan_of}
+use Rattle.plan_reader.specs.Plans.{RefusesPlan, SpellsPlan, WrongLine}
 use Rattle.problem_reader.specs.Problems as problem_texts
 use Rattle.stream_reader.specs.Reading as stream_texts
 use Rattle.task_reader.proofs.SpelledLemmas.{domain_not_refused, problem_not_refused, streams_not_refused}

@@ -1,5 +1,5 @@
 -- Steps that are taken one after another.
-use Rattle.std.proofs.Common.{◌≡◌, ℕ, ◌+◌, suc, ◌<◌, List, [], ◌∷◌, ◌++◌, take, length, refl, sym, ap, subst, ◌∙◌, arith, Some, slice_get}
+use Rattle.std.proofs.Common.{◌≡◌, ℕ, ◌+◌, suc, List, [], ◌∷◌, ◌++◌, take, refl, sym, ◌∙◌, arith, Some, slice_get}
 use Rattle.std.proofs.lemmas.List.{map-append}
 use Rattle.lemmas.proofs.Members.{take_next}
 use Rattle.shown_steps.proofs.RunsLemmas.{step_shown}

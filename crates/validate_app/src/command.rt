@@ -1,5 +1,5 @@
 //! The program's call.
-ghost use Rattle.std.specs.Prelude.{◌≡◌, ◌≤◌, ◌⊎◌, List, ℕ, map, string_bytes, IfOk, IfErr};
+ghost use Rattle.std.specs.Prelude.{◌≡◌, ◌≤◌, ◌⊎◌, map, string_bytes, IfOk, IfErr};
 ghost use Rattle.io_world.specs.Faults.{last_count, Rose};
 ghost use Rattle.validate_app.specs.Files.{texts_seen_of};
 ghost use Rattle.validate_app.specs.Held.{held_paths};

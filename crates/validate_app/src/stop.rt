@@ -1,6 +1,5 @@
 //! Why a run has no verdict.
 ghost use Rattle.std.specs.Prelude.{◌≡◌};
-ghost use Rattle.task_reader.specs.Refusals.{Refuses};
 ghost use Rattle.validate_app.specs.Files.{most_text_bytes};
 ghost use Rattle.validate_app.specs.Told.{text_role_word};
 ghost use Rattle.validate_app.specs.Inputs.{text_stop};

@@ -1,4 +1,4 @@
-use Rattle.std.proofs.Common.{◌≡◌, ◌+◌, ◌≤◌, length, sym, subst, arith, Some}
+use Rattle.std.proofs.Common.{◌≡◌, ◌+◌, ◌≤◌, length, sym, subst, arith}
 use Rattle.task_reader.specs.Refusals.{Refuses}
 use Rattle.plan_reader.proofs.PlansLemmas.{IsLeft, all_left, few_lines, line_read, lines_left, rest_left, rest_shorter, steps_left, text_refused}
 use Rattle.plan_reader.specs.Lines.{text_lines}

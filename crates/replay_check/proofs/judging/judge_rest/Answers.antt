@@ -3,9 +3,10 @@ use Rattle.std.specs.List.{flat_map}
 use Rattle.report_text.specs.Texts.{entry_lines}
 use Rattle.transcript_model.specs.declared.entry.Entry.{Entry}
 use Rattle.replay_check.proofs.VerdictsLemmas.{entries_few, entry_found, entry_line_few, open_found}
-use Rattle.replay_check.proofs.LinesLemmas.{lines_front, report_count}
+use Rattle.legal_report.proofs.LinesLemmas.{lines_front}
+use Rattle.replay_check.proofs.LinesLemmas.{report_count}
 use Rattle.replay_check.specs.Judgings.{IsEnded}
-use Rattle.replay_check.specs.Lines.{line_of}
+use Rattle.legal_report.specs.Lines.{line_of}
 use Rattle.replay_check.specs.Walks.{IsOpenAt, IsWalked, IsWrongAt}
 use Rattle.replay_check.specs.declared.judging.Ended.TheVariants.{Invalid}
 use Rattle.replay_check.proofs.judging.judge_rest.Goals as goal

@@ -1,5 +1,5 @@
 use Rattle.std.proofs.Common.{inr, ◌<◌, ◌^◌, length, arith}
-use Rattle.replay_check.proofs.LinesLemmas.{report_short}
+use Rattle.legal_report.proofs.LinesLemmas.{report_short}
 use Rattle.report_text.specs.Texts.{lines_of_report}
 use Rattle.replay_check.proofs.judging.replay_whole.Goals as goal
 

@@ -1,8 +1,5 @@
-use Rattle.std.proofs.Common.{rules, ◌≡◌, ◌<◌, length, sym, ap, ◌∙◌, arith, get_or}
-use Rattle.task_model.specs.Roles.{role_of}
-use Rattle.task_model.specs.declared.domain.Role.TheVariants as role
+use Rattle.std.proofs.Common.{rules}
 use Rattle.formula_eval.proofs.ConditionPartLemmas.{readable_part}
-use Rattle.formula_eval.proofs.ReadableLemmas.{fluent_at, role_kept, roles_length, static_at}
 use Rattle.formula_eval.proofs.WeightLemmas.{part_lighter}
 use Rattle.spread_state.proofs.truth.+truth.Goals as goal
 

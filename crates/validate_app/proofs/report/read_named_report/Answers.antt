@@ -1,4 +1,4 @@
-use Rattle.validate_app.proofs.InputsLemmas.{report_flawed, report_named, report_there, stops_there}
+use Rattle.validate_app.proofs.InputsLemmas.{report_named, stops_there}
 use Rattle.validate_app.specs.Held.{held_paths, held_report}
 use Rattle.validate_app.specs.declared.stop.FileRole.TheVariants.{Report}
 use Rattle.validate_app.proofs.report.read_named_report.Goals as goal

@@ -1,4 +1,4 @@
-use Rattle.std.proofs.Common.{◌≡◌, ◌∙◌, ap, arith, sym}
+use Rattle.std.proofs.Common.{◌∙◌, ap, arith, sym}
 use Rattle.spread_state.proofs.CellsLemmas.{contains_in, get_or_any}
 use Rattle.spread_state.specs.Cells.{cell_in}
 use Rattle.task_model.specs.State.{contains, empty}

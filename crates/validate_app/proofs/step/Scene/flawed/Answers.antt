@@ -1,4 +1,4 @@
-use Rattle.std.proofs.Common.{sym, subst}
+use Rattle.std.proofs.Common.{subst}
 use Rattle.plan_check.specs.Faults.{StepFails}
 use Rattle.validate_app.proofs.StepsLemmas.{action_there, cost_fails, types_fail}
 use Rattle.validate_app.proofs.step.Scene.flawed.Goals as goal

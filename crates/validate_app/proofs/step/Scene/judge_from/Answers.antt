@@ -1,4 +1,4 @@
-use Rattle.std.proofs.Common.{◌≡◌, ◌+◌, sym, ap, refl, subst, ◌∙◌, arith, take, take_all, add-one}
+use Rattle.std.proofs.Common.{◌+◌, sym, ap, refl, subst, ◌∙◌, arith, take, take_all, add-one}
 use Rattle.formula_eval.proofs.ReadableLemmas.{fit_readable}
 use Rattle.lemmas.proofs.Bools.{not_both}
 use Rattle.lemmas.proofs.ListTests.{get_some}
