@@ -64,7 +64,7 @@ module _ (c : In-Breaks) where
   first_is : c.line_of-first.result ≡ outcome_line c.args.report.now
   first_is =
       let all = take_all (length c.as_slice-entries.result.now) c.args.report.now.entries
-          (omega (arith, ap (λ (es : List Entry). length es) c.as_slice-entries.ensures)) in
+      (omega (arith, ap (λ (es : List Entry). length es) c.as_slice-entries.ensures)) in
       c.line_of-first.ensures ∙ ap (λ (es : List Entry). length c.args.report.now.pools + 3 + length (flat_map entry_lines es)) all
 
   few : c.line_of-first.result + c.in-Breaks.line < 2 ^ 31
