@@ -1,5 +1,7 @@
 -- Why a run stops at a file, and that no streams are fit.
-use Rattle.std.proofs.Common.{◌≡◌, ℕ, ◌≤◌, List, [], ◌∷◌, refl, sym, ap, subst, arith, Option, None, Some, option_map}
+use Rattle.std.proofs.Common.{◌≡◌, ℕ, ◌≤◌, List, [], ◌∷◌, refl, sym, ap, subst, arith, Option, None, Some, option_map, Result}
+use Rattle.std.proofs.lemmas.Result.{IfErr-weaker}
+use Rattle.std.specs.Prelude.{IfErr}
 use Rattle.lemmas.specs.Lists.{LeadsAlong}
 use Rattle.io_world.specs.FileMap.{FileMap}
 use Rattle.legal_report.specs.Reports.{RefusesReport, SpellsTranscript}
@@ -23,6 +25,12 @@ use Rattle.validate_app.specs.declared.stop.FileRole.{FileRole}
 use Rattle.validate_app.specs.declared.stop.FileRole.TheVariants.{Domain, Problem, Streams, Report, Plan}
 use Rattle.validate_app.specs.declared.stop.Stop.{Stop}
 use Rattle.validate_app.specs.declared.stop.Stop.TheVariants as stop
+
+-- where a run stops for want of memory alone, it may stop
+pub memory_stops : {T : Type 0} (files : TextsSeen) (w : ValidateWords) (r : Result T Stop)
+    → IfErr r (λ s. s ≡ stop.Memory) → IfErr r (StopsAtText files w)
+memory_stops files w r h =
+    IfErr-weaker r (λ s. s ≡ stop.Memory) (StopsAtText files w) (λ s is. subst (StopsAtText files w) (sym is) tt) h
 
 module _ (told : Option FileMap) (w : ValidateWords) where
   -- what is so of the text is so of the file's bytes
