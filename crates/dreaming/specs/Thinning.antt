@@ -66,8 +66,8 @@ module _ (task : Task) (d : Dreamable) (steps : List GroundAction) where
   AreNeededOf places from to =
       (cost : ℕ) → ¬ (IsValidWith task d steps (places_without task d.base d.list places from to) cost)
 
-  -- With the first places, and behind them those of the others that have support by then, the plan is valid and they are
-  -- kept; or it isn't valid with them.
+  -- With the first places, and behind them those of the others that have support by then, the plan is valid and they
+  -- are kept; or it isn't valid with them.
   abbrev pub IsTriedOf : List ℕ → List ℕ → Option Kept → Type 0
   IsTriedOf first others (Some k) =
       (k.places.items ≡ supported_places task d.base d.list first others)
@@ -88,7 +88,8 @@ IsWanted w object = get_or w.flags.items object false ≡ true
 -- an output of the entry at this place is wanted
 abbrev pub HasWanted : Dreamable → Wanted → ℕ → Type 0
 HasWanted d w place =
-    (e : SupposedEntry) × (slice_get d.list place ≡ Some e) × (object : ℕ) × Contains e.outputs object × IsWanted w object
+    (e : SupposedEntry) × (slice_get d.list place ≡ Some e) × (object : ℕ) × Contains e.outputs object
+    × IsWanted w object
 
 module _ (task : Task) (d : Dreamable) (steps : List GroundAction) where
   -- this place is among any places whose entries have support, and with which the plan is valid

@@ -54,9 +54,11 @@ same_task files later paths others t u same x y =
     let domain : y.domain ≡ x.domain =
     same_bytes files later paths.domain others.domain x.domain y.domain same.domain x.are.0.held y.are.0.held in
     let problem : y.problem ≡ x.problem =
-    same_bytes files later paths.problem others.problem x.problem y.problem same.problem x.are.1.0.held y.are.1.0.held in
+    same_bytes files later paths.problem others.problem x.problem y.problem same.problem x.are.1.0.held
+    y.are.1.0.held in
     let streams : y.streams ≡ x.streams =
-    same_bytes files later paths.streams others.streams x.streams y.streams same.streams x.are.1.1.0.held y.are.1.1.0.held in
+    same_bytes files later paths.streams others.streams x.streams y.streams same.streams x.are.1.1.0.held
+    y.are.1.1.0.held in
     one_task x.domain x.problem x.streams u t
     (subst (λ b. SpellsTask x.domain x.problem b u) streams
     (subst (λ b. SpellsTask x.domain b y.streams u) problem
@@ -72,7 +74,8 @@ same_work words asked (solving w) one two = let both = sym one ∙ two in ap sol
 same_work words asked (making n) one two = let both = sym one ∙ two in absurd (cc)
 
 pub solved_valid : SolvedReportsAreValid
-solved_valid files later words others outside after status end text said asked judging meant judges solved answer first second same report le =
+solved_valid files later words others outside after status end text said asked judging meant judges solved answer
+    first second same report le =
     let judged = answer_judged others after end said judging judges answer in
     let run = solved.run in
     let work : run.work ≡ solving asked = same_work words asked run.work run.meant meant in
@@ -99,6 +102,7 @@ solved_valid files later words others outside after status end text said asked j
     let most = judged.short in
     let short : length whole < 2 ^ 31 = omega (arith, most, ap length wrote) in
     let states : run.head.states ≤ judging.states = omega (arith, le, headed.states) in
-    let valid : judged.verdict ≡ Valid = written_valid run.task run.head run.entries solved.outcome run.fit can solved.turns
+    let valid : judged.verdict ≡ Valid =
+    written_valid run.task run.head run.entries solved.outcome run.fit can solved.turns
     judging.states judged.verdict short states verdict in
     (sym judged.kind ∙ ap kind_of_verdict valid, judged.is ∙ ap verdict_text valid)

@@ -65,13 +65,15 @@ module _ (width : ℕ) (given : List (List ℕ)) where
       → yield_reply width (parted (has_bars width true) given) ≡ yield_reply width (given ∷ [])
   same_yield good = ap (yield_reply width) (same_parts (has_bars width true) (are_values good))
 
-same_fields : (width : ℕ) (line : List (List ℕ)) → ((why : Why) → ¬ (reply_of_fields (wanted.Outputs width false) line ≡ bad why))
+same_fields : (width : ℕ) (line : List (List ℕ))
+    → ((why : Why) → ¬ (reply_of_fields (wanted.Outputs width false) line ≡ bad why))
     → reply_of_fields (wanted.Outputs width true) line ≡ reply_of_fields (wanted.Outputs width false) line
 same_fields width [] good = refl
 same_fields width (word ∷ given) good = by (bytes_eq word (codes "end")) (bytes_eq word (codes "yield")) refl refl
   where
     by : (ends yield : Bool) → bytes_eq word (codes "end") ≡ ends → bytes_eq word (codes "yield") ≡ yield
-        → reply_of_fields (wanted.Outputs width true) (word ∷ given) ≡ reply_of_fields (wanted.Outputs width false) (word ∷ given)
+        → reply_of_fields (wanted.Outputs width true) (word ∷ given)
+        ≡ reply_of_fields (wanted.Outputs width false) (word ∷ given)
     by true yield e y = (rw e refl)
     by false true e y = (rw (e, y) (same_yield width given (λ why is. good why (rw (e, y) is))))
     by false false e y = (rw (e, y) refl)
@@ -79,11 +81,13 @@ same_fields width (word ∷ given) good = by (bytes_eq word (codes "end")) (byte
 -- ---- tables
 
 -- a table says nothing that may not stand
-never_bad : (version : ℕ) (task : Task) (rows : List TableRow) → IsTable version task rows → (call : Call) (turn : ℕ) (why : Why)
+never_bad : (version : ℕ) (task : Task) (rows : List TableRow) → IsTable version task rows
+    → (call : Call) (turn : ℕ) (why : Why)
     → ¬ (reply_in rows call turn ≡ bad why)
 never_bad version task [] are call turn why = λ is. absurd (cc)
 never_bad version task (row ∷ rows) are call turn why =
-    by (same_call row.call call && (row.turn == turn)) (never_bad version task rows (All-tail (IsTableRow version task) row rows are) call turn why)
+    by (same_call row.call call && (row.turn == turn))
+    (never_bad version task rows (All-tail (IsTableRow version task) row rows are) call turn why)
   where
     no : (reply : Reply) (stream : Stream) → MayAnswer version stream reply → ¬ (reply ≡ bad why)
     no (yields tuples values) stream may is = absurd (cc)
@@ -144,7 +148,8 @@ same_reply task stream line = by (slice_get task.streams stream) refl
       where
         of : (costless : Bool) → is_none s.worth ≡ costless
             → reply_of line (wanted_at task 2 stream) ≡ reply_of line (wanted_at task 1 stream)
-        of true none = (rw (is, none) (same_fields (length s.outputs) (fields line) (λ why failed. good why (rw (is, none) failed))))
+        of true none = (rw (is, none) (same_fields (length s.outputs) (fields line)
+            (λ why failed. good why (rw (is, none) failed))))
         of false some = (rw (is, some) refl)
 
 pub earlier_stay : EarlierTalksStay

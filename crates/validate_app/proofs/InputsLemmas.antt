@@ -57,12 +57,14 @@ module _ (told : Option FileMap) (w : ValidateWords) where
         → (text : List ℕ) → text ≡ bytes → (entries : List Entry) → SpellsTranscript task text entries
         → IsTranscriptOf told w task entries
     report_there task bytes has text is entries spelled =
-        let there = holds Report r.report report_named bytes has text is (λ b. SpellsTranscript task b entries) spelled in
+        let there = holds Report r.report report_named bytes has text is
+        (λ b. SpellsTranscript task b entries) spelled in
         subst (IsTranscriptBy told w task entries) (sym certified) there
 
 module _ (files : TextsSeen) (w : ValidateWords) where
   -- behind accepted texts a run stops at the file that isn't read
-  pub stops_there : (which : FileRole) → AreAcceptedBefore files.told w which → (path : List ℕ) → path_of w which ≡ Some path
+  pub stops_there : (which : FileRole) → AreAcceptedBefore files.told w which → (path : List ℕ) → path_of w which
+      ≡ Some path
       → (why : Stop) → EndsAt files which path why → StopsAtText files w why
   stops_there which accepted path named stop.Usage ends = absurd ends
   stops_there which accepted path named (stop.Refused other kind place) ends = absurd ends
@@ -74,7 +76,8 @@ module _ (files : TextsSeen) (w : ValidateWords) where
   stops_there which accepted path named stop.Memory ends = tt
 
   pub domain_refused : (bytes : List ℕ) → HasTextBytes files.told Domain w.domain bytes → (text : List ℕ) → text ≡ bytes
-      → (why : InputRefusal) → Refuses (RefusesDomain text) why → (s : Stop) → s ≡ text_stop Domain why → StopsAtText files w s
+      → (why : InputRefusal) → Refuses (RefusesDomain text) why → (s : Stop) → s ≡ text_stop Domain why
+      → StopsAtText files w s
   domain_refused bytes has text is (refusal.At kind place) r s so =
       subst (StopsAtText files w) (sym so)
       (holds files.told w Domain w.domain refl bytes has text is (λ b. RefusesDomain b kind place) r)
@@ -109,7 +112,8 @@ module _ (files : TextsSeen) (w : ValidateWords) (r : ReportWords) (certified : 
         holds files.told w Streams r.streams (streams_named files.told w r certified) bytes has text is
             (λ b. RefusesStreams d b kind place) refused,
       )
-  streams_refused d there problem bytes has text is refusal.Memory refused s so = subst (StopsAtText files w) (sym so) tt
+  streams_refused d there problem bytes has text is refusal.Memory refused s so =
+      subst (StopsAtText files w) (sym so) tt
 
   pub report_flawed : (task : Task) → IsPlainTaskOf files.told w task → (bytes : List ℕ)
       → HasTextBytes files.told Report r.report bytes → (text : List ℕ) → text ≡ bytes → (line : ℕ) (flaw : ReportFlaw)
@@ -128,7 +132,8 @@ module _ (told : Option FileMap) (first mid last : ℕ) (earlier : first ≤ mid
       → StopsAtText (record { told = told; first = first; last = last }) w why
   stops_since later same stop.Usage n = absurd n
   stops_since later same (stop.Refused which kind place) n =
-      subst (λ t. StopsAtText (record { told = t; first = first; last = last }) w (stop.Refused which kind place)) same n
+      subst (λ t. StopsAtText (record { told = t; first = first; last = last }) w (stop.Refused which kind place))
+      same n
   stops_since later same (stop.Flawed line flaw) n =
       subst (λ t. StopsAtText (record { told = t; first = first; last = last }) w (stop.Flawed line flaw)) same n
   stops_since later same (stop.Failed which) n =

@@ -32,7 +32,8 @@ returns-in-Holds c =
     subst (IsRightFinding (limits_by b) b.limit b.task.now c.as_slice-entries.result.now r.outcome) c.in-Holds.is
     c.in_ok-judge_outcome.ensures in (
       right_end b r c.requires.bounds c.requires.head c.requires.limits c.args.standing.value c.requires.standing
-          (subst (λ (es : List Entry). IsRightFinding (limits_by b) b.limit b.task.now es r.outcome finding.Holds) c.as_slice-entries.ensures
+          (subst (λ (es : List Entry). IsRightFinding (limits_by b) b.limit b.task.now es r.outcome finding.Holds)
+          c.as_slice-entries.ensures
           found),
       c.requires.standing.stands.ledger.known,
     )

@@ -16,7 +16,8 @@ read_report-requires-clause-fit g c = subst IsFit (sym c.deref.ensures) c.in-Ok.
 pub read_report-requires-clause-task : goal.read_report-requires-clause-task
 read_report-requires-clause-task g c =
     subst (λ told. IsPlainTaskOf told (held_paths c.args.paths.now) c.deref.result.now) (sym c.read_task.ensures.same)
-    (subst (IsPlainTaskOf (g.F.Files.told c.args.files.now) (held_paths c.args.paths.now)) (sym c.deref.ensures) c.in-Ok.ensures.task)
+    (subst (IsPlainTaskOf (g.F.Files.told c.args.files.now) (held_paths c.args.paths.now))
+    (sym c.deref.ensures) c.in-Ok.ensures.task)
 
 pub read_plan-requires : goal.read_plan-requires
 read_plan-requires g c =
@@ -27,7 +28,8 @@ read_plan-requires g c =
           (sym (c.read_report.ensures.same ∙ c.read_task.ensures.same)) c.in-Ok.ensures.task,
       subst (λ told. IsTranscriptOf told (held_paths c.args.paths.now) c.in-Ok.task.value known.0)
           (sym c.read_report.ensures.same)
-          (subst (λ (task : Task). IsTranscriptOf _ (held_paths c.args.paths.now) task known.0) c.deref.ensures known.1),
+          (subst (λ (task : Task). IsTranscriptOf _ (held_paths c.args.paths.now) task known.0) c.deref.ensures
+          known.1),
     )
 
 pub returns-in-Err-read_report-clause-stop : goal.returns-in-Err-read_report-clause-stop

@@ -16,7 +16,8 @@ returns-in-Ok-clause-known g c =
     ([], no_report_named _ _ (ap (option_map held_report) c.in-None.is) c.args.task.now, (c.in-Ok.ensures 1).known) in
     IfOk-weaker c.boxed.result (λ b. b.value ≡ c.in-Ok.ledger)
     (λ b. IsCertain (g.F.Files.told c.args.files.now) (held_paths c.args.paths.now) c.args.task.now b.value.facts.known)
-    (λ b is. subst (λ (l : Ledger). IsCertain (g.F.Files.told c.args.files.now) (held_paths c.args.paths.now) c.args.task.now
+    (λ b is. subst (λ (l : Ledger). IsCertain (g.F.Files.told c.args.files.now)
+    (held_paths c.args.paths.now) c.args.task.now
     l.facts.known) (sym is) known) c.boxed.ensures.content
 
 pub returns-in-Ok-clause-stop : goal.returns-in-Ok-clause-stop

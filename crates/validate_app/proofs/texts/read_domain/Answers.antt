@@ -19,7 +19,8 @@ returns-clause-stop g c =
 
 pub returns-in-Ok-domain_in-clause-domain : goal.returns-in-Ok-domain_in-clause-domain
 returns-in-Ok-domain_in-clause-domain g c =
-    let domain : IsDomainOf (g.F.Files.told c.args.files.now) (held_paths c.args.paths.now) c.in-Ok-domain_in.domain = record {
+    let domain : IsDomainOf (g.F.Files.told c.args.files.now)
+    (held_paths c.args.paths.now) c.in-Ok-domain_in.domain = record {
       path = _;
       named = refl;
       bytes = c.in-Ok.bytes.items;
@@ -34,7 +35,8 @@ returns-in-Ok-domain_in-clause-domain g c =
 
 pub returns-in-Ok-domain_in-clause-fit : goal.returns-in-Ok-domain_in-clause-fit
 returns-in-Ok-domain_in-clause-fit g c =
-    let fit = c.in-Ok-domain_in.ensures.fit (subst IsShort (sym c.as_slice.ensures.value) c.in-Ok.ensures.bytes.short) in
+    let fit = c.in-Ok-domain_in.ensures.fit
+    (subst IsShort (sym c.as_slice.ensures.value) c.in-Ok.ensures.bytes.short) in
     IfOk-weaker c.boxed.result (λ b. b.value ≡ c.in-Ok-domain_in.domain) (λ b. IsFitDomain b.value)
     (λ b is. subst IsFitDomain (sym is) fit) c.boxed.ensures.content
 

@@ -15,7 +15,8 @@ returns-in-Err-clause-stop g c =
 
 pub returns-clause-stop : goal.returns-clause-stop
 returns-clause-stop g c =
-    problem_refused _ _ c.args.domain.now c.requires.domain c.in-Ok.bytes.items c.in-Ok.ensures.bytes c.as_slice.result.now
+    problem_refused _ _ c.args.domain.now c.requires.domain c.in-Ok.bytes.items c.in-Ok.ensures.bytes
+    c.as_slice.result.now
     c.as_slice.ensures.value c.in-Err-problem_in.refusal c.in-Err-problem_in.ensures.refused _ c.stop_of.ensures
 
 pub returns-in-Ok-problem_in-clause-problem : goal.returns-in-Ok-problem_in-clause-problem
@@ -31,7 +32,8 @@ returns-in-Ok-problem_in-clause-problem g c =
     } in
     IfOk-weaker c.boxed.result (λ b. b.value ≡ c.in-Ok-problem_in.problem)
     (λ b. IsProblemOf (g.F.Files.told c.args.files.now) (held_paths c.args.paths.now) c.args.domain.now b.value)
-    (λ b is. subst (IsProblemOf (g.F.Files.told c.args.files.now) (held_paths c.args.paths.now) c.args.domain.now) (sym is) problem)
+    (λ b is. subst (IsProblemOf (g.F.Files.told c.args.files.now) (held_paths c.args.paths.now) c.args.domain.now)
+    (sym is) problem)
     c.boxed.ensures.content
 
 pub returns-in-Ok-problem_in-clause-fit : goal.returns-in-Ok-problem_in-clause-fit

@@ -13,8 +13,10 @@ use Rattle.validate_app.proofs.texts.read_task.Goals as goal
 
 pub read_problem-requires : goal.read_problem-requires
 read_problem-requires g c = record {
-  domain = subst (λ told. IsDomainOf told (held_paths c.args.paths.now) c.deref.result.now) (sym c.read_domain.ensures.same)
-      (subst (IsDomainOf (g.F.Files.told c.args.files.now) (held_paths c.args.paths.now)) (sym c.deref.ensures) c.in-Ok.ensures.domain);
+  domain = subst (λ told. IsDomainOf told (held_paths c.args.paths.now) c.deref.result.now)
+      (sym c.read_domain.ensures.same)
+      (subst (IsDomainOf (g.F.Files.told c.args.files.now) (held_paths c.args.paths.now))
+      (sym c.deref.ensures) c.in-Ok.ensures.domain);
 }
 
 pub returns-in-Err-read_problem-clause-stop : goal.returns-in-Err-read_problem-clause-stop
@@ -26,7 +28,8 @@ pub read_streams-requires-clause-domain : goal.read_streams-requires-clause-doma
 read_streams-requires-clause-domain g c =
     subst (λ told. IsDomainOf told (held_paths c.args.paths.now) c.deref-2.result.now)
     (sym (c.read_problem.ensures.same ∙ c.read_domain.ensures.same))
-    (subst (IsDomainOf (g.F.Files.told c.args.files.now) (held_paths c.args.paths.now)) (sym c.deref-2.ensures) c.in-Ok.ensures.domain)
+    (subst (IsDomainOf (g.F.Files.told c.args.files.now) (held_paths c.args.paths.now))
+    (sym c.deref-2.ensures) c.in-Ok.ensures.domain)
 
 pub read_streams-requires-clause-problem : goal.read_streams-requires-clause-problem
 read_streams-requires-clause-problem g c = (
