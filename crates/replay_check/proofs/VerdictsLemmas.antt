@@ -51,10 +51,6 @@ nearer base line k other than (inr (is, lt)) = inr (omega (arith, is), lt)
 some_is : (x y : Entry) → Some x ≡ Some y → x ≡ y
 some_is x y e = cc
 
--- the entries have fewer lines than the report
-pub entries_few : (r : Report) (most : ℕ) → length (lines_of_report r) < most → length (flat_map entry_lines r.entries) < most
-entries_few r most short = let count = report_count r in omega (arith, count, short)
-
 -- ---- a head that fits
 
 module _ (b : Bounds) (r : Report) (bounds : AreBounds b)

@@ -59,7 +59,7 @@ fn judge_end(
     ensures { IfOk result (IsEnded bounds.now.limit bounds.now.task.now report.now) }
 {
     let entries = report.entries.as_slice();
-    let first = line_of(report, entries.len());
+    let first = line_of(report, report.entries.len());
     match standing.judge_outcome(bounds, entries, &report.outcome)? {
         Finding::Holds => Ok(Ended::Valid(standing)),
         Finding::Open => Ok(Ended::Limit),

@@ -24,8 +24,7 @@ HasFailed (Judged v claimed) = ⊥
 HasFailed (Stopped why) = IsFailure why
 
 -- Of words and told files one outcome is right, unless memory is wanting or a file failed: one verdict with one claim,
--- or
--- one fault at one place of one file.
+-- or one fault at one place of one file.
 abbrev pub OutcomesAreUnique : Type 0
 OutcomesAreUnique =
     (words : List (List ℕ)) (told : FileMap) (first last : ℕ) (o p : Outcome)

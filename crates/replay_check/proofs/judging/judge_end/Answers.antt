@@ -16,7 +16,7 @@ use Rattle.replay_check.proofs.judging.judge_end.Goals as goal
 use Rattle.replay_check.proofs.judging.judge_end.Goals.{In-Breaks}
 
 pub line_of-first-requires-clause-within : goal.line_of-first-requires-clause-within
-line_of-first-requires-clause-within c = let same = ap (λ (es : List Entry). length es) c.as_slice-entries.ensures in omega (arith, same)
+line_of-first-requires-clause-within c = omega (arith, c.len.ensures)
 
 pub judge_outcome-requires-clause-standing : goal.judge_outcome-requires-clause-standing
 judge_outcome-requires-clause-standing c =
@@ -64,9 +64,9 @@ module _ (c : In-Breaks) where
 
   first_is : c.line_of-first.result ≡ outcome_line c.args.report.now
   first_is =
-      let all = take_all (length c.as_slice-entries.result.now) c.args.report.now.entries
-      (omega (arith, ap (λ (es : List Entry). length es) c.as_slice-entries.ensures)) in
-      c.line_of-first.ensures ∙ ap (λ (es : List Entry). length c.args.report.now.pools + 3 + length (flat_map entry_lines es)) all
+      let all = take_all c.len.result c.args.report.now.entries (omega (arith, c.len.ensures)) in
+      c.line_of-first.ensures
+      ∙ ap (λ (es : List Entry). length c.args.report.now.pools + 3 + length (flat_map entry_lines es)) all
 
   few : c.line_of-first.result + c.in-Breaks.line < 2 ^ 31
   few =
