@@ -1,7 +1,6 @@
 -- What is said of a report whose head fits, from what is found of its entries and its outcome.
 use Rattle.std.proofs.Common.{◌≡◌, ℕ, ◌+◌, ◌^◌, ◌<◌, ◌≤◌, ◌⊎◌, inl, inr, List, take, length, refl, sym, ap, subst, ◌∙◌, Some, slice_get, arith}
 use Rattle.std.proofs.lemmas.Bool.{cases_lt}
-use Rattle.std.specs.List.{flat_map}
 use Rattle.lemmas.proofs.Members.{get_and_take}
 use Rattle.lemmas.proofs.Numbers.{plus_zero}
 use Rattle.mode_course.specs.Agendas.{mode_place_in}

@@ -1,4 +1,4 @@
-use Rattle.std.proofs.Common.{◌<◌, ◌∙◌, ℕ, List, length, All, sym, subst}
+use Rattle.std.proofs.Common.{◌<◌, ℕ, List, length, All, sym, subst}
 use Rattle.std.specs.Prelude.{IfOk}
 use Rattle.dreaming.proofs.PartLemmas.{part_known}
 use Rattle.shown_steps.specs.Plans.{IsPlan}

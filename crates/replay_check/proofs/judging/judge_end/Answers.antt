@@ -1,4 +1,4 @@
-use Rattle.std.proofs.Common.{◌≡◌, ◌∙◌, ◌+◌, ◌<◌, ◌^◌, List, length, take, sym, ap, subst, arith}
+use Rattle.std.proofs.Common.{◌≡◌, ◌∙◌, ◌+◌, ◌<◌, ◌^◌, List, length, sym, ap, subst, arith}
 use Rattle.std.proofs.lemmas.List.{take_all}
 use Rattle.std.specs.List.{flat_map}
 use Rattle.report_text.specs.Texts.{entry_lines}
@@ -6,7 +6,6 @@ use Rattle.transcript_model.specs.declared.entry.Entry.{Entry}
 use Rattle.replay_check.proofs.VerdictsLemmas.{end_line_few, open_end, right_end, wrong_end}
 use Rattle.replay_check.specs.Findings.{IsRightFinding}
 use Rattle.replay_check.specs.Judgings.{IsEnded}
-use Rattle.legal_report.specs.Lines.{line_of}
 use Rattle.replay_check.specs.Lines.{outcome_line}
 use Rattle.replay_check.specs.Standings.{IsStanding, limits_by}
 use Rattle.replay_check.specs.declared.finding.Finding.TheVariants as finding

@@ -1,4 +1,4 @@
-use Rattle.std.proofs.Common.{◌≡◌, ◌∙◌, inr, ◌<◌, ◌^◌, length, arith, sym, subst, ap}
+use Rattle.std.proofs.Common.{◌∙◌, inr, ◌<◌, ◌^◌, length, arith, sym, subst, ap}
 use Rattle.legal_report.proofs.LinesLemmas.{report_short}
 use Rattle.report_text.specs.Forms.{IsFormed}
 use Rattle.report_text.specs.Texts.{lines_of_report, text_of_report}

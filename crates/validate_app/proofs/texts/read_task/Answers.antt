@@ -2,8 +2,6 @@ use Rattle.std.proofs.Common.{◌≡◌, ◌∙◌, sym, subst}
 use Rattle.std.proofs.lemmas.Result.{IfOk-weaker}
 use Rattle.task_model.specs.Fit.{IsFit, IsFitDomain}
 use Rattle.task_model.specs.declared.domain.Domain as domains
-use Rattle.task_model.specs.declared.task.Problem as problems
-use Rattle.task_model.specs.declared.task.Task.{Task}
 use Rattle.problem_reader.specs.Fitness.{IsFitOver}
 use Rattle.stream_reader.specs.Fitness.{AreFitOver}
 use Rattle.validate_app.proofs.InputsLemmas.{memory_stops, stops_since}
