@@ -1,5 +1,5 @@
 //! Reports, replayed.
-ghost use Rattle.std.specs.Prelude.{◌≡◌, ◌<◌, ◌≤◌, ◌^◌, ℕ, List, length, IfOk};
+ghost use Rattle.std.specs.Prelude.{◌≡◌, ◌+◌, ◌<◌, ◌≤◌, ◌^◌, ℕ, List, length, IfOk};
 ghost use Rattle.replay_check.specs.Heads.{IsFitReportHead, reported_limits};
 ghost use Rattle.replay_check.specs.Judgings.{IsEnded, IsRightOf, verdict_of};
 ghost use Rattle.report_text.specs.Texts.{lines_of_report, text_of_report};
@@ -45,6 +45,14 @@ fn invalid(line: usize, kind: BreachKind) -> Ended
     Ended::Invalid(line as u32, kind)
 }
 
+/// That the line so many behind this one is wrong.
+fn invalid_behind(first: usize, line: usize, kind: BreachKind) -> Ended
+    requires { first + line < 2 ^ 31 }
+    ensures { result ≡ Invalid (first + line) kind }
+{
+    invalid(first + line, kind)
+}
+
 /// Judges the outcome of a report of which nothing else is wrong.
 fn judge_end(
     bounds: &Bounds<'_>,
@@ -63,7 +71,7 @@ fn judge_end(
     match standing.judge_outcome(bounds, entries, &report.outcome)? {
         Finding::Holds => Ok(Ended::Valid(standing)),
         Finding::Open => Ok(Ended::Limit),
-        Finding::Breaks(line, kind) => Ok(invalid(first + line, kind)),
+        Finding::Breaks(line, kind) => Ok(invalid_behind(first, line, kind)),
     }
 }
 
@@ -81,7 +89,9 @@ fn judge_rest(bounds: &Bounds<'_>, report: &Report) -> Result<Ended, AllocError>
     match walk(bounds, &mut standing, entries)? {
         Walked::Ends => judge_end(bounds, report, standing),
         Walked::Open(_) => Ok(Ended::Limit),
-        Walked::Breaks(place, line, kind) => Ok(invalid(line_of(report, place) + line, kind)),
+        Walked::Breaks(place, line, kind) => {
+            Ok(invalid_behind(line_of(report, place), line, kind))
+        }
     }
 }
 

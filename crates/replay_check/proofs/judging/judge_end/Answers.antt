@@ -77,11 +77,8 @@ module _ (c : In-Breaks) where
   line_is : c.line_of-first.result + c.in-Breaks.line ≡ outcome_line c.args.report.now + c.in-Breaks.line
   line_is = ap (λ n. n + c.in-Breaks.line) first_is
 
-pub invalid-requires : goal.invalid-requires
-invalid-requires c = let most = few c in omega (arith, most)
-
-pub overflow_add-first-in-Breaks : goal.overflow_add-first-in-Breaks
-overflow_add-first-in-Breaks c = let most = few c in omega (arith, most)
+pub invalid_behind-requires : goal.invalid_behind-requires
+invalid_behind-requires c = few c
 
 pub returns-in-Breaks : goal.returns-in-Breaks
 returns-in-Breaks c =
@@ -91,4 +88,4 @@ returns-in-Breaks c =
     let wrong =
     wrong_end b r c.requires.bounds c.requires.head c.requires.limits c.args.standing.value c.requires.standing
     c.in-Breaks.line c.in-Breaks.kind (found at) in
-    subst (IsEnded b.limit b.task.now r) (sym (c.invalid.ensures ∙ ap (λ n. Invalid n c.in-Breaks.kind) (line_is at))) wrong
+    subst (IsEnded b.limit b.task.now r) (sym (c.invalid_behind.ensures ∙ ap (λ n. Invalid n c.in-Breaks.kind) (line_is at))) wrong

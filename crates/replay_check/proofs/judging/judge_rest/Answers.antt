@@ -43,13 +43,9 @@ line_of-requires-clause-within c =
     let within = slice_get_within c.args.report.now.entries c.in-Breaks.place here.e here.there in
     omega (arith, within)
 
-pub overflow_add : goal.overflow_add
-overflow_add c =
-    let most = few (goal.at.overflow_add c).In-Breaks in omega (arith, most, c.line_of.ensures)
-
-pub invalid-requires : goal.invalid-requires
-invalid-requires c =
-    let most = few (goal.at.invalid-requires c).In-Breaks in omega (arith, most, c.line_of.ensures)
+pub invalid_behind-requires : goal.invalid_behind-requires
+invalid_behind-requires c =
+    subst (λ n. n + c.in-Breaks.line < 2 ^ 31) (sym c.line_of.ensures) (few (goal.at.invalid_behind-requires c).In-Breaks)
 
 pub returns-in-Open : goal.returns-in-Open
 returns-in-Open c =
@@ -66,4 +62,4 @@ returns-in-Breaks c =
     let found = entry_found b r c.requires.bounds c.requires.head c.requires.limits c.in-Breaks.place c.in-Breaks.line
     c.in-Breaks.kind (wrong broken) in
     subst (IsEnded b.limit b.task.now r)
-    (sym (c.invalid.ensures ∙ ap (λ n. Invalid (n + c.in-Breaks.line) c.in-Breaks.kind) c.line_of.ensures)) found
+    (sym (c.invalid_behind.ensures ∙ ap (λ n. Invalid (n + c.in-Breaks.line) c.in-Breaks.kind) c.line_of.ensures)) found
