@@ -1,11 +1,10 @@
 -- A report of version 1 is judged as it is in version 2.
-use Rattle.std.proofs.Common.{◌≡◌, ℕ, ◌≤◌, ◌↔◌, inl, inr, arith, Bool, true, false, List, [], ◌∷◌, ◌++◌, take, refl, sym, ap, subst, ◌∙◌, map, Some, slice_get}
-use Rattle.gen_lines.specs.Reply.{IsRight}
+use Rattle.std.proofs.Common.{◌≡◌, ℕ, inl, inr, true, List, take, refl, sym, subst, map}
 use Rattle.lemmas.proofs.Members.{from_take, member_at}
 use Rattle.std.proofs.lemmas.List.Elements.{All-contains, All-weaker}
-use Rattle.replay_check.specs.Breaches.{AreBegun, AreInBatch, BeginsTurn, BreaksEnd, BreaksEntries, BreaksEntry, BreaksFrom, BreaksHead, BreaksOutcome, BreaksPlan, BreaksPool, BreaksSaid, HasPlace, IsBreach, IsFalseDream, IsFalseNone, IsOutOfOrder, MayAsk}
+use Rattle.replay_check.specs.Breaches.{AreBegun, AreInBatch, BeginsTurn, BreaksEntry, BreaksHead, BreaksOutcome, BreaksSaid, HasPlace, IsBreach, IsFalseDream, IsFalseNone, IsOutOfOrder, MayAsk}
 use Rattle.replay_check.specs.Heads.{share_in}
-use Rattle.replay_check.specs.Verdicts.{HasOpenNone, IsFirstBreach, IsOpenNone, IsReportVerdict, IsRightReport, IsUndecidedAt, IsUndecidedClaim, IsVerdict}
+use Rattle.replay_check.specs.Verdicts.{IsReportVerdict, IsRightReport, IsUndecidedAt, IsUndecidedClaim, IsVerdict}
 use Rattle.replay_check.specs.declared.verdict.BreachKind.{BreachKind}
 use Rattle.replay_check.specs.declared.verdict.BreachKind.TheVariants as kind
 use Rattle.replay_check.specs.declared.verdict.Verdict.{Verdict}
@@ -17,9 +16,8 @@ use Rattle.report_text.proofs.ReportsReadBack.{same_report}
 use Rattle.report_text.specs.Forms.{IsFormed, IsFormedEntry, IsFormedOrigin, IsFormedOutcome}
 use Rattle.report_text.specs.Texts.{in_version, text_of_report}
 use Rattle.task_model.specs.declared.task.Task.{Task}
-use Rattle.transcript_model.specs.Legal.{IsClosed, IsLegal, MayFollow, has_several}
-use Rattle.transcript_model.specs.Outcomes.{IsTrueOutcome, MayStand}
-use Rattle.transcript_model.specs.Turns.{IsModeLegal}
+use Rattle.transcript_model.specs.Legal.{IsClosed, IsLegal, MayFollow}
+use Rattle.transcript_model.specs.Outcomes.{IsTrueOutcome}
 use Rattle.transcript_model.specs.declared.entry.Entry.{Entry}
 use Rattle.transcript_model.specs.declared.entry.Entry.TheVariants as entry
 use Rattle.transcript_model.specs.declared.outcome.LimitKind.TheVariants as kinds
@@ -172,14 +170,16 @@ module _ (b : Bound) (v w : ℕ) (task : Task) where
       (k, leaves b v w task before k left, wrong_line b v w task before k.tried uses steps offset wrong)
   false_dream before e offset m = absurd m
 
-  false_none : (before : List Entry) (e : Entry) → IsFalseNone (at b v) task before e → IsFalseNone (at b w) task before e
+  false_none : (before : List Entry) (e : Entry) → IsFalseNone (at b v) task before e
+      → IsFalseNone (at b w) task before e
   false_none before entry.Nothing (k, left, wrong) = (k, leaves b v w task before k left, wrong)
   false_none before e m = absurd m
 
   entry_breach : (before : List Entry) (e : Entry) → HasOne e → (offset : ℕ) (k : BreachKind)
       → BreaksEntry (at b v) task before e offset k → BreaksEntry (at b w) task before e offset k
   entry_breach before e one offset kind.Ask (first, is, not) = (first, is, λ m. not (asks b w v task before e m))
-  entry_breach before e one offset kind.Answer (first, is, not) = (first, is, λ m. not (follows w v task before e one m))
+  entry_breach before e one offset kind.Answer (first, is, not) =
+      (first, is, λ m. not (follows w v task before e one m))
   entry_breach before e one offset kind.Order (first, out) = (first, order before e out)
   entry_breach before e one offset kind.Dream m = false_dream before e offset m
   entry_breach before e one offset kind.Outcome (first, wrong) = (first, false_none before e wrong)
@@ -256,7 +256,8 @@ module _ (task : Task) (r : Report) (one : HaveOne r.entries) (v w : ℕ) where
     e = m.e;
     there = m.there;
     offset = m.offset;
-    wrong = entry_breach (bound task r) v w task (take m.place r.entries) m.e (one m.place m.e m.there) m.offset k m.wrong;
+    wrong = entry_breach (bound task r) v w task (take m.place r.entries) m.e
+        (one m.place m.e m.there) m.offset k m.wrong;
     is = m.is;
   }))
   breach line k (inr (inr m)) = inr (inr (record {
@@ -273,7 +274,8 @@ module _ (task : Task) (r : Report) (one : HaveOne r.entries) (v w : ℕ) where
   claim limit (outcome.Limit kinds.States) m = m
   claim limit (outcome.Limit kinds.Instances) m = m
 
-  unsure : (limit line : ℕ) → IsUndecidedAt limit task (in_version v r) line → IsUndecidedAt limit task (in_version w r) line
+  unsure : (limit line : ℕ) → IsUndecidedAt limit task (in_version v r) line
+      → IsUndecidedAt limit task (in_version w r) line
   unsure limit line (inl (is, m)) = inl (is, claim limit r.outcome m)
   unsure limit line (inr m) = inr (record {
     place = m.place;
@@ -311,7 +313,8 @@ module _ (limit : ℕ) (task : Task) (r : Report) (one : HaveOne r.entries) (v w
 
   -- what is said of the text of a report is said of the report
   text_said : IsFormed (in_version v r) → IsFormed (in_version w r) → (x : Verdict)
-      → IsVerdict limit task (text_of_report (in_version v r)) x → IsVerdict limit task (text_of_report (in_version w r)) x
+      → IsVerdict limit task (text_of_report (in_version v r)) x
+      → IsVerdict limit task (text_of_report (in_version w r)) x
   text_said formed other x (inl (line, is, fault)) = absurd (fault.none (in_version v r, formed, refl))
   text_said formed other x (inr of) =
       let same = same_report of.report (in_version v r) of.formed formed of.spelled in
@@ -332,7 +335,8 @@ judged_alike limit task r formed first = subst (λ s. AreJudgedAlike limit task 
     formed_first = subst IsFormed is formed
 
     one : HaveOne r.entries
-    one k e at_k = formed_one e (All-contains (IsFormedEntry 1) r.entries e formed_first.entries (member_at r.entries k e at_k))
+    one k e at_k = formed_one e (All-contains (IsFormedEntry 1) r.entries e formed_first.entries
+        (member_at r.entries k e at_k))
 
     formed_two : IsFormed (in_version 2 r)
     formed_two = formed_second r formed
