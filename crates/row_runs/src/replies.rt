@@ -1,7 +1,7 @@
 //! Children that answer by a list of requests.
 ghost use Rattle.std.specs.Prelude.{◌≡◌};
 ghost use Rattle.io_world.specs.Replies.{IsLine};
-ghost use Rattle.row_runs.specs.Replies.{line_of_bytes, reply_in_list};
+ghost use Rattle.row_runs.specs.ReplyLists.{line_of_bytes, reply_in_list};
 
 use io_world::AnswerBy;
 use std::alloc::{AllocError, Global};
