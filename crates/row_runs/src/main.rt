@@ -9,6 +9,7 @@ mod hosts;
 mod noting_host;
 mod play;
 mod ran;
+mod replies;
 mod row;
 mod talk;
 mod texts;
@@ -21,7 +22,7 @@ use std::process::ExitCode;
 use std::{env, io};
 
 /// The files of rows, in the order in which they are run.
-const SUBJECTS: [&str; 32] = [
+const SUBJECTS: [&str; 34] = [
     "outcomes.rows",
     "limits.rows",
     "faults.rows",
@@ -48,6 +49,8 @@ const SUBJECTS: [&str; 32] = [
     "values.rows",
     "supposing.rows",
     "edges.rows",
+    "hostile.rows",
+    "sure.rows",
     "orders.rows",
     "plays.rows",
     "costs.rows",
