@@ -1,5 +1,5 @@
 //! Whether a dream that a report shows is one.
-ghost use Rattle.std.specs.Prelude.{◌≡◌, ℕ, ◌<◌, List, [], length, All, IfOk};
+ghost use Rattle.std.specs.Prelude.{◌≡◌, ℕ, ◌<◌, List, length, All, IfOk};
 ghost use Rattle.dream_check.specs.Judged.{IsDreamJudged};
 ghost use Rattle.dream_check.specs.Listed.{IsPartJudged, IsJudgedOver, known_at};
 ghost use Rattle.dreaming.specs.Parts.{IsListed, IsListing};
@@ -12,7 +12,7 @@ ghost use Rattle.transcript_model.specs.declared.entry.Entry.{Entry as AnyEntry}
 use crate::needed::are_needed;
 use crate::steps::{Followed, follow};
 use crate::table::Table;
-use crate::uses::take_uses;
+use crate::uses::{Used, take_uses};
 use dreaming::{Listing, Part, entries_of};
 use learning::Ledger;
 use optimistic_set::{OptEntry, OptimisticFault, Supposed, Tried, optimistic};
@@ -60,41 +60,22 @@ fn judge_plan(
 fn judge_part(
     listing: &Listing<'_>,
     table: &Table<'_>,
-    part: &Part<'_>,
+    part: Part<'_>,
     steps: &[Call],
 ) -> Result<Dreamed, AllocError>
     requires listing { IsListing listing.now }
     requires names { table.now ≡ listing.now.supposed.now.known.names }
-    requires part { IsPartAt listing.now.task.now listing.now.supposed.now part.now.places
-        part.now }
+    requires part { IsPartAt listing.now.task.now listing.now.supposed.now part.places part }
     ensures { IfOk result (IsPartJudged listing.now.task.now listing.now.supposed.now
-        part.now.places steps.now) }
+        part.entry.places steps.now) }
 {
-    match follow(listing, table, part, steps)? {
+    match follow(listing, table, &part, steps)? {
         Followed::Stops(place) => Ok(Dreamed::Step(place)),
         Followed::Misses => Ok(Dreamed::Last),
-        Followed::Reaches => judge_plan(listing, table, part.places(), steps),
-    }
-}
-
-/// Judges a dream over a list, and puts the entries that it uses into the part, which has none
-/// before.
-fn judge_by(
-    listing: &Listing<'_>,
-    table: &Table<'_>,
-    part: &mut Part<'_>,
-    uses: &[DreamUse],
-    steps: &[Call],
-) -> Result<Dreamed, AllocError>
-    requires listing { IsListing listing.now }
-    requires names { table.now ≡ listing.now.supposed.now.known.names }
-    requires part { IsPartAt listing.now.task.now listing.now.supposed.now [] part.old }
-    ensures { IfOk result (IsJudgedOver listing.now.task.now listing.now.supposed.now uses.now
-        steps.now) }
-{
-    match take_uses(listing, table, part, uses)? {
-        Some(place) => Ok(Dreamed::Use(place)),
-        None => judge_part(listing, table, part, steps),
+        Followed::Reaches => {
+            let places = part.into_places();
+            judge_plan(listing, table, places.as_slice(), steps)
+        }
     }
 }
 
@@ -114,9 +95,11 @@ fn judge_over(
         task,
         supposed,
     };
-    let table = Box::new(alloc, Table::of(alloc, supposed)?)?;
-    let mut part = Box::new(alloc, Part::new(alloc, supposed))?;
-    judge_by(&listing, &table, &mut part, uses, steps)
+    let table = Table::of(alloc, supposed)?;
+    match take_uses(&listing, &table, uses)? {
+        Used::Stops(place) => Ok(Dreamed::Use(place)),
+        Used::All(part) => judge_part(&listing, &table, part, steps),
+    }
 }
 
 /// Judges a dream after the entries of the ledger, where these instances were tried: its uses, of
