@@ -52,7 +52,7 @@ fn line_of(bytes: &[u8]) -> &[u8]
     ensures value { result.now ≡ line_of_bytes bytes.now }
     ensures line { IsLine result.now }
 {
-    if bytes.iter().any(|byte| *byte == b'\n') {
+    if bytes.contains(&b'\n') {
         b"end"
     } else {
         bytes
