@@ -21,6 +21,8 @@ pub mod RightReportLemmas
 pub mod StandingsAnswerLemmas
 pub mod StandingsAskLemmas
 pub mod StandingsMarkLemmas
+pub mod TalksAnswerLemmas
+pub mod TalksAskLemmas
 pub mod VerdictsHeadLemmas
 pub mod VerdictsLemmas
 pub mod WalksLemmas

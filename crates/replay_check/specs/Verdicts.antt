@@ -21,8 +21,7 @@ use Rattle.transcript_model.specs.declared.outcome.Outcome.TheVariants as outcom
 use Rattle.transcript_model.specs.declared.report.Report.{Report}
 use Rattle.replay_check.specs.Breaches.{IsBreach}
 use Rattle.replay_check.specs.Heads.{IsFitReportHead, reported_limits}
-use Rattle.legal_report.specs.Lines.{line_of}
-use Rattle.replay_check.specs.Lines.{Precedes, outcome_line}
+use Rattle.replay_check.specs.Lines.{Precedes, line_of, outcome_line}
 use Rattle.replay_check.specs.declared.verdict.BreachKind.{BreachKind}
 use Rattle.replay_check.specs.declared.verdict.BreachKind.TheVariants as kind
 use Rattle.replay_check.specs.declared.verdict.Verdict.{Verdict}

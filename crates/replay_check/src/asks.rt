@@ -11,9 +11,10 @@ ghost use Rattle.transcript_model.specs.declared.limits.TheConstants.{MOST_CALLS
 use crate::bounds::Bounds;
 use crate::finding::Finding;
 use crate::requests::is_request;
+use crate::right_answers::may_answer;
+use crate::right_asks::asked_by;
 use crate::standing::Standing;
 use crate::verdict::BreachKind;
-use legal_report::{asked_by, may_answer};
 use std::alloc::AllocError;
 use transcript_model::{Call, Entry};
 

@@ -1,7 +1,7 @@
 use Rattle.std.proofs.Common.{◌∙◌, ◌++◌, ◌∷◌, [], take, sym, subst}
 use Rattle.std.proofs.lemmas.Bool.{false≢true}
 use Rattle.learning.specs.Ledgers.{IsLedger}
-use Rattle.legal_report.specs.Talks.{IsAskedBy}
+use Rattle.replay_check.specs.Talks.{IsAskedBy}
 use Rattle.transcript_model.specs.Legal.{IsRightAsk}
 use Rattle.transcript_model.specs.declared.entry.Entry.TheVariants as entry
 use Rattle.replay_check.proofs.WalksLemmas.{ask_is_refused, ask_number, ask_out_of_order, ask_taken}
