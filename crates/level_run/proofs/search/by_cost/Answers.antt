@@ -1,7 +1,7 @@
 use Rattle.level_run.proofs.search.by_cost.Goals as goal
 
-pub returns-then-is_hopeless : goal.returns-then-is_hopeless
-returns-then-is_hopeless c = record { found = c.in_ok-is_hopeless.ensures c.if-is_hopeless.true }
+pub returns-then-branch : goal.returns-then-branch
+returns-then-branch c = record { found = c.in_ok-is_hopeless.ensures c.if-branch.true }
 
 pub returns : goal.returns
 returns c = record {
