@@ -1,11 +1,10 @@
 -- A report of version 1 is judged as it is in version 2.
-use Rattle.std.proofs.Common.{◌≡◌, ℕ, ◌≤◌, ◌↔◌, inl, inr, arith, Bool, true, false, List, [], ◌∷◌, ◌++◌, take, refl, sym, ap, subst, ◌∙◌, map, Some, slice_get}
-use Rattle.gen_lines.specs.Reply.{IsRight}
+use Rattle.std.proofs.Common.{◌≡◌, ℕ, inl, inr, true, List, take, refl, sym, subst, map}
 use Rattle.lemmas.proofs.Members.{from_take, member_at}
 use Rattle.std.proofs.lemmas.List.Elements.{All-contains, All-weaker}
-use Rattle.replay_check.specs.Breaches.{AreBegun, AreInBatch, BeginsTurn, BreaksEnd, BreaksEntries, BreaksEntry, BreaksFrom, BreaksHead, BreaksOutcome, BreaksPlan, BreaksPool, BreaksSaid, HasPlace, IsBreach, IsFalseDream, IsFalseNone, IsOutOfOrder, MayAsk}
+use Rattle.replay_check.specs.Breaches.{AreBegun, AreInBatch, BeginsTurn, BreaksEntry, BreaksHead, BreaksOutcome, BreaksSaid, HasPlace, IsBreach, IsFalseDream, IsFalseNone, IsOutOfOrder, MayAsk}
 use Rattle.replay_check.specs.Heads.{share_in}
-use Rattle.replay_check.specs.Verdicts.{HasOpenNone, IsFirstBreach, IsOpenNone, IsReportVerdict, IsRightReport, IsUndecidedAt, IsUndecidedClaim, IsVerdict}
+use Rattle.replay_check.specs.Verdicts.{IsReportVerdict, IsRightReport, IsUndecidedAt, IsUndecidedClaim, IsVerdict}
 use Rattle.replay_check.specs.declared.verdict.BreachKind.{BreachKind}
 use Rattle.replay_check.specs.declared.verdict.BreachKind.TheVariants as kind
 use Rattle.replay_check.specs.declared.verdict.Verdict.{Verdict}
@@ -17,9 +16,8 @@ use Rattle.report_text.proofs.ReportsReadBack.{same_report}
 use Rattle.report_text.specs.Forms.{IsFormed, IsFormedEntry, IsFormedOrigin, IsFormedOutcome}
 use Rattle.report_text.specs.Texts.{in_version, text_of_report}
 use Rattle.task_model.specs.declared.task.Task.{Task}
-use Rattle.transcript_model.specs.Legal.{IsClosed, IsLegal, MayFollow, has_several}
-use Rattle.transcript_model.specs.Outcomes.{IsTrueOutcome, MayStand}
-use Rattle.transcript_model.specs.Turns.{IsModeLegal}
+use Rattle.transcript_model.specs.Legal.{IsClosed, IsLegal, MayFollow}
+use Rattle.transcript_model.specs.Outcomes.{IsTrueOutcome}
 use Rattle.transcript_model.specs.declared.entry.Entry.{Entry}
 use Rattle.transcript_model.specs.declared.entry.Entry.TheVariants as entry
 use Rattle.transcript_model.specs.declared.outcome.LimitKind.TheVariants as kinds

@@ -1,5 +1,5 @@
 -- Where each yield has one tuple, origins are the same in every version.
-use Rattle.std.proofs.Common.{◌≡◌, ℕ, zero, suc, ◌+◌, ◌/◌, ◌==◌, ◌&&◌, ◌||◌, arith, Bool, true, false, true≢false, List, [], ◌∷◌, take, drop, length, refl, sym, ap, subst, ◌∙◌, Option, Some, None, Contains, slice_get, eqb-true, div-one, if◌then◌else◌}
+use Rattle.std.proofs.Common.{◌≡◌, ℕ, suc, ◌+◌, ◌/◌, ◌==◌, ◌&&◌, ◌||◌, Bool, true, false, true≢false, List, [], ◌∷◌, take, length, refl, sym, ap, subst, ◌∙◌, Option, Some, None, slice_get, eqb-true, div-one, if◌then◌else◌}
 use Rattle.std.proofs.Math.Seq.{take-length}
 use Rattle.std.specs.Cmp.{first_so, second_so}
 use Rattle.std.specs.List.{list_any, position}

@@ -1,7 +1,7 @@
 -- The turns of a mode are the same in every version of the report.
 use Rattle.std.proofs.Common.{ℕ, ◌++◌, inl, inr, List, [], Bool, true, false}
 use Rattle.dream_check.specs.Judged.{IsUndecidedNone}
-use Rattle.dream_check.specs.Lines.{BreaksDream, BreaksDreamStep, BreaksUse, IsChosen, IsWrongLine}
+use Rattle.dream_check.specs.Lines.{BreaksDreamStep, BreaksUse, IsChosen, IsWrongLine}
 use Rattle.mode_turns.proofs.ModesLemmas.{as_family, of_mode}
 use Rattle.mode_turns.specs.Modes.{LeadTo, Leaves, TurnOf, none_left as lead_none, nothing_kept, whole as lead_whole}
 use Rattle.task_model.specs.Dreams as dreams
