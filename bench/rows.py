@@ -35,6 +35,7 @@ class Row:
         self.open = None
         self.changes = {}
         self.children = {}
+        self.replies = {}
         self.needs = []
         self.flags = []
         self.part = None
@@ -50,6 +51,8 @@ class Row:
             self.changes[place] += text
         elif kind == 'unit':
             self.unit += text
+        elif kind == 'reply':
+            self.replies[place] += text
         else:
             self.children[place] += text
 
@@ -58,7 +61,12 @@ class Row:
             self.add(line[1:] + ('\n' if line[0] == '|' else ''))
             return
         key, _, rest = line.partition(' ')
-        if key == 'words':
+        if key == '.':
+            self.add(''.join(chr(int(number)) for number in rest.split(' ')))
+        elif key == '*':
+            times, _, text = rest.partition(' ')
+            self.add(text.replace('~', '\n') * int(times))
+        elif key == 'words':
             self.words = rest.split(' ')
         elif key == 'word':
             self.words.append(rest)
@@ -74,6 +82,8 @@ class Row:
             self.files[self.open] += ''.join(copy_of(self.unit, count) for count in range(int(rest)))
         elif key == 'child':
             self.children[int(rest)], self.part = '', ('child', int(rest))
+        elif key == 'reply':
+            self.replies[rest], self.part = '', ('reply', rest)
         elif key == 'needs':
             self.needs.append((self.part[1], *map(int, rest.split(' '))))
         else:

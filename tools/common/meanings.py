@@ -44,7 +44,7 @@ BREACHES = {
     6: "dream: an entry that isn't of the list, a step that can't be taken, a goal that isn't reached, or a needless "
        "entry",
     7: "plan: a step that can't be taken, or at the `cost` line a goal that isn't reached",
-    8: "cost: another cost is right",
+    8: "cost: another cost is right; of `replay --optimal`, or another plan costs less",
     9: "from: an origin that isn't the due one, is needless, or is missing",
     10: "outcome: the claim is false",
 }

@@ -5,11 +5,12 @@ from dataclasses import dataclass
 
 MODES = ("incremental", "focused", "binding", "adaptive")
 NUMBERS = {"--calls": 100_000, "--states": 200_000, "--depth": 8, "--workers": 16, "--protocol": 2}
+FLAGS = ("--optimal",)
 TEXTS = {"solve": ["DOMAIN", "PROBLEM", "STREAMS"], "replay": ["DOMAIN", "PROBLEM", "STREAMS", "REPORT"],
          "generate": ["N"], "migrate": ["REPORT"], "deorder": ["DOMAIN", "PROBLEM", "STREAMS", "REPORT"],
          "play": ["DOMAIN", "PROBLEM", "STREAMS", "REPORT", "GRID"]}
-OPTIONS: dict[str, list[str]] = {"solve": ["--map", "--algorithm", *NUMBERS], "replay": ["--states"], "generate": [],
-                                 "migrate": [], "deorder": ["--states"], "play": ["--states"]}
+OPTIONS: dict[str, list[str]] = {"solve": ["--map", "--algorithm", *NUMBERS, *FLAGS], "replay": ["--states", *FLAGS],
+                                 "generate": [], "migrate": [], "deorder": ["--states"], "play": ["--states"]}
 
 
 @dataclass
@@ -21,7 +22,7 @@ class Words:
 
 
 def split_words(command: str, words: list[str]) -> Words:
-    """What of the words behind the command are options: all before `--` that begin with `-`."""
+    """What of the words behind the command are options: all before `--` that begin with `-`, and the values of some."""
     found = Words([], [])
     at = 0
     while at < len(words):
@@ -36,12 +37,16 @@ def split_words(command: str, words: list[str]) -> Words:
         name, equals, value = word.partition("=")
         if equals:
             found.options.append((name, value))
-        elif name in OPTIONS[command] and at < len(words) and not _is_option(words[at]):
+        elif _takes_value(command, name) and at < len(words) and not _is_option(words[at]):
             found.options.append((name, words[at]))
             at += 1
         else:
             found.options.append((name, None))
     return found
+
+
+def _takes_value(command: str, name: str) -> bool:
+    return name in OPTIONS[command] and name not in FLAGS
 
 
 def _is_option(word: str) -> bool:
@@ -56,7 +61,7 @@ def usage_cause(words: list[str]) -> str | None:
     command, texts = words[0], TEXTS[words[0]]
     split = split_words(command, words[1:])
     causes = [_option_cause(command, name, value) for name, value in split.options]
-    causes += [_twice(split.options), _missing(command, texts, split.others), _beside_map(split)]
+    causes += [_twice(split.options), _missing(command, texts, split.others), _beside_map(split), _beside_mode(split)]
     return next((cause for cause in causes if cause), None)
 
 
@@ -66,6 +71,8 @@ def _option_cause(command: str, name: str, value: str | None) -> str | None:
             return f"`{name}` is no option: put `--` before the program, since one of its words begins with `-`"
         known = " ".join(OPTIONS[command]) or "none"
         return f"`{name}` is no option of {command}, which has {known}; words of the program stand behind `--`"
+    if name in FLAGS:
+        return None if value is None else f"`{name}` takes no value"
     if value is None:
         return f"`{name}` has no value"
     if name == "--algorithm" and value not in MODES:
@@ -103,4 +110,11 @@ def _beside_map(split: Words) -> str | None:
         return "`--workers` stands beside `--map`: the map says how many workers each pool has"
     if len(split.others) > 3:
         return f"the program `{split.others[3]}` stands beside `--map`: the map names the programs"
+    return None
+
+
+def _beside_mode(split: Words) -> str | None:
+    mode = dict(split.options).get("--algorithm")
+    if ("--optimal", None) in split.options and mode not in (None, "incremental"):
+        return f"`--optimal` stands beside `--algorithm {mode}`: incremental mode alone looks for the cheapest plan"
     return None

@@ -20,9 +20,10 @@ _pddlstream() {
         --calls | --states | --depth | --workers) return ;;
     esac
     case $command:$word in
-        solve:-*) COMPREPLY=($(compgen -W "--map --algorithm --calls --states --depth --workers --protocol --" -- "$word")) ;;
+        solve:-*) COMPREPLY=($(compgen -W "--map --algorithm --calls --states --depth --workers --protocol --optimal --" -- "$word")) ;;
         migrate:-*) ;;
-        replay:-* | deorder:-* | play:-*) COMPREPLY=($(compgen -W "--states" -- "$word")) ;;
+        replay:-*) COMPREPLY=($(compgen -W "--states --optimal" -- "$word")) ;;
+        deorder:-* | play:-*) COMPREPLY=($(compgen -W "--states" -- "$word")) ;;
         generate:*) COMPREPLY=($(compgen -W "1 2 3 4 5 6 7 8 9 10 11 12" -- "$word")) ;;
         *) COMPREPLY=($(compgen -f -- "$word")) ;;
     esac

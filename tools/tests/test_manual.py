@@ -70,7 +70,8 @@ class Completions(unittest.TestCase):
         self.assertEqual(set(self.completed("solve", "--")), {*OPTIONS["solve"], "--"})
         self.assertEqual(self.completed("solve", "--algorithm", ""), list(MODES))
         self.assertEqual(self.completed("solve", "--protocol", ""), ["1", "2"])
-        self.assertEqual(self.completed("replay", "-"), ["--states"])
+        self.assertEqual(self.completed("replay", "-"), OPTIONS["replay"])
+        self.assertEqual(self.completed("play", "-"), OPTIONS["play"])
         self.assertEqual(self.completed("generate", "1"), ["1", "10", "11", "12"])
 
     def test_files(self):
@@ -78,7 +79,7 @@ class Completions(unittest.TestCase):
         self.assertIn("explain.py", self.completed("solve", "d", "p", "s", "--", "expl"))
 
     def test_zsh_has_the_same_options(self):
-        self.assertEqual(sorted(set(re.findall(r"'(--\w+)=", read("tools", "completions", "_pddlstream")))),
+        self.assertEqual(sorted(set(re.findall(r"'(--\w+)[=\[]", read("tools", "completions", "_pddlstream")))),
                          sorted(OPTIONS["solve"]))
 
     @unittest.skipUnless(shutil.which("zsh"), "there is no zsh")

@@ -33,7 +33,10 @@ class Words(unittest.TestCase):
                              ("solve d p s --calls 0", "`--calls 0`"), ("solve d p s --depth", "no value"),
                              ("solve d p s --depth 2 --depth 3", "twice"), ("solve d p s --algorithm fast", "`fast`"),
                              ("solve d p s --map m -- g", "`g` stands beside"), ("solve d p s sh -c x", "put `--`"),
-                             ("solve d p s --protocol 3", "1 to 2"), ("migrate", "REPORT is missing"),
+                             ("solve d p s --protocol 3", "1 to 2"), ("solve d p s --optimal=true", "no value"),
+                             ("solve d p s --optimal --algorithm binding", "`--algorithm binding`"),
+                             ("replay d p s r --optimal --optimal", "twice"), ("play d p s r g --optimal", "no option"),
+                             ("migrate", "REPORT is missing"),
                              ("migrate r x", "`x` is a word too many"), ("migrate r --protocol 2", "no option of migrate"),
                              ("generate 13", "1 to 12"), ("replay d p s r --calls 3", "no option of replay")):
             with self.subTest(line):

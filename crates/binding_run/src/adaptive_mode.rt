@@ -1,4 +1,5 @@
 //! Adaptive mode.
+ghost use Rattle.std.specs.Prelude.{false};
 ghost use Rattle.binding_run.specs.Adaptive.{RanAdaptive};
 ghost use Rattle.binding_run.specs.Skeletons.{AreFewKept, KeepsOn, idle_with, kept_of};
 ghost use Rattle.focused_run.specs.Focusing.{BeginsFocusedTurn, HasCallLeft, IsDreamLine};
@@ -88,6 +89,8 @@ impl AdaptiveTurns {
 }
 
 impl PlanSearch for AdaptiveTurns {
+    ghost cheapest = { false };
+
     fn find(
         &self,
         alloc: Global,

@@ -4,11 +4,13 @@ use Rattle.std.proofs.lemmas.Bool.{leb-true}
 use Rattle.std.specs.Cmp.{first_so, second_so}
 use Rattle.std.specs.Str.Parse.{digits_value}
 use Rattle.transcript_model.proofs.NamesLemmas.{map_some}
+use Rattle.transcript_model.specs.declared.head.Mode.{Mode}
+use Rattle.transcript_model.specs.declared.head.Mode.TheVariants.{Incremental, Focused, Binding, Adaptive}
 use Rattle.clap.specs.Words.{App, Row, Text, first_of, matches_of}
-use Rattle.command_line.specs.Apps.{deorder_app, generate_app, is_taken, migrate_app, play_app, replay_app, solve_app}
+use Rattle.command_line.specs.Apps.{deorder_app, generate_app, is_taken, play_app, replay_app, solve_app}
 use Rattle.command_line.specs.Numbers.{are_few_digits, count_in, count_in_word, count_or, is_count}
 use Rattle.command_line.specs.Ranges.{AreInRange, IsFromOne, IsInRange}
-use Rattle.command_line.specs.Words.{Command, GivenLimits, PlayWords, ReplayWords, SolveWords, are_apart, command_of, deorder, deorder_of, files_in, generate, generate_in, generate_of, limits_in, migrate, migrate_in, migrate_of, mode_or, path_in, play, play_in, play_of, program_in, read_by, replay, replay_in, replay_of, solve, solve_in, solve_of}
+use Rattle.command_line.specs.Words.{Command, GivenLimits, PlayWords, ReplayWords, SolveWords, are_apart, command_of, deorder, deorder_of, files_in, generate, generate_in, generate_of, goes_with, is_set, limits_in, migrate, migrate_of, mode_or, path_in, play, play_in, play_of, program_in, read_by, replay, replay_in, replay_of, solve, solve_in, solve_of}
 use Rattle.lemmas.proofs.Options.{and_then_some, where_true}
 use Rattle.std.proofs.lemmas.Option.{same_Some}
 
@@ -49,6 +51,16 @@ limits_between rows l e =
       or_between 8 3 (omega arith, omega arith) (first_of (codes "depth") rows) depth.0 depth.1,
     )
 
+-- the cheapest plan is asked for in incremental mode alone
+mode_from : (mode : Mode) (optimal : Bool) → goes_with mode optimal ≡ true → optimal ≡ true → mode ≡ Incremental
+mode_from Incremental optimal e is = refl
+mode_from Focused true e is = absurd (cc)
+mode_from Focused false e is = absurd (cc)
+mode_from Binding true e is = absurd (cc)
+mode_from Binding false e is = absurd (cc)
+mode_from Adaptive true e is = absurd (cc)
+mode_from Adaptive false e is = absurd (cc)
+
 -- where a map stands there is no program
 alone_from : (path workers : Option Text) (program : List Text)
     → are_apart path workers program ≡ true
@@ -73,9 +85,11 @@ solve_between rows w e =
       mode = mode.0;
       limits = limits.0;
       protocol = protocol.0;
+      optimal = is_set (codes "optimal") rows;
     } in
     let apart = are_apart (path_in rows) (first_of (codes "workers") rows) (program_in rows) in
-    let found = where_true apart (Some made) w protocol.2 in
+    let goes = goes_with mode.0 (is_set (codes "optimal") rows) in
+    let found = where_true (apart && goes) (Some made) w protocol.2 in
     let few = limits_between rows limits.0 limits.1 in
     let ranges : AreInRange made = record {
       calls = few.0;
@@ -83,7 +97,8 @@ solve_between rows w e =
       depth = few.2;
       workers = or_between 16 1 (omega arith, omega arith) (first_of (codes "workers") rows) workers.0 workers.1;
       protocol = or_between 2 1 (omega arith, omega arith) (first_of (codes "protocol") rows) protocol.0 protocol.1;
-      alone = alone_from (path_in rows) (first_of (codes "workers") rows) (program_in rows) found.0;
+      alone = alone_from (path_in rows) (first_of (codes "workers") rows) (program_in rows) (first_so apart goes found.0);
+      cheapest = mode_from mode.0 (is_set (codes "optimal") rows) (second_so apart goes found.0);
     } in
     subst AreInRange (same_Some made w found.1) ranges
 

@@ -1,7 +1,7 @@
 -- The commands as clap reads them.
 use Rattle.std.specs.Prelude.{List, [], ◌∷◌, Bool, true, false, Some, codes}
 use Rattle.clap.specs.Words.{App, Kinds, Rule, Text, fault_of, new_app, new_rule, with_rule}
-use Rattle.clap.specs.declared.builder.action.ArgAction.TheVariants.{Append}
+use Rattle.clap.specs.declared.builder.action.ArgAction.TheVariants.{Append, SetTrue}
 
 -- a word that has to stand, in its place
 abbrev pub positional : Text → Rule
@@ -15,6 +15,10 @@ trailing name = record (new_rule name) { action = Some Append }
 abbrev pub option : Text → Rule
 option name = record (new_rule name) { long = Some name }
 
+-- a flag `--name`, which may stand once
+abbrev pub flag : Text → Rule
+flag name = record (new_rule name) { long = Some name; action = Some SetTrue }
+
 -- DOMAIN PROBLEM STREAMS
 abbrev pub task_app : Text → App
 task_app name =
@@ -22,12 +26,13 @@ task_app name =
     (positional (codes "streams"))
 
 -- solve DOMAIN PROBLEM STREAMS [--map FILE] [--algorithm NAME] [--calls N] [--states N] [--depth N] [--workers N]
--- [--protocol N] [-- PROGRAM WORDS]
+-- [--protocol N] [--optimal] [-- PROGRAM WORDS]
 unfoldable pub solve_app : App
 solve_app =
-    with_rule (with_rule (with_rule (with_rule (with_rule (with_rule (with_rule (with_rule (task_app (codes "solve"))
-    (trailing (codes "program"))) (option (codes "map"))) (option (codes "algorithm"))) (option (codes "calls")))
-    (option (codes "states"))) (option (codes "depth"))) (option (codes "workers"))) (option (codes "protocol"))
+    with_rule (with_rule (with_rule (with_rule (with_rule (with_rule (with_rule (with_rule (with_rule
+    (task_app (codes "solve")) (trailing (codes "program"))) (option (codes "map"))) (option (codes "algorithm")))
+    (option (codes "calls"))) (option (codes "states"))) (option (codes "depth"))) (option (codes "workers")))
+    (option (codes "protocol"))) (flag (codes "optimal"))
 
 -- DOMAIN PROBLEM STREAMS REPORT [--states N]
 abbrev pub report_app : Text → App

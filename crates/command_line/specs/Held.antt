@@ -17,6 +17,7 @@ held_solve c = record {
   mode = c.mode;
   limits = record { calls = c.calls; states = c.states; depth = c.depth };
   protocol = c.protocol;
+  optimal = c.optimal;
 }
 
 -- `replay` or `deorder`, by the bytes of its texts

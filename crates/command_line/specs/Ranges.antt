@@ -1,6 +1,7 @@
 -- What holds of every command that words mean.
-use Rattle.std.specs.Prelude.{◌≡◌, ◌≤◌, ℕ, List, [], Some, ⊤}
+use Rattle.std.specs.Prelude.{◌≡◌, ◌≤◌, ℕ, List, [], Some, ⊤, true}
 use Rattle.clap.specs.Words.{Text}
+use Rattle.transcript_model.specs.declared.head.Mode.TheVariants.{Incremental}
 use Rattle.transcript_model.specs.declared.limits.TheConstants.{MOST_CALLS, MOST_DEPTH, WORKERS}
 use Rattle.command_line.specs.Words.{Command, SolveWords, command_of, deorder, generate, migrate, play, replay, solve}
 use Rattle.command_line.specs.declared.number.TheConstants.{LATEST_PROTOCOL}
@@ -10,7 +11,8 @@ use Rattle.task_model.specs.declared.limits.TheConstants.{MOST_STATES}
 abbrev pub IsFromOne : ℕ → ℕ → Type 0
 IsFromOne most n = (1 ≤ n) × (n ≤ most)
 
--- `solve`: its numbers are in their ranges, and no program stands beside a map
+-- `solve`: its numbers are in their ranges, no program stands beside a map, and the cheapest plan is asked for in
+-- incremental mode alone
 pub record AreInRange (w : SolveWords) : Type 0 where
   pub calls : IsFromOne MOST_CALLS w.limits.calls
   pub states : IsFromOne MOST_STATES w.limits.states
@@ -18,6 +20,7 @@ pub record AreInRange (w : SolveWords) : Type 0 where
   pub workers : IsFromOne WORKERS w.workers
   pub protocol : IsFromOne LATEST_PROTOCOL w.protocol
   pub alone : (path : Text) → w.path ≡ Some path → w.program ≡ []
+  pub cheapest : w.optimal ≡ true → w.mode ≡ Incremental
 
 -- the numbers of the command are in their ranges
 abbrev pub IsInRange : Command → Type 0

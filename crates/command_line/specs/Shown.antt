@@ -37,6 +37,7 @@ lent_solve w = record {
   mode = w.mode;
   limits = lent_limits w.limits;
   protocol = w.protocol;
+  optimal = w.optimal;
 }
 
 abbrev pub shown_solve : Option code_solve.SolveWords → Option SolveWords

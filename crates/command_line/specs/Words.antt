@@ -1,5 +1,5 @@
 -- What words mean.
-use Rattle.std.specs.Prelude.{ℕ, Bool, true, false, List, [], ◌∷◌, codes, bytes_eq, Option, None, Some, if◌then◌else◌, option_map, option_and_then}
+use Rattle.std.specs.Prelude.{ℕ, Bool, true, false, not, ◌&&◌, ◌||◌, List, [], ◌∷◌, codes, bytes_eq, Option, None, Some, if◌then◌else◌, option_map, option_and_then}
 use Rattle.clap.specs.Words.{App, Row, Text, all_of, first_of, matches_of}
 use Rattle.transcript_model.specs.declared.head.Mode.{Mode}
 use Rattle.transcript_model.specs.declared.head.Mode.TheVariants.{Incremental, Focused, Binding, Adaptive}
@@ -21,8 +21,8 @@ pub record GivenLimits : Type 0 where
   pub states : ℕ
   pub depth : ℕ
 
--- `solve` with a task, a map or a program, the program's number of workers, a mode, limits, and the version of the
--- protocol
+-- `solve` with a task, a map or a program, the program's number of workers, a mode, limits, the version of the
+-- protocol, and whether the cheapest plan is asked for
 pub record SolveWords : Type 0 where
   pub files : TaskFiles
   pub path : Option Text
@@ -31,6 +31,7 @@ pub record SolveWords : Type 0 where
   pub mode : Mode
   pub limits : GivenLimits
   pub protocol : ℕ
+  pub optimal : Bool
 
 -- `replay` or `deorder` with a task, a report, and the most states
 pub record ReplayWords : Type 0 where
@@ -76,6 +77,15 @@ limits_in rows =
     if_given (count_in (codes "depth") MOST_DEPTH DEFAULT_DEPTH rows) (λ depth.
     Some (record { calls = calls; states = states; depth = depth }))))
 
+-- the text of a flag that stands among the words
+abbrev pub says_true : Option Text → Bool
+says_true None = false
+says_true (Some text) = bytes_eq text (codes "true")
+
+-- the flag of this name stands among the words
+abbrev pub is_set : Text → List Row → Bool
+is_set name rows = says_true (first_of name rows)
+
 -- the mode of this name, and incremental mode where the words name none
 abbrev pub mode_or : Option Text → Option Mode
 mode_or None = Some Incremental
@@ -91,6 +101,17 @@ are_apart None workers program = true
 are_apart (Some path) None [] = true
 are_apart (Some path) None (word ∷ words) = false
 are_apart (Some path) (Some workers) program = false
+
+-- incremental mode
+abbrev pub is_incremental : Mode → Bool
+is_incremental Incremental = true
+is_incremental Focused = false
+is_incremental Binding = false
+is_incremental Adaptive = false
+
+-- the cheapest plan is asked for in incremental mode alone
+abbrev pub goes_with : Mode → Bool → Bool
+goes_with mode optimal = not optimal || is_incremental mode
 
 -- the path of the map
 abbrev pub path_in : List Row → Option Text
@@ -114,6 +135,7 @@ solve_in rows =
     if_given (count_in (codes "workers") WORKERS 1 rows) (λ workers.
     if_given (count_in (codes "protocol") LATEST_PROTOCOL 1 rows) (λ protocol.
     if are_apart (path_in rows) (first_of (codes "workers") rows) (program_in rows)
+    && goes_with mode (is_set (codes "optimal") rows)
     then Some (record {
       files = files;
       path = path_in rows;
@@ -122,6 +144,7 @@ solve_in rows =
       mode = mode;
       limits = limits;
       protocol = protocol;
+      optimal = is_set (codes "optimal") rows;
     })
     else None)))))
 

@@ -30,6 +30,8 @@ pub struct SolveConfig {
     pub depth: u8,
     /// The version of the protocol and of the report, 1 or 2: `--protocol`, and 1 without it.
     pub protocol: u8,
+    /// Whether the cheapest plan is asked for: `--optimal`, which goes with incremental mode alone.
+    pub optimal: bool,
 }
 
 /// A report is to be judged: `replay DOMAIN PROBLEM STREAMS REPORT [--states N]`, or its plan's order

@@ -1,7 +1,8 @@
 //! Words read by a command of clap.
 ghost use Rattle.std.specs.Prelude.{◌≡◌, ◌≢◌, IfOk, IfErr, map, option_map, string_bytes, true, false};
 ghost use Rattle.clap.specs.Words.{all_of, app_of, first_of, found_of, is_simple_and_free, kind_of, matches_of, rows_of, rule_of};
-ghost use Rattle.command_line.specs.Apps.{is_taken, option, positional, trailing};
+ghost use Rattle.command_line.specs.Apps.{flag, is_taken, option, positional, trailing};
+ghost use Rattle.command_line.specs.Words.{is_set};
 
 use crate::WordsFault;
 use clap::error::ErrorKind;
@@ -32,12 +33,30 @@ pub(crate) fn option(alloc: Global, name: &'static str) -> Arg<'static>
     Arg::new(alloc, name).long(name)
 }
 
+/// A flag `--name`, which may stand once.
+pub(crate) fn flag(alloc: Global, name: &'static str) -> Arg<'static>
+    ensures rule { rule_of result ≡ flag name.entry.now }
+    ensures local { result.global ≡ false }
+{
+    Arg::new(alloc, name).long(name).action(ArgAction::SetTrue)
+}
+
 /// The value of a word or an option.
 pub(crate) fn text_in<'a>(matches: &ArgMatches<'a>, name: &str) -> Option<&'a str>
     ensures { option_map (λ s. s.now) result
         ≡ first_of name.now (rows_of (found_of matches.now)) }
 {
     matches.get_str(name)
+}
+
+/// Whether the flag stands among the words.
+pub(crate) fn set_in(matches: &ArgMatches<'_>, name: &str) -> bool
+    ensures { result ≡ is_set name.now (rows_of (found_of matches.now)) }
+{
+    match text_in(matches, name) {
+        Some(text) => text == "true",
+        None => false,
+    }
 }
 
 /// The values of a word that may stand any number of times.

@@ -4,9 +4,9 @@ ghost use Rattle.clap.specs.Words.{app_of, found_of, rows_of};
 ghost use Rattle.command_line.specs.Apps.{solve_app};
 ghost use Rattle.command_line.specs.Held.{held_solve};
 ghost use Rattle.command_line.specs.Shown.{lent_solve, shown_limits, shown_program, shown_solve};
-ghost use Rattle.command_line.specs.Words.{are_apart, limits_in, mode_or, solve_in, solve_of};
+ghost use Rattle.command_line.specs.Words.{are_apart, goes_with, limits_in, mode_or, solve_in, solve_of};
 
-use crate::line::{matches_of_words, option, text_in, trailing, words_in};
+use crate::line::{flag, matches_of_words, option, set_in, text_in, trailing, words_in};
 use crate::number::{DEFAULT_CALLS, DEFAULT_DEPTH, DEFAULT_STATES, LATEST_PROTOCOL, count_in};
 use crate::task::{TaskFiles, files_in, task_command};
 use crate::{SolveConfig, WordsFault};
@@ -33,6 +33,7 @@ struct SolveWords<'m, 'a> {
     mode: Mode,
     limits: Limits,
     protocol: u8,
+    optimal: bool,
 }
 
 fn solve_command<'a>(alloc: Global) -> Result<Command<'a>, AllocError>
@@ -46,7 +47,8 @@ fn solve_command<'a>(alloc: Global) -> Result<Command<'a>, AllocError>
         .arg(option(alloc, "states"))?
         .arg(option(alloc, "depth"))?
         .arg(option(alloc, "workers"))?
-        .arg(option(alloc, "protocol"))
+        .arg(option(alloc, "protocol"))?
+        .arg(flag(alloc, "optimal"))
 }
 
 /// The mode of this name, and incremental mode where the words name none.
@@ -86,6 +88,13 @@ fn are_apart(path: Option<&str>, workers: Option<&str>, program: Option<&[&str]>
     }
 }
 
+/// The cheapest plan is asked for in incremental mode alone.
+fn goes_with(mode: Mode, optimal: bool) -> bool
+    ensures { result ≡ goes_with mode optimal }
+{
+    !optimal || matches!(mode, Mode::Incremental)
+}
+
 fn limits_in(matches: &ArgMatches<'_>) -> Option<Limits>
     ensures { shown_limits result ≡ limits_in (rows_of (found_of matches.now)) }
 {
@@ -107,9 +116,10 @@ fn solve_in<'m, 'a>(matches: &'m ArgMatches<'a>) -> Option<SolveWords<'m, 'a>>
     let limits = limits_in(matches)?;
     let workers = count_in(matches, "workers", WORKERS as u32, 1)?;
     let protocol = count_in(matches, "protocol", LATEST_PROTOCOL, 1)?;
+    let optimal = set_in(matches, "optimal");
     let map = text_in(matches, "map");
     let program = words_in(matches, "program");
-    if are_apart(map, text_in(matches, "workers"), program) {
+    if are_apart(map, text_in(matches, "workers"), program) && goes_with(mode, optimal) {
         Some(SolveWords {
             files,
             map,
@@ -118,6 +128,7 @@ fn solve_in<'m, 'a>(matches: &'m ArgMatches<'a>) -> Option<SolveWords<'m, 'a>>
             mode,
             limits,
             protocol: protocol as u8,
+            optimal,
         })
     } else {
         None
@@ -161,6 +172,7 @@ fn solve_held(alloc: Global, words: SolveWords<'_, '_>) -> Result<SolveConfig, A
         states: words.limits.states,
         depth: words.limits.depth,
         protocol: words.protocol,
+        optimal: words.optimal,
     })
 }
 

@@ -23,9 +23,10 @@ use std::alloc::Global;
 /// # Errors
 ///
 /// - `Usage` only where the words mean no command: there are none, the first is no command's name,
-///   a word or an option is missing, unknown, too many or twice, a number is out of its form or its
-///   range, no mode has the name, or a program or `--workers` stands beside `--map`. `--help`
-///   and `--version` are refused like any unknown word.
+///   a word or an option is missing, unknown, too many or twice, a flag has a value, a number is out
+///   of its form or its range, no mode has the name, a program or `--workers` stands beside `--map`,
+///   or `--optimal` beside another mode than incremental. `--help` and `--version` are refused like
+///   any unknown word.
 /// - `Memory` where memory is wanting. Nothing is said of the words then.
 #[tactic(auto, unfolding(crate::specs::Words::command_of))]
 pub fn read_words(alloc: Global, words: &[String]) -> Result<Config, WordsFault>

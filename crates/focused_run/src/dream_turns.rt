@@ -1,5 +1,5 @@
 //! Turns that begin with a dream.
-ghost use Rattle.std.specs.Prelude.{◌≡◌, ⊤, []};
+ghost use Rattle.std.specs.Prelude.{◌≡◌, ⊤, [], false};
 ghost use Rattle.focused_run.specs.Focusing.{HasCallLeft, IsDreamLine, MayFallBack, RanFocused, carried, idle_of};
 ghost use Rattle.level_run.specs.Advancing.{IsFrontOfTurn};
 ghost use Rattle.level_run.specs.Reporting.{EndsRun, MayRun};
@@ -64,6 +64,8 @@ struct DreamTurns<B: DreamBatches> {
 }
 
 impl<B: DreamBatches> PlanSearch for DreamTurns<B> {
+    ghost cheapest = { false };
+
     fn find(
         &self,
         alloc: Global,

@@ -1,5 +1,5 @@
 //! What is dreamt in a turn.
-ghost use Rattle.std.specs.Prelude.{IfOk};
+ghost use Rattle.std.specs.Prelude.{◌≡◌, IfOk, false};
 ghost use Rattle.focused_run.specs.NextDreams.{IsNextDream};
 ghost use Rattle.level_run.specs.Deciding.{MayDecide, MayDecideAt};
 
@@ -31,9 +31,11 @@ pub enum NextDream {
     Empty,
 }
 
-/// What is dreamt after the transcript, where these were tried. Fails only where memory is wanting.
+/// What is dreamt after the transcript, where these were tried and the head asks for any plan. Fails
+/// only where memory is wanting.
 pub fn next_dream(desk: &Desk<'_>, tried: &Tried) -> Result<NextDream, AllocError>
     requires may { MayDecideAt desk.now }
+    requires any { desk.now.head.optimal ≡ false }
     ensures { IfOk result (IsNextDream desk.now.head desk.now.task desk.now.state.entries
         tried.now) }
 {
@@ -55,6 +57,7 @@ fn dream_over(
     tried: &Tried,
 ) -> Result<NextDream, AllocError>
     requires may { MayDecide task.now head.now session.now }
+    requires any { head.now.optimal ≡ false }
     ensures { IfOk result (IsNextDream head.now task.now session.now.entries tried.now) }
 {
     let dreamt = dream(alloc, task, session, tried, head.depth, head.states)?;

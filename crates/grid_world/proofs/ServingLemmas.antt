@@ -1,12 +1,11 @@
 -- Lines of a source are answered one by one.
-use Rattle.std.proofs.Common.{◌≡◌, ℕ, ◌+◌, ◌-◌, ◌<◌, ◌≤◌, List, [], ◌∷◌, ◌++◌, length, drop, take, refl, sym, ap, ◌∙◌, subst, arith, Option, Some, None, All, position, append-nil, length-append, get_or, map}
+use Rattle.std.proofs.Common.{◌≡◌, ℕ, ◌+◌, ◌-◌, ◌<◌, ◌≤◌, List, [], ◌∷◌, ◌++◌, length, drop, take, refl, sym, ap, ◌∙◌, subst, arith, Option, Some, None, All, position, append-nil, length-append, length-drop, get_or, map}
 use Rattle.std.specs.Io.BufRead.{strip_last}
 use Rattle.std.specs.Io.KnownBytes.{Appends, Consumes, IsAtEnd}
 use Rattle.std.specs.List.{after_first}
 use Rattle.std.proofs.KnownBytes.{Appends-nil, Appends-trans, Consumes-nil, Consumes-trans}
 use Rattle.std.proofs.lemmas.Grind.{flat_map-append}
 use Rattle.std.proofs.lemmas.List.Elements.{All-nil, All-push}
-use Rattle.std.proofs.Math.Seq.{take-append-add}
 use Rattle.gen_lines.specs.Cutting.{Cut, fresh, pushed, took}
 use Rattle.gen_lines.specs.Lines.{is_feed, lines_of, unfinished}
 use Rattle.gen_lines.proofs.LinesLemmas.{after_some, line_short, lines_none, lines_some}
@@ -17,7 +16,7 @@ use Rattle.grid_world.specs.Answers.{answer_in}
 use Rattle.grid_world.specs.Filling.{Came}
 use Rattle.grid_world.specs.Serving.{AnswersLines, EndsSo, Wrote}
 use Rattle.grid_world.specs.declared.status.GridStatus.{GridStatus}
-use Rattle.grid_world.specs.declared.status.GridStatus.TheVariants.{Done, Limit, Input, ReadFault, WriteFault}
+use Rattle.grid_world.specs.declared.status.GridStatus.TheVariants.{Done, Limit, Input, ReadFault, WriteFault, Memory}
 
 -- so many lines were answered, and these bytes are held
 pub record Stands (grid : GridFile) (before after old new : Option (List ℕ)) (held : List ℕ) (n : ℕ) : Type 0 where
@@ -28,16 +27,17 @@ pub record Stands (grid : GridFile) (before after old new : Option (List ℕ)) (
   pub short : All (λ line. length line < 4097) answered
   pub wrote : Appends old new (replies_to grid answered)
   pub count : length answered ≡ n
+  pub near : length held ≤ 4097
 
 pub stands_first : (grid : GridFile) (left taken : Option (List ℕ))
     → Stands grid left left taken taken [] 0
 stands_first grid left taken = record
-    { all = []; answered = []; cut = fresh; from = Consumes-nil left; short = All-nil _; wrote = Appends-nil taken; count = refl }
+    { all = []; answered = []; cut = fresh; from = Consumes-nil left; short = All-nil _; wrote = Appends-nil taken; count = refl; near = omega arith }
 
 pub stands_filled : (grid : GridFile) (before mid after old new : Option (List ℕ)) (held more : List ℕ) (n : ℕ)
-    → Stands grid before mid old new held n → Came mid after held more
+    → Stands grid before mid old new held n → Came mid after held more → length more ≤ 4097
     → Stands grid before after old new more n
-stands_filled grid before mid after old new held more n s c = record {
+stands_filled grid before mid after old new held more n s c few = record {
   all = s.all ++ c.more;
   answered = s.answered;
   cut = subst (Cut (s.all ++ c.more) s.answered) (sym c.held) (pushed s.cut c.more);
@@ -45,6 +45,7 @@ stands_filled grid before mid after old new held more n s c = record {
   short = s.short;
   wrote = s.wrote;
   count = s.count;
+  near = few;
 }
 
 -- the line before a line feed
@@ -84,6 +85,7 @@ stands_answered grid before after old mid new held n end s feed few w = record {
   wrote = subst (Appends old new) (sym (replies_more grid s.answered (line_at end held)))
       (Appends-trans old mid new (replies_to grid s.answered) (answer_to_line grid (line_at end held)) s.wrote w);
   count = omega (arith, s.count, length-append s.answered (line_at end held ∷ []));
+  near = omega (arith, length-drop (end + 1) held, few);
 }
 
 lines_whole : (all held : List ℕ) (answered : List (List ℕ)) → Cut all answered held
@@ -92,10 +94,27 @@ lines_whole all held answered cut =
     let later = (whole all answered held cut).lines [] in
     rw (append-nil all, append-nil held) at later
 
+-- nothing was read
+pub ends_memory : (grid : GridFile) (left taken : Option (List ℕ)) → AnswersLines grid left left taken taken Memory
+ends_memory grid left taken = record {
+  read = [];
+  from = Consumes-nil left;
+  answered = [];
+  behind = lines_of [];
+  lines = lines_whole [] [] [] fresh;
+  few = omega arith;
+  short = All-nil _;
+  ahead = [];
+  cut = fresh;
+  near = omega arith;
+  wrote = Appends-nil taken;
+  ends = refl;
+}
+
 -- no line is left
 pub ends_with : (grid : GridFile) (before after old new : Option (List ℕ)) (held : List ℕ) (n : ℕ) (status : GridStatus)
     → Stands grid before after old new held n → n ≤ 100000 →
-    ((answered : List (List ℕ)) → Appends old new (replies_to grid answered) → Wrote status (replies_to grid answered) old new) →
+    ((answered : List (List ℕ)) → Appends old new (replies_to grid answered) → Wrote status grid answered old new) →
     ((answered : List (List ℕ)) (rest : List ℕ) → length answered ≡ n → (lines_of held ≡ [] → rest ≡ held)
     → EndsSo status answered (lines_of held) rest after)
     →
@@ -108,6 +127,9 @@ ends_with grid before after old new held n status s few wrote so = record {
   lines = lines_whole s.all held s.answered s.cut;
   few = omega (arith, s.count, few);
   short = s.short;
+  ahead = held;
+  cut = s.cut;
+  near = s.near;
   wrote = wrote s.answered s.wrote;
   ends = so s.answered (unfinished s.all) s.count (whole s.all s.answered held s.cut).remains;
 }
@@ -139,34 +161,33 @@ ends_read grid before after old new held n s few none short =
     ends_with grid before after old new held n ReadFault s few
     (λ a w. w) (λ a r c h. (lines_none held none, omega (arith, ap length (h (lines_none held none)), short)))
 
-part_more : (text reply : List ℕ) (n : ℕ)
-    → take (length text + n) (text ++ reply) ≡ text ++ take n reply
-part_more text reply n = take-append-add text reply n
-
 pub ends_write : (grid : GridFile) (before after old mid new : Option (List ℕ)) (held : List ℕ) (n end k : ℕ)
     → Stands grid before after old mid held n → n < 100000 → position is_feed held ≡ Some end → length held ≤ 4097 →
     k < length (answer_to_line grid (line_at end held)) → Appends mid new (take k (answer_to_line grid (line_at end held)))
     → AnswersLines grid before after old new WriteFault
 ends_write grid before after old mid new held n end k s few feed held_few short w =
     let line = line_at end held in
-    let text = replies_to grid s.answered in
-    let all : replies_to grid (s.answered ++ line ∷ []) ≡ text ++ answer_to_line grid line = replies_more grid s.answered line in
-    let part : take (length text + k) (replies_to grid (s.answered ++ line ∷ [])) ≡ text ++ take k (answer_to_line grid line) =
-    ap (take (length text + k)) all ∙ part_more text (answer_to_line grid line) k in
+    let rest = drop (end + 1) held in
     let cut = cut_more s.all held s.answered end s.cut feed in
     record {
       read = s.all;
       from = s.from;
       answered = s.answered ++ line ∷ [];
-      behind = lines_of (drop (end + 1) held);
-      lines = lines_whole s.all (drop (end + 1) held) (s.answered ++ line ∷ []) cut;
+      behind = lines_of rest;
+      lines = lines_whole s.all rest (s.answered ++ line ∷ []) cut;
       few = omega (arith, s.count, length-append s.answered (line ∷ []), few);
       short = All-push (λ line. length line < 4097) s.answered line s.short (line_shorter held end feed held_few);
-      wrote = (
-        length text + k,
-        omega (arith, ap length all, length-append text (answer_to_line grid line), short),
-        subst (Appends old new) (sym part) (Appends-trans old mid new text (take k (answer_to_line grid line)) s.wrote w),
-      );
+      ahead = rest;
+      cut = cut;
+      near = omega (arith, length-drop (end + 1) held, held_few);
+      wrote = record {
+        before = s.answered;
+        line = line;
+        is = refl;
+        count = k;
+        less = short;
+        took = Appends-trans old mid new (replies_to grid s.answered) (take k (answer_to_line grid line)) s.wrote w;
+      };
       ends = omega (arith, length-append s.answered (line ∷ []));
     }
 

@@ -5,12 +5,14 @@ use Rattle.io_world.specs.Faults.{last_count, Extends, Rose}
 use Rattle.io_world.specs.FileMap.{AskedPath, FileMap, HasMore}
 use Rattle.io_world.specs.declared.files.FileFault.{FileFault}
 use Rattle.io_world.specs.declared.files.FileFault.TheVariants as fault
+use Rattle.gen_lines.specs.Cutting.{Cut}
 use Rattle.gen_lines.specs.Lines.{lines_of, unfinished}
 use Rattle.grid_text.specs.Files.{BlamesGridText, IsGridOf}
 use Rattle.grid_text.specs.Grids.{GridFile}
 use Rattle.grid_text.specs.declared.fault.GridFault.TheVariants.{At}
 use Rattle.grid_text.specs.declared.fault.GridKind.{GridKind}
-use Rattle.grid_world.specs.AnswerLines.{replies_to}
+use Rattle.grid_world.specs.AnswerLines.{answer_to_line, replies_to}
+use Rattle.grid_world.specs.declared.held.TheConstants.{HELD_BYTES}
 use Rattle.grid_world.specs.declared.service.TheConstants.{GRID_BYTES, MOST_LINES}
 use Rattle.grid_world.specs.declared.status.GridStatus.{GridStatus}
 use Rattle.grid_world.specs.declared.status.GridStatus.TheVariants.{Done, Limit, Usage, Input, ReadFault, WriteFault, Memory}
@@ -24,15 +26,25 @@ status_code ReadFault = 6
 status_code WriteFault = 8
 status_code Memory = 9
 
--- all of the text was written, or a part of it where a write failed
-abbrev pub Wrote : GridStatus → List ℕ → Option (List ℕ) → Option (List ℕ) → Type 0
-Wrote Done text old new = Appends old new text
-Wrote Limit text old new = Appends old new text
-Wrote Usage text old new = Appends old new text
-Wrote Input text old new = Appends old new text
-Wrote ReadFault text old new = Appends old new text
-Wrote WriteFault text old new = (n : ℕ) × (n < length text) × Appends old new (take n text)
-Wrote Memory text old new = Appends old new text
+-- The answers to these lines were written, but for the end of the last one's: the write of it failed, and nothing was
+-- written behind that.
+pub record WroteLastPart (grid : GridFile) (answered : List (List ℕ)) (old new : Option (List ℕ)) : Type 0 where
+  pub before : List (List ℕ)
+  pub line : List ℕ
+  pub is : answered ≡ before ++ line ∷ []
+  pub count : ℕ
+  pub less : count < length (answer_to_line grid line)
+  pub took : Appends old new (replies_to grid before ++ take count (answer_to_line grid line))
+
+-- the answers to these lines were written, all of them, or the last one's in part where a write failed
+abbrev pub Wrote : GridStatus → GridFile → List (List ℕ) → Option (List ℕ) → Option (List ℕ) → Type 0
+Wrote Done grid answered old new = Appends old new (replies_to grid answered)
+Wrote Limit grid answered old new = Appends old new (replies_to grid answered)
+Wrote Usage grid answered old new = Appends old new (replies_to grid answered)
+Wrote Input grid answered old new = Appends old new (replies_to grid answered)
+Wrote ReadFault grid answered old new = Appends old new (replies_to grid answered)
+Wrote WriteFault grid answered old new = WroteLastPart grid answered old new
+Wrote Memory grid answered old new = Appends old new (replies_to grid answered)
 
 -- How the answers ended: by the lines that were answered, those that were read behind them, the bytes behind the last
 -- line feed, and what the source has left.
@@ -46,7 +58,8 @@ EndsSo WriteFault answered behind rest left = 0 < length answered
 EndsSo Memory answered behind rest left = answered ≡ []
 
 -- Of the bytes that were read, which the source had next, the first lines were answered, at most 100,000, each shorter
--- than 4,097 bytes; their answers were written in order, and nothing else.
+-- than 4,097 bytes; their answers were written in order, and nothing else. What was read ahead, behind the last line
+-- that was answered, is at most 4,097 bytes, as many as one read takes.
 pub record AnswersLines (grid : GridFile) (before after old new : Option (List ℕ)) (status : GridStatus) : Type 0 where
   pub read : List ℕ
   pub from : Consumes before after read
@@ -55,7 +68,10 @@ pub record AnswersLines (grid : GridFile) (before after old new : Option (List �
   pub lines : lines_of read ≡ answered ++ behind
   pub few : length answered ≤ MOST_LINES
   pub short : All (λ line. length line < 4097) answered
-  pub wrote : Wrote status (replies_to grid answered) old new
+  pub ahead : List ℕ
+  pub cut : Cut read answered ahead
+  pub near : length ahead ≤ HELD_BYTES
+  pub wrote : Wrote status grid answered old new
   pub ends : EndsSo status answered behind (unfinished read) after
 
 -- counts of faults never fall, and the one of the source or of the sink rose where its fault is told

@@ -1,19 +1,19 @@
 -- A report is judged in one way.
-use Rattle.std.proofs.Common.{◌≡◌, ℕ, ◌+◌, ◌<◌, ◌≤◌, ◌⊎◌, inl, inr, true, List, take, length, refl, sym, ap, subst, ◌∙◌, Some, slice_get, arith, take_all}
+use Rattle.std.proofs.Common.{◌≡◌, ℕ, ◌<◌, ◌≤◌, ◌⊎◌, inl, inr, true, List, take, length, refl, sym, ap, subst, ◌∙◌, Some, slice_get, arith, take_all}
 use Rattle.std.proofs.lemmas.Bool.{cases_lt}
 use Rattle.std.proofs.lemmas.Option.{same_Some, slice_get_within}
 use Rattle.lemmas.proofs.Members.{get_and_take}
 use Rattle.report_text.proofs.ReportsReadBack.{same_report}
 use Rattle.task_model.specs.declared.task.Task.{Task}
 use Rattle.transcript_model.proofs.LegalNumberLemmas.{asks_rise}
-use Rattle.transcript_model.specs.Legal.{IsRightAsk, MayFollow, asks_of, is_answer}
+use Rattle.transcript_model.specs.Legal.{MayFollow, is_answer}
 use Rattle.transcript_model.specs.declared.entry.Entry.{Entry}
 use Rattle.transcript_model.specs.declared.entry.Entry.TheVariants as entry
 use Rattle.transcript_model.specs.declared.report.Report.{Report}
 use Rattle.legal_report.proofs.OneFaultLemmas.{fault_once}
 use Rattle.legal_report.specs.Laws.{LegalReportsAreNotRefused, ReportsAreRefusedOnce, TextsHaveOneTranscript}
 use Rattle.legal_report.specs.Lines.{line_of}
-use Rattle.legal_report.specs.Reports.{HasTranscript, IsFlawedAt, IsOfReport, RefusesReport, SpellsTranscript}
+use Rattle.legal_report.specs.Reports.{HasTranscript, IsFlawedAt, IsOfReport}
 use Rattle.legal_report.specs.Transcripts.{IsSoundTranscript, IsWrongEntry, IsWrongAsk, FailsAtEntry}
 use Rattle.legal_report.specs.declared.flaw.ReportFlaw.{ReportFlaw}
 use Rattle.legal_report.specs.declared.flaw.ReportFlaw.TheVariants.{Text, Ask, Answer}
@@ -56,7 +56,8 @@ module _ (version : ℕ) (task : Task) (entries : List Entry) where
   sound_stops : IsSoundTranscript version task entries → (place : ℕ) (flaw : ReportFlaw) → FailsAtEntry version task entries place flaw → ⊥
   sound_stops sound place flaw stops =
       front_right place (length entries) (slice_get_within entries place stops.e stops.there)
-      (subst (IsSoundTranscript version task) (sym (take_all (length entries) entries (omega arith))) sound) stops.e stops.there flaw stops.wrong
+      (subst (IsSoundTranscript version task) (sym (take_all (length entries) entries (omega arith))) sound) stops.e
+      stops.there flaw stops.wrong
 
   -- a request isn't an answer
   apart : (before : List Entry) (d : Entry) → IsWrongAsk task before d → is_answer d ≡ true → ⊥

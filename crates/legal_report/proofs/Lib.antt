@@ -1,5 +1,5 @@
 pub mod LawsLemmas
-mod LinesLemmas
+pub mod LinesLemmas
 pub mod OneFaultLemmas
 pub mod TalksAnswerLemmas
 pub mod TalksAskLemmas

@@ -26,7 +26,7 @@ report_short r bytes is =
     omega (arith, long, same)
 
 -- an entry begins behind all lines of each that precedes it
-lines_rise : (xs : List Entry) (j k : ℕ) (e : Entry) → slice_get xs j ≡ Some e → j < k
+pub lines_rise : (xs : List Entry) (j k : ℕ) (e : Entry) → slice_get xs j ≡ Some e → j < k
     → length (flat_map entry_lines (take j xs)) + length (entry_lines e) ≤ length (flat_map entry_lines (take k xs))
 lines_rise [] j k e at lt = absurd (cc)
 lines_rise (x ∷ xs) j zero e at lt = absurd (omega (arith, lt))

@@ -1,5 +1,5 @@
 -- What is found of a report, and of its text.
-use Rattle.std.proofs.Common.{◌≡◌, ℕ, ◌≤◌, List, length, take, refl, sym, subst, ◌∙◌, arith, take_all}
+use Rattle.std.proofs.Common.{◌≡◌, ℕ, List, length, refl, subst, arith, take_all}
 use Rattle.learning.specs.Ledgers.{IsLedger}
 use Rattle.learning.specs.declared.ledger.Ledger.{Ledger}
 use Rattle.report_text.specs.Forms.{IsFormed}
@@ -7,7 +7,7 @@ use Rattle.report_text.specs.Texts.{text_of_report}
 use Rattle.task_model.specs.declared.task.Task.{Task}
 use Rattle.transcript_model.specs.declared.report.Report.{Report}
 use Rattle.legal_report.specs.Lines.{line_of}
-use Rattle.legal_report.specs.Reports.{IsCertified, IsCertifiedReport, IsFlawedAt}
+use Rattle.legal_report.specs.Reports.{IsCertified, IsCertifiedReport}
 use Rattle.legal_report.specs.Transcripts.{FailsAtEntry}
 use Rattle.legal_report.specs.Walks.{StandsAtEntry}
 use Rattle.legal_report.specs.declared.flaw.ReportFlaw.{ReportFlaw}

@@ -13,13 +13,13 @@ use Rattle.transcript_model.proofs.LegalNumberLemmas.{asks_marked, asks_more}
 use Rattle.transcript_model.proofs.LegalPrefixLemmas.{asked-kept}
 use Rattle.transcript_model.proofs.LegalStepLemmas.{mark_adds}
 use Rattle.transcript_model.specs.Laws.{AddsMark}
-use Rattle.transcript_model.specs.Legal.{IsRightAsk, MayFollow, answered_number, asks_of, is_answer, is_ask, is_mark}
+use Rattle.transcript_model.specs.Legal.{MayFollow, answered_number, asks_of, is_answer, is_ask, is_mark}
 use Rattle.transcript_model.specs.declared.entry.Call.{Call}
 use Rattle.transcript_model.specs.declared.entry.Entry.{Entry}
 use Rattle.transcript_model.specs.declared.entry.Entry.TheVariants as entry
 use Rattle.transcript_model.specs.declared.limits.TheConstants.{MOST_CALLS}
 use Rattle.legal_report.specs.Talks.{IsAskedBy}
-use Rattle.legal_report.specs.Transcripts.{IsSoundTranscript, IsWrongEntry, FailsAtEntry}
+use Rattle.legal_report.specs.Transcripts.{IsWrongEntry, FailsAtEntry}
 use Rattle.legal_report.specs.Walks.{IsReadable, StandsAtEntry}
 use Rattle.legal_report.specs.declared.flaw.ReportFlaw.{ReportFlaw}
 use Rattle.legal_report.specs.declared.flaw.ReportFlaw.TheVariants as flaw

@@ -14,7 +14,8 @@ TextsHaveOneTranscript =
 -- a text with a legal transcript is refused for nothing
 abbrev pub LegalReportsAreNotRefused : Type 0
 LegalReportsAreNotRefused =
-    (task : Task) (bytes : List ℕ) (entries : List Entry) (line : ℕ) (flaw : ReportFlaw) → SpellsTranscript task bytes entries
+    (task : Task) (bytes : List ℕ) (entries : List Entry) (line : ℕ) (flaw : ReportFlaw)
+    → SpellsTranscript task bytes entries
     → ¬ (RefusesReport task bytes line flaw)
 
 -- a text is refused in one line, for one flaw

@@ -26,7 +26,8 @@ IsWrongEntry version task before e Answer = (is_answer e ≡ true) × ¬ (MayFol
 IsWrongEntry version task before e Text = ⊥
 
 -- The entry at this place, from 0, is the first that is wrong.
-pub record FailsAtEntry (version : ℕ) (task : Task) (entries : List Entry) (place : ℕ) (flaw : ReportFlaw) : Type 0 where
+pub record FailsAtEntry (version : ℕ) (task : Task) (entries : List Entry) (place : ℕ) (flaw : ReportFlaw)
+    : Type 0 where
   pub before : IsSoundTranscript version task (take place entries)
   pub e : Entry
   pub there : slice_get entries place ≡ Some e

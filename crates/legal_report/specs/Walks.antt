@@ -27,6 +27,6 @@ IsEntryWalked w place after None = StandsAtEntry w (place + 1) after
 IsEntryWalked w place after (Some flaw) = FailsAtEntry w.version w.task.now w.entries.now place flaw
 
 -- all entries are taken, or one is the first that is wrong
-abbrev pub IsWalkDone : Walk → Walked → Type 0
-IsWalkDone w (Ends ledger) = StandsAtEntry w (length w.entries.now) ledger
-IsWalkDone w (Stops place flaw) = FailsAtEntry w.version w.task.now w.entries.now place flaw
+abbrev pub IsWalkDone : Walk → Ledger → Walked → Type 0
+IsWalkDone w ledger Ends = StandsAtEntry w (length w.entries.now) ledger
+IsWalkDone w ledger (Stops place flaw) = FailsAtEntry w.version w.task.now w.entries.now place flaw

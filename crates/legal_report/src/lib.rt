@@ -10,7 +10,6 @@ mod right_asks;
 mod walk;
 
 pub use flaw::ReportFlaw;
-pub use lines::lines_of;
-pub use report::{Certified, certify};
+pub use report::{Certified, certify, line_of};
 pub use right_answers::may_answer;
 pub use right_asks::asked_by;

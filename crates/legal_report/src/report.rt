@@ -25,8 +25,9 @@ pub enum Certified {
     Flawed(usize, ReportFlaw),
 }
 
-/// The line of the entry at this place.
-fn line_of(report: &Report, place: usize) -> usize
+/// The first line of the entry at this place, from 0, of a report of fewer than 2^31 lines; the line
+/// behind the entries, where the place is behind the last. Lines count from 1.
+pub fn line_of(report: &Report, place: usize) -> usize
     requires within { place ≤ length report.now.entries }
     requires lines { length (lines_of_report report.now) < 2 ^ 31 }
     ensures { result ≡ first_line report.now place }
@@ -48,8 +49,9 @@ fn certify_report(alloc: Global, task: &Task, report: &Report) -> Result<Certifi
         version: report.version,
         entries: report.entries.as_slice(),
     };
-    match walk.walk()? {
-        Walked::Ends(ledger) => Ok(Certified::Legal(ledger)),
+    let mut ledger = Box::new(alloc, Ledger::new(alloc, task)?)?;
+    match walk.walk(&mut ledger)? {
+        Walked::Ends => Ok(Certified::Legal(Box::into_inner(ledger))),
         Walked::Stops(place, flaw) => Ok(Certified::Flawed(line_of(report, place), flaw)),
     }
 }

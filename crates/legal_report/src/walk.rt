@@ -23,10 +23,10 @@ pub(crate) struct Walk<'a> {
 }
 
 /// What the entries come to.
-#[derive(Drop)]
+#[derive(Clone, Copy)]
 pub(crate) enum Walked {
-    /// They are legal, and this is kept of them.
-    Ends(Ledger),
+    /// They are legal.
+    Ends,
     /// Those before this place, from 0, are legal, and the one there is wrong for this.
     Stops(usize, ReportFlaw),
 }
@@ -105,17 +105,18 @@ impl Walk<'_> {
         }
     }
 
-    /// Takes all entries, up to the first that is wrong.
-    pub(crate) fn walk(&self) -> Result<Walked, AllocError>
-        requires { IsReadable self.now }
-        ensures { IfOk result (IsWalkDone self.now) }
+    /// Takes all entries, up to the first that is wrong. The ledger is that of no entries, and in the
+    /// end that of those that were taken.
+    pub(crate) fn walk(&self, ledger: &mut Ledger) -> Result<Walked, AllocError>
+        requires readable { IsReadable self.now }
+        requires stands { StandsAtEntry self.now 0 ledger.old }
+        ensures { IfOk result (IsWalkDone self.now ledger.new) }
     {
-        let mut ledger = Ledger::new(self.alloc, self.task)?;
         for place in 0..self.entries.len() {
-            if let Some(flaw) = self.take(&mut ledger, place)? {
+            if let Some(flaw) = self.take(ledger, place)? {
                 return Ok(Walked::Stops(place, flaw));
             }
         }
-        Ok(Walked::Ends(ledger))
+        Ok(Walked::Ends)
     }
 }

@@ -1,5 +1,5 @@
 -- Outcomes that are true.
-use Rattle.std.proofs.Common.{◌≡◌, ℕ, ◌^◌, ◌<◌, ◌≤◌, arith, List, [], length, take, sym, subst, ap, ◌∙◌, false, ◌+◌, Vec, Global, inl, inr}
+use Rattle.std.proofs.Common.{◌≡◌, ℕ, ◌^◌, ◌<◌, ◌≤◌, arith, refl, List, [], length, take, sym, subst, ap, ◌∙◌, Bool, true, false, ◌+◌, Vec, Global, inl, inr}
 use Rattle.std.proofs.Math.Seq.{take-length}
 use Rattle.std.proofs.lemmas.List.{length-map}
 use Rattle.best_first.specs.Answer.{HasPlan, IsFoundPlan, IsLimit}
@@ -13,7 +13,7 @@ use Rattle.shown_plan.proofs.ShownLemmas.{valid_named, true_outcome}
 use Rattle.shown_plan.specs.Shown.{AreNamedSteps, ShowsPlan}
 use Rattle.task_model.specs.Known.{Known, IsCoherent}
 use Rattle.task_model.specs.declared.limits.TheConstants.{MOST_DUE}
-use Rattle.task_model.specs.Plans.{IsSolvable, IsValid, IsFar, IsReached, MoreThan}
+use Rattle.task_model.specs.Plans.{IsLeastCost, IsSolvable, IsValid, IsFar, IsReached, MoreThan}
 use Rattle.task_model.proofs.StreamsLemmas.{nothing_due}
 use Rattle.task_model.specs.Streams.{IsDue, MoreAreDue, NothingIsDue, Note}
 use Rattle.task_model.specs.declared.stream.Instance.{Instance}
@@ -30,7 +30,8 @@ use Rattle.transcript_model.specs.declared.head.Mode.TheVariants.{Incremental}
 use Rattle.transcript_model.specs.declared.outcome.LimitKind.TheVariants.{Calls, States, Instances}
 use Rattle.transcript_model.specs.declared.outcome.Outcome.{Outcome}
 use Rattle.transcript_model.specs.declared.outcome.Outcome.TheVariants as outcome
-use Rattle.level_run.specs.Turns.{HasFewSteps, IsCostInRange, IsDecided, IsSettledEnd, IsSure, IsTurn}
+use Rattle.level_run.specs.Turns.{HasFewSteps, IsCostInRange, IsDecided, IsLeastOutcome, IsPast, IsSettledEnd, IsSure, IsTurn}
+use Rattle.optimal_search.specs.Answer.{IsCheapest}
 use Rattle.round_run.specs.Batches.{EndsBatch}
 use Rattle.mode_turns.specs.Lazy.{IsLazyEnd, IsTurnNeeded}
 use Rattle.transcript_model.specs.Turns.{between}
@@ -38,6 +39,29 @@ use Rattle.level_run.specs.declared.decide.Decision.{Decision}
 use Rattle.level_run.specs.declared.decide.Decision.TheVariants.{Ends, Asks}
 use Rattle.round_run.specs.declared.ending.Batch.{Batch}
 use Rattle.round_run.specs.declared.ending.Batch.TheVariants.{Done, CallsSpent}
+
+-- ---- past the limit of states
+
+-- more states are reached, whatever plan is looked for
+pub reached_past : (cheapest : Bool) (task : Task) (known : Known) (most : ℕ) → IsPast cheapest task known most
+    → MoreThan most (IsReached task known)
+reached_past false task known most far = far.reached
+reached_past true task known most more = more
+
+-- where any plan is looked for, so many also within the steps of each
+pub far_past : (cheapest : Bool) (task : Task) (known : Known) (most : ℕ) → ¬ (cheapest ≡ true)
+    → IsPast cheapest task known most → IsFar task known most
+far_past false task known most any far = far
+far_past true task known most any more = absurd (any refl)
+
+-- where there is no plan, it is enough that more states are reached
+pub past_where_none : (cheapest : Bool) (task : Task) (known : Known) (most : ℕ) → ¬ (IsSolvable task known)
+    → MoreThan most (IsReached task known) → IsPast cheapest task known most
+past_where_none false task known most none more =
+    record { reached = more; nearer = λ steps cost valid. absurd (none (steps, cost, valid)) }
+past_where_none true task known most none more = more
+
+-- ---- outcomes between two turns
 
 module _ (task : Task) (s : State) (works : s.failed ≡ false) (learnt : IsLearnt s) (h : IsSession task s) where
   whole : take s.learnt s.entries ≡ s.entries
@@ -75,20 +99,19 @@ module _ (task : Task) (s : State) (works : s.failed ≡ false) (learnt : IsLear
     few_there limit none more =
         none (subst (λ k. MoreThan limit (IsReached task k)) (sym all_known) more)
 
-    pub far_there : (limit : ℕ) → IsFar task known limit → IsFar task (known_of task s.entries) limit
-    far_there limit far = subst (λ k. IsFar task k limit) all_known far
-
     module _ (head : Head) (of : IsOf head s) where
       pub legal_head : IsLegal head.version task s.entries
       legal_head = subst (λ v. IsLegal v task s.entries) of.version h.legal
 
       plan_sure : (steps : List GroundAction) (cost : ℕ) (o : Outcome)
           → ShowsPlan head.version task s.entries steps cost o → IsValid task known steps cost → length steps ≤ head.states
-          → cost < 2 ^ 64 → IsSure head task s.entries o
-      plan_sure steps cost o shows valid few small = record {
+          → (head.optimal ≡ true → IsLeastCost task (known_of task s.entries) cost) → cost < 2 ^ 64
+          → IsSure head task s.entries o
+      plan_sure steps cost o shows valid few least small = record {
         holds = true_outcome (limits_of head) task s.entries steps cost o shows
             (subst (λ k. IsValid task k steps cost) all_known valid);
-        far = λ e. let both = sym e ∙ shows.is in absurd (cc);
+        least = λ asked. subst (IsLeastOutcome task s.entries) (sym shows.is) (least asked);
+        past = λ e. let both = sym e ∙ shows.is in absurd (cc);
         within = λ e. let both = sym e ∙ shows.is in absurd (cc);
         room = subst IsCostInRange (sym shows.is) small;
         short = subst (HasFewSteps head) (sym shows.is)
@@ -97,9 +120,13 @@ module _ (task : Task) (s : State) (works : s.failed ≡ false) (learnt : IsLear
 
       pub plan_settled : (steps : List GroundAction) (cost : ℕ) (o : Outcome)
           → ShowsPlan head.version task s.entries steps cost o → IsValid task known steps cost → length steps ≤ head.states
-          → cost < 2 ^ 64 → IsSettledEnd head task s.entries o
-      plan_settled steps cost o shows valid few small = record
-          { sure = plan_sure steps cost o shows valid few small; end = end; few = λ e. let both = sym e ∙ shows.is in absurd (cc) }
+          → (head.optimal ≡ true → IsLeastCost task (known_of task s.entries) cost) → cost < 2 ^ 64
+          → IsSettledEnd head task s.entries o
+      plan_settled steps cost o shows valid few least small = record {
+        sure = plan_sure steps cost o shows valid few least small;
+        end = end;
+        few = λ e. let both = sym e ∙ shows.is in absurd (cc);
+      }
         where
           end : IsLazyEnd (limits_of head) task s.entries between o
           end (inl e) = let both = sym e ∙ shows.is in absurd (cc)
@@ -112,13 +139,14 @@ module _ (task : Task) (s : State) (works : s.failed ≡ false) (learnt : IsLear
         record { legal = subst (λ v. IsLegal v task s.entries) of.version h.legal; none_open = h.none_open; finished = due }
 
     -- in incremental mode, or where nothing is due
-    pub states_settled : IsFar task (known_of task s.entries) head.states
+    pub states_settled : IsPast head.optimal task (known_of task s.entries) head.states
         → (¬ (head.mode ≡ Incremental) → IsClosed head.version task s.entries)
         → IsSettledEnd head task s.entries (outcome.Limit States)
-    states_settled far closed = record {
+    states_settled past closed = record {
       sure = record {
-        holds = record { many = far.reached; closed = closed };
-        far = λ e. far;
+        holds = record { many = reached_past head.optimal task (known_of task s.entries) head.states past; closed = closed };
+        least = λ asked. tt;
+        past = λ e. past;
         within = λ e. absurd (cc);
         room = tt;
         short = tt;
@@ -136,7 +164,8 @@ module _ (task : Task) (s : State) (works : s.failed ≡ false) (learnt : IsLear
         → IsSure head task s.entries (outcome.Limit Calls)
     calls_sure spent i due = record {
       holds = record { calls = sym h.counted ∙ spent; none_open = h.none_open; instance = i; due = due };
-      far = λ e. absurd (cc);
+      least = λ asked. tt;
+      past = λ e. absurd (cc);
       within = λ e. absurd (cc);
       room = tt;
       short = tt;
@@ -146,7 +175,14 @@ module _ (task : Task) (s : State) (works : s.failed ≡ false) (learnt : IsLear
         → MoreAreDue MOST_DUE task (known_of task s.entries) (notes_of task s.entries)
         → IsSettledEnd head task s.entries (outcome.Limit Instances)
     instances_settled needed more = record {
-      sure = record { holds = more; far = λ e. absurd (cc); within = λ e. absurd (cc); room = tt; short = tt };
+      sure = record {
+        holds = more;
+        least = λ asked. tt;
+        past = λ e. absurd (cc);
+        within = λ e. absurd (cc);
+        room = tt;
+        short = tt;
+      };
       end = λ e. needed;
       few = λ e. absurd (cc);
     }
@@ -167,7 +203,8 @@ module _ (task : Task) (s : State) (works : s.failed ≡ false) (learnt : IsLear
     no_plan_settled none few due = record {
       sure = record {
         holds = record { closed = closed_there due; unsolvable = none };
-        far = λ e. absurd (cc);
+        least = λ asked. tt;
+        past = λ e. absurd (cc);
         within = λ e. few;
         room = tt;
         short = tt;
@@ -195,16 +232,13 @@ pub found_plan : (task : Task) (known : Known) (limit : ℕ) (f : Found) (plan :
     → HasPlan task known limit f → IsFoundPlan task known limit plan.steps cost
 found_plan task known limit f plan cost is has = subst (HasPlan task known limit) is has
 
-pub found_limit : (task : Task) (known : Known) (limit : ℕ) (f : Found) → f ≡ found.Limit
-    → (IsLimit f → IsFar task known limit)
-    → IsFar task known limit
-found_limit task known limit f is far = far (subst IsLimit (sym is) tt)
+pub found_least : (task : Task) (known : Known) (f : Found) (plan : Plan) (cost : ℕ) → f ≡ found.Plan plan cost
+    → IsCheapest task known f → IsLeastCost task known cost
+found_least task known f plan cost is least = subst (IsCheapest task known) is least
 
--- where there is no plan, more states than the limit are within the steps of each
-pub far_where_none : (task : Task) (known : Known) (limit : ℕ) → ¬ (IsSolvable task known)
-    → MoreThan limit (IsReached task known) → IsFar task known limit
-far_where_none task known limit none more =
-    record { reached = more; nearer = λ steps cost valid. absurd (none (steps, cost, valid)) }
+pub found_limit : (cheapest : Bool) (task : Task) (known : Known) (limit : ℕ) (f : Found) → f ≡ found.Limit
+    → (IsLimit f → IsPast cheapest task known limit) → IsPast cheapest task known limit
+found_limit cheapest task known limit f is past = past (subst IsLimit (sym is) tt)
 
 -- ---- what was decided
 

@@ -1,5 +1,5 @@
 -- What becomes of a desk and a report.
-use Rattle.std.specs.Prelude.{◌≡◌, ℕ, Bool, false, Result, IfErr, IfOk}
+use Rattle.std.specs.Prelude.{◌≡◌, ℕ, Bool, true, false, Result, IfErr, IfOk}
 use Rattle.io_world.specs.Faults.{HasCause, last_count}
 use Rattle.io_world.specs.Talks.{Same}
 use Rattle.round_run.specs.Desk.{AtDesk}
@@ -16,6 +16,7 @@ use Rattle.task_model.specs.Fit.{IsFit}
 use Rattle.task_model.specs.declared.task.Task.{Task}
 use Rattle.transcript_model.specs.declared.head.Head.{Head}
 use Rattle.transcript_model.specs.declared.head.Mode.{Mode}
+use Rattle.transcript_model.specs.declared.head.Mode.TheVariants.{Incremental}
 
 -- Nothing was asked, no child runs, and nothing is kept of any.
 pub record IsStillAt (desk : AtDesk) (host : HostTold) : Type 0 where
@@ -36,12 +37,13 @@ pub record EndsReport (old new : AtDesk) (c : Stretch) (result : Result Ran RunF
 
 -- ---- whole runs
 
--- What must be so that a task is solved in a mode: the task is fit, the head can be run and has the mode, and no child
--- runs.
+-- What must be so that a task is solved in a mode: the task is fit, the head can be run, has the mode and asks for the
+-- cheapest plan in incremental mode alone, and no child runs.
 pub record MayRun (mode : Mode) (task : Task) (head : Head) (running : ℕ → Bool) : Type 0 where
   pub fit : IsFit task
   pub runnable : IsRunnable task head
   pub is : head.mode ≡ mode
+  pub alone : head.optimal ≡ true → mode ≡ Incremental
   pub idle : (k : ℕ) → running k ≡ false
 
 -- What a run has done, from its head to its end: a whole report was written, or a part of one; where nothing is asked

@@ -5,7 +5,8 @@ use Rattle.instance_queue.specs.declared.due.Due.{Due}
 use Rattle.session_core.specs.Ready.{AreReady}
 use Rattle.session_core.specs.State.{State}
 use Rattle.mode_turns.specs.Lazy.{IsFewDue, IsLazy, IsLazyEnd, IsTurnNeeded}
-use Rattle.task_model.specs.Plans.{IsFar, IsReached, MoreThan}
+use Rattle.task_model.specs.Known.{Known}
+use Rattle.task_model.specs.Plans.{IsFar, IsLeastCost, IsReached, MoreThan}
 use Rattle.task_model.specs.declared.stream.Instance.{Instance}
 use Rattle.task_model.specs.declared.task.Task.{Task}
 use Rattle.transcript_model.specs.Outcomes.{IsTrueOutcome}
@@ -38,11 +39,25 @@ HasFewSteps head (outcome.Plan steps cost from) = length steps ≤ head.states
 HasFewSteps head outcome.NoPlan = Unit {0}
 HasFewSteps head (outcome.Limit kind) = Unit {0}
 
--- An outcome is true; the limit of states stands only where so many states are within the steps of each plan, and `no
--- plan` only where no more are reached. What a plan costs has room in 64 bits, and its steps are few.
+-- More states are reached than the limit; and where any plan is looked for, and not the cheapest, so many also within
+-- the steps of each plan.
+abbrev pub IsPast : (cheapest : Bool) → Task → Known → ℕ → Type 0
+IsPast false task known most = IsFar task known most
+IsPast true task known most = MoreThan most (IsReached task known)
+
+-- no plan by what is certified costs less than the one that is told
+abbrev pub IsLeastOutcome : Task → List Entry → Outcome → Type 0
+IsLeastOutcome task entries (outcome.Plan steps cost from) = IsLeastCost task (known_of task entries) cost
+IsLeastOutcome task entries outcome.NoPlan = Unit {0}
+IsLeastOutcome task entries (outcome.Limit kind) = Unit {0}
+
+-- An outcome is true; where the head asks for the cheapest plan, a plan is that. The limit of states stands only where
+-- the search was past it, and `no plan` only where no more states are reached. What a plan costs has room in 64 bits, and
+-- its steps are few.
 pub record IsSure (head : Head) (task : Task) (entries : List Entry) (o : Outcome) : Type 0 where
   pub holds : IsTrueOutcome (limits_of head) task entries o
-  pub far : o ≡ outcome.Limit States → IsFar task (known_of task entries) head.states
+  pub least : head.optimal ≡ true → IsLeastOutcome task entries o
+  pub past : o ≡ outcome.Limit States → IsPast head.optimal task (known_of task entries) head.states
   pub within : o ≡ outcome.NoPlan
       → ¬ (MoreThan head.states (IsReached task (known_of task entries)))
   pub room : IsCostInRange o

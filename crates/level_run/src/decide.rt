@@ -1,10 +1,10 @@
 //! What a turn does: it ends the run, or asks a level.
 ghost use Rattle.std.specs.Prelude.{◌≡◌, length, IfOk, IfErr, MatchOption};
-ghost use Rattle.level_run.specs.Deciding.{FindsPlan, MayDecide, MayDecideAt};
-ghost use Rattle.level_run.specs.Turns.{IsDecided, IsSettledEnd};
+ghost use Rattle.level_run.specs.Deciding.{FindsPlan, MayDecide, MayDecideAt, SeeksPlan};
+ghost use Rattle.level_run.specs.Turns.{IsDecided, IsPast, IsSettledEnd};
 ghost use Rattle.mode_turns.specs.Lazy.{IsTurnNeeded};
 ghost use Rattle.round_run.specs.declared.fault.RunFault.TheVariants.{Memory};
-ghost use Rattle.task_model.specs.Plans.{IsFar, IsSolvable};
+ghost use Rattle.task_model.specs.Plans.{IsSolvable};
 ghost use Rattle.task_model.specs.Streams.{NothingIsDue};
 ghost use Rattle.transcript_model.specs.Rounds.{limits_of};
 ghost use Rattle.transcript_model.specs.Transcript.{known_of, notes_of};
@@ -32,6 +32,7 @@ pub enum Decision {
 /// is asked.
 pub(crate) fn decide<S: PlanSearch>(desk: &Desk<'_>, mode: &S) -> Result<Decision, RunFault>
     requires may { MayDecideAt desk.now }
+    requires seeks { SeeksPlan S.cheapest desk.now.head }
     ensures decided { IfOk result (IsDecided desk.now.head desk.now.task desk.now.state.entries
         (length desk.now.state.asked)) }
     ensures only { IfErr result (λ fault. fault ≡ Memory) }
@@ -48,6 +49,7 @@ fn choose<S: PlanSearch>(
     mode: &S,
 ) -> Result<Decision, RunFault>
     requires may { MayDecide task.now head.now session.now }
+    requires seeks { SeeksPlan S.cheapest head.now }
     ensures decided { IfOk result (IsDecided head.now task.now session.now.entries
         (length session.now.asked)) }
     ensures only { IfErr result (λ fault. fault ≡ Memory) }
@@ -68,8 +70,9 @@ fn decide_found(
     found: Found,
 ) -> Result<Decision, RunFault>
     requires may { MayDecide task.now head.now session.now }
-    requires finds { FindsPlan task.now (known_of task.now session.now.entries) head.now.states
-        found }
+    requires seeks { SeeksPlan head.now.optimal head.now }
+    requires finds { FindsPlan head.now.optimal task.now
+        (known_of task.now session.now.entries) head.now.states found }
     ensures decided { IfOk result (IsDecided head.now task.now session.now.entries
         (length session.now.asked)) }
     ensures only { IfErr result (λ fault. fault ≡ Memory) }
@@ -126,11 +129,13 @@ fn end_of_hopeless(
     }
 }
 
-/// What is to be done where each plan is past the limit of states: in incremental mode the run
+/// What is to be done where the search was past the limit of states: in incremental mode the run
 /// ends.
 fn decide_far(task: &Task, head: &Head, session: &Session) -> Result<Decision, RunFault>
     requires may { MayDecide task.now head.now session.now }
-    requires far { IsFar task.now (known_of task.now session.now.entries) head.now.states }
+    requires seeks { SeeksPlan head.now.optimal head.now }
+    requires past { IsPast head.now.optimal task.now (known_of task.now session.now.entries)
+        head.now.states }
     ensures decided { IfOk result (IsDecided head.now task.now session.now.entries
         (length session.now.asked)) }
     ensures only { IfErr result (λ fault. fault ≡ Memory) }

@@ -1,19 +1,20 @@
 //! Incremental mode.
-ghost use Rattle.std.specs.Prelude.{⊤};
+ghost use Rattle.std.specs.Prelude.{⊤, false};
 ghost use Rattle.level_run.specs.Reporting.{EndsRun, MayRun};
 ghost use Rattle.mode_turns.specs.Modes.{nothing_kept};
 ghost use Rattle.round_run.specs.Told.{stretch};
 ghost use Rattle.transcript_model.specs.declared.head.Mode.TheVariants.{Incremental};
 
-use crate::levels::run_level;
+use crate::levels::run_level_turn;
 use crate::mode_run::{Ran, run_mode};
+use crate::optimal_mode::optimal;
 use crate::search::{PlanSearch, by_estimate};
 use crate::turns::{Turned, Turns};
 use best_first::Found;
 use fact_store::Facts;
 use instance_queue::Due;
 use io_world::{Host, Sink};
-use round_run::{Batch, Desk, RunFault};
+use round_run::{Desk, RunFault};
 use std::alloc::{AllocError, Global};
 use task_model::Task;
 use transcript_model::Head;
@@ -23,6 +24,8 @@ use transcript_model::Head;
 pub struct Levels;
 
 impl PlanSearch for Levels {
+    ghost cheapest = { false };
+
     fn find(
         &self,
         alloc: Global,
@@ -50,16 +53,14 @@ impl Turns for Levels {
         out: &mut O,
         dues: &[Due],
     ) -> Result<Turned, RunFault> {
-        match run_level(desk, host, out, dues)? {
-            Batch::Done => Ok(Turned::Done),
-            Batch::CallsSpent => Ok(Turned::Spent),
-        }
+        run_level_turn(desk, host, out, dues)
     }
 }
 
 /// Solves a task in incremental mode and writes the report: while no plan exists over what is
-/// known, all that is due is asked, level by level. No child runs before, and none afterwards; that
-/// a child fails to stop changes nothing.
+/// known, all that is due is asked, level by level. Where the head asks for the cheapest plan, the
+/// run is that of `optimal`. No child runs before, and none afterwards; that a child fails to stop
+/// changes nothing.
 ///
 /// # Errors
 /// `Answer` where the line that answers a request is no answer, with the request's number;
@@ -76,5 +77,8 @@ pub fn incremental<H: Host, O: Sink>(
     ensures ran { EndsRun task.now head.now (stretch H.last H.running H.spoken H.log H.faults
         O.taken O.faults host.old host.new out.old out.new) result }
 {
+    if head.optimal {
+        return optimal(alloc, task, head, host, out);
+    }
     run_mode(alloc, task, head, &mut Levels, host, out)
 }

@@ -1,11 +1,15 @@
 //! Whole levels, and what follows where there is no dream.
-ghost use Rattle.std.specs.Prelude.{length};
+ghost use Rattle.std.specs.Prelude.{◌≡◌, length, ⊤};
+ghost use Rattle.level_run.specs.Advancing.{Fits, IsFrontOfTurn, RanTurn};
 ghost use Rattle.level_run.specs.Turns.{IsFrontOfFallback, IsSomeLevel, IsTurn, RanFallback, RanLevel};
+ghost use Rattle.mode_turns.specs.Modes.{nothing_kept};
 ghost use Rattle.round_run.specs.Desk.{OnTurn, RestsAt};
 ghost use Rattle.round_run.specs.Rolling.{IsFrontPart};
 ghost use Rattle.round_run.specs.Told.{stretch, host_told};
+ghost use Rattle.transcript_model.specs.declared.head.Mode.TheVariants.{Incremental};
 
 use crate::asks::ask_behind;
+use crate::turns::Turned;
 use instance_queue::Due;
 use io_world::{Host, Sink};
 use round_run::{Batch, Desk, RunFault};
@@ -28,6 +32,30 @@ pub(crate) fn run_level<H: Host, O: Sink>(
         desk.old.state.entries)) result }
 {
     ask_behind(desk, host, out, Entry::Level, dues)
+}
+
+/// A turn of incremental mode, in which nothing is carried on: a whole level.
+pub(crate) fn run_level_turn<H: Host, O: Sink>(
+    desk: &mut Desk<'_>,
+    host: &mut H,
+    out: &mut O,
+    dues: &[Due],
+) -> Result<Turned, RunFault>
+    requires mode { desk.old.head.mode ≡ Incremental }
+    requires rests { RestsAt desk.old (host_told H.running H.spoken H.log H.faults host.old) }
+    requires turn { IsTurn desk.old.head desk.old.task desk.old.state.entries
+        (length desk.old.state.asked) dues.now }
+    requires fits { Fits (λ asked. ⊤) 0 desk.old.state }
+    ensures goes { OnTurn desk.old desk.new (stretch H.last H.running H.spoken H.log H.faults
+        O.taken O.faults host.old host.new out.old out.new)
+        (RanTurn desk.old.task desk.old.head nothing_kept nothing_kept 0 0 (λ asked. ⊤)
+        desk.old.state desk.new.state)
+        (IsFrontOfTurn desk.old.task desk.old.head nothing_kept desk.old.state.entries) result }
+{
+    match run_level(desk, host, out, dues)? {
+        Batch::Done => Ok(Turned::Done),
+        Batch::CallsSpent => Ok(Turned::Spent),
+    }
 }
 
 /// Goes on behind a `none`, which was printed: where something was tried (`is_tried`), that is

@@ -1,6 +1,7 @@
 //! A run in any mode.
 ghost use Rattle.std.specs.Prelude.{◌≡◌, ◌≤◌, cond, count_by};
 ghost use Rattle.level_run.specs.Advancing.{IsFreshMode};
+ghost use Rattle.level_run.specs.Deciding.{IsHeadFor};
 ghost use Rattle.level_run.specs.Reporting.{EndsReport, EndsRun, IsStillAt, MayRun};
 ghost use Rattle.round_run.specs.Told.{stretch, host_told};
 ghost use Rattle.task_model.specs.Fit.{IsFit};
@@ -57,7 +58,7 @@ fn report<M: Turns, H: Host, O: Sink>(
     out: &mut O,
 ) -> Result<Ran, RunFault>
     requires fit { IsFit desk.old.task }
-    requires mode { desk.old.head.mode ≡ M.mode }
+    requires mode { IsHeadFor M.mode M.cheapest desk.old.head }
     requires fresh { IsFreshMode (M.kept mode.old) (M.idle mode.old) (M.holds mode.old) }
     requires still { IsStillAt desk.old (host_told H.running H.spoken H.log H.faults host.old) }
     ensures ends { EndsReport desk.old desk.new (stretch H.last H.running H.spoken H.log H.faults
@@ -75,8 +76,9 @@ fn report<M: Turns, H: Host, O: Sink>(
     })
 }
 
-/// Solves a task in the mode, which is fresh, and writes the report. No child runs before, and none
-/// afterwards; that a child fails to stop changes nothing.
+/// Solves a task in the mode, which is fresh and looks for the cheapest plan exactly where the head
+/// asks for it, and writes the report. No child runs before, and none afterwards; that a child fails
+/// to stop changes nothing.
 ///
 /// # Errors
 /// `Answer` where the line that answers a request is no answer, with the request's number;
@@ -91,6 +93,7 @@ pub fn run_mode<M: Turns, H: Host, O: Sink>(
     out: &mut O,
 ) -> Result<Ran, RunFault>
     requires may { MayRun M.mode task.now head.now (H.running host.old) }
+    requires seeks { head.now.optimal ≡ M.cheapest }
     requires fresh { IsFreshMode (M.kept mode.old) (M.idle mode.old) (M.holds mode.old) }
     ensures ran { EndsRun task.now head.now (stretch H.last H.running H.spoken H.log H.faults
         O.taken O.faults host.old host.new out.old out.new) result }

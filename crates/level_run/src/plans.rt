@@ -1,8 +1,8 @@
 //! Plans that are valid by what is known.
-ghost use Rattle.std.specs.Prelude.{◌≤◌, length, IfOk};
+ghost use Rattle.std.specs.Prelude.{◌≡◌, ◌≤◌, length, true, IfOk};
 ghost use Rattle.level_run.specs.Deciding.{MayDecide};
 ghost use Rattle.level_run.specs.Turns.{IsSettledEnd};
-ghost use Rattle.task_model.specs.Plans.{IsValid};
+ghost use Rattle.task_model.specs.Plans.{IsLeastCost, IsValid};
 ghost use Rattle.transcript_model.specs.Transcript.{known_of};
 
 use session_core::Session;
@@ -11,8 +11,9 @@ use std::alloc::{AllocError, Global};
 use task_model::{Plan, Task};
 use transcript_model::{Head, Outcome};
 
-/// The outcome of a run that ends with this plan, which is valid by what is known at this cost and
-/// has at most as many steps as a search may have states. Fails only where memory is wanting.
+/// The outcome of a run that ends with this plan, which is valid by what is known at this cost, has
+/// at most as many steps as a search may have states, and costs least where the head asks for that.
+/// Fails only where memory is wanting.
 pub fn known_plan(
     alloc: Global,
     task: &Task,
@@ -24,6 +25,8 @@ pub fn known_plan(
     requires may { MayDecide task.now head.now session.now }
     requires valid { IsValid task.now (known_of task.now session.now.entries) plan.now.steps cost }
     requires few { length plan.now.steps ≤ head.now.states }
+    requires least { head.now.optimal ≡ true
+        → IsLeastCost task.now (known_of task.now session.now.entries) cost }
     ensures { IfOk result (IsSettledEnd head.now task.now session.now.entries) }
 {
     let facts = session.facts();

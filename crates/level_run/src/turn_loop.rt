@@ -1,6 +1,7 @@
 //! Turns of a mode, one after another.
 ghost use Rattle.std.specs.Prelude.{◌≡◌, ℕ, false, length, OnOk};
 ghost use Rattle.level_run.specs.Advancing.{IsFreshMode, RanTurns};
+ghost use Rattle.level_run.specs.Deciding.{IsHeadFor};
 ghost use Rattle.round_run.specs.Desk.{OnTurn, RestsAt};
 ghost use Rattle.round_run.specs.Told.{stretch, host_told};
 ghost use Rattle.level_run.specs.Turns.{IsFrontOfRun};
@@ -19,7 +20,7 @@ pub(crate) fn run_turns<M: Turns, H: Host, O: Sink>(
     host: &mut H,
     out: &mut O,
 ) -> Result<Outcome, RunFault>
-    requires mode { desk.old.head.mode ≡ M.mode }
+    requires mode { IsHeadFor M.mode M.cheapest desk.old.head }
     requires fresh { IsFreshMode (M.kept mode.old) (M.idle mode.old) (M.holds mode.old) }
     requires first { IsNew desk.old.task desk.old.state }
     requires rests { RestsAt desk.old (host_told H.running H.spoken H.log H.faults host.old) }

@@ -1,6 +1,7 @@
 //! What a mode does in a turn.
-ghost use Rattle.std.specs.Prelude.{◌≡◌, ℕ, length};
+ghost use Rattle.std.specs.Prelude.{ℕ, length};
 ghost use Rattle.level_run.specs.Advancing.{Fits, IsFrontOfTurn, RanTurn};
+ghost use Rattle.level_run.specs.Deciding.{IsHeadFor};
 ghost use Rattle.round_run.specs.Desk.{OnTurn, RestsAt};
 ghost use Rattle.round_run.specs.Told.{stretch, host_told};
 ghost use Rattle.level_run.specs.Turns.{IsTurn};
@@ -47,7 +48,7 @@ pub trait Turns: PlanSearch {
         out: &mut O,
         dues: &[Due],
     ) -> Result<Turned, RunFault>
-        requires mode { desk.old.head.mode ≡ mode }
+        requires mode { IsHeadFor mode Self.cheapest desk.old.head }
         requires rests { RestsAt desk.old (host_told H.running H.spoken H.log H.faults host.old) }
         requires turn { IsTurn desk.old.head desk.old.task desk.old.state.entries
             (length desk.old.state.asked) dues.now }

@@ -1,5 +1,5 @@
 -- Words that are written out, and what they mean: the definitions compute.
-use Rattle.std.proofs.Common.{◌≡◌, ℕ, List, [], ◌∷◌, Some, None, codes, refl}
+use Rattle.std.proofs.Common.{◌≡◌, ℕ, List, [], ◌∷◌, Some, None, codes, false, true, refl}
 use Rattle.clap.specs.Words.{Text}
 use Rattle.clap.proofs.OnLiterals.{clap_on_literals}
 use Rattle.transcript_model.specs.declared.head.Mode.TheVariants.{Incremental}
@@ -15,7 +15,7 @@ limits calls = record { calls = calls; states = 100000; depth = 3 }
 
 abbrev with_program : List Text → ℕ → SolveWords
 with_program words calls = record
-    { files = files; path = None; program = words; workers = 1; mode = Incremental; limits = limits calls; protocol = 1 }
+    { files = files; path = None; program = words; workers = 1; mode = Incremental; limits = limits calls; protocol = 1; optimal = false }
 
 abbrev task : Text → List Text → List Text
 task name rest = name ∷ codes "d" ∷ codes "p" ∷ codes "s" ∷ rest
@@ -28,6 +28,15 @@ replay_states = refl
 replay_twice : command_of (task (codes "replay") (codes "r" ∷ codes "--states=5" ∷ codes "--states=5" ∷ [])) ≡ None
 unfolding clap_on_literals command_of read_by is_taken replay_app is_count
 replay_twice = refl
+
+solve_optimal : command_of (task (codes "solve") (codes "--optimal" ∷ codes "g" ∷ []))
+    ≡ Some (solve (record (with_program (codes "g" ∷ []) 10000) { optimal = true }))
+unfolding clap_on_literals command_of read_by is_taken solve_app is_count
+solve_optimal = refl
+
+optimal_focused : command_of (task (codes "solve") (codes "--optimal" ∷ codes "--algorithm=focused" ∷ [])) ≡ None
+unfolding clap_on_literals command_of read_by is_taken solve_app is_count
+optimal_focused = refl
 
 solve_mixed : command_of (task (codes "solve") (codes "g" ∷ codes "--calls" ∷ codes "5" ∷ codes "h" ∷ []))
     ≡ Some (solve (with_program (codes "g" ∷ codes "h" ∷ []) 5))

@@ -33,8 +33,8 @@ fn mode_word(mode: Mode) -> &'static str {
     }
 }
 
-/// Writes paths, calls, states, depth, workers and mode, the protocol where it isn't 1, and then the
-/// map or the program.
+/// Writes paths, calls, states, depth, workers and mode, the protocol where it isn't 1, whether the
+/// cheapest plan is asked for, and then the map or the program.
 fn write_solve(out: &mut Out, config: &SolveConfig) {
     out.put("solve");
     write_word(out, config.domain.as_str());
@@ -48,6 +48,9 @@ fn write_solve(out: &mut Out, config: &SolveConfig) {
     if config.protocol != 1 {
         out.put(" protocol");
         write_number(out, u32::from(config.protocol));
+    }
+    if config.optimal {
+        out.put(" optimal");
     }
     if let Some(map) = &config.map {
         out.put(" map");

@@ -63,6 +63,7 @@ module _ (words : List (List ℕ)) (outside : Outside) (written : Written) where
         shown = plan.shown;
         valid = plan.valid;
         origins = plan.origins;
+        least = turns.sure.least;
         took = took;
       }
   plan_from outcome.NoPlan kind run turns took = absurd (cc)

@@ -1,8 +1,8 @@
 -- What a printed plan and a printed `no plan` mean, in the words of planning: the headline of `run`.
-use Rattle.std.specs.Prelude.{◌≡◌, ℕ, List, map, Option}
+use Rattle.std.specs.Prelude.{◌≡◌, ℕ, List, map, Option, true}
 use Rattle.std.specs.Io.KnownBytes.{Appends}
 use Rattle.io_world.specs.FileMap.{FileMap}
-use Rattle.task_model.specs.Plans.{IsSolvable, IsValid}
+use Rattle.task_model.specs.Plans.{IsLeastCost, IsSolvable, IsValid}
 use Rattle.task_model.specs.declared.task.GroundAction.{GroundAction}
 use Rattle.transcript_model.specs.Calls.{call_of_step}
 use Rattle.transcript_model.specs.Legal.{IsClosed}
@@ -17,7 +17,8 @@ use Rattle.run_command.specs.Runs.{ProgramRun, shown_text}
 -- The sink took all that is shown of a run with this plan: its report, or the line of `generate`. The run's transcript
 -- is legal; over what its answers certify and what the problem says at first the steps are executable, one after
 -- another, up to the goal; the printed calls are these steps and the printed cost is what they cost; and each
--- generated object among them comes from the answer that is named.
+-- generated object among them comes from the answer that is named. Where the cheapest plan was asked for, no plan over
+-- what is known costs less.
 pub record PrintsPlan (words : List (List ℕ)) (told : Option FileMap) (written : Written) : Type 0 where
   pub run : ProgramRun words told
   pub steps : List GroundAction
@@ -27,6 +28,7 @@ pub record PrintsPlan (words : List (List ℕ)) (told : Option FileMap) (written
   pub shown : calls ≡ map (call_of_step run.task (names_of run.task run.entries)) steps
   pub valid : IsValid run.task (known_of run.task run.entries) steps cost
   pub origins : AreOrigins run.head.version run.entries calls from
+  pub least : run.head.optimal ≡ true → IsLeastCost run.task (known_of run.task run.entries) cost
   pub took : Appends written.before written.after
       (shown_text run.work run.task run.head run.entries (outcome.Plan calls cost from))
 

@@ -1,7 +1,6 @@
 -- How a text is cut at its first line feed.
 use Rattle.std.proofs.Common.{◌≡◌, ℕ, ◌+◌, ◌-◌, ◌<◌, List, [], ◌∷◌, length, take, drop, sym, ap, ◌∙◌, arith, Some, None, position, length-drop}
 use Rattle.std.proofs.lemmas.List.{length-take-le}
-use Rattle.std.specs.List.{slice_split}
 use Rattle.gen_lines.specs.Lines.{is_feed}
 use Rattle.report_reader.proofs.SplitsCutLemmas.{cut_none, cut_some}
 use Rattle.plan_reader.specs.Lines.{text_lines}

@@ -35,7 +35,8 @@ steps_left total rest = steps_of (place_left total rest) (lines_left rest)
 -- the steps of a text that is left are what its first line says, and then the steps of the rest
 pub first_said : (total : ℕ) (text line : List ℕ) (rest : Option (Bor (List ℕ))) → length text ≤ total
     → IsFirstTextLine text line rest
-    → steps_of (total - length text) (text_lines text) ≡ said_then (total - length text) (said_by line) (steps_left total rest)
+    → steps_of (total - length text) (text_lines text)
+    ≡ said_then (total - length text) (said_by line) (steps_left total rest)
 first_said total text line None within is = ap (steps_of (total - length text)) is
 first_said total text line (Some rest) within is =
     let there : total - length text + length line + 1 ≡ total - length rest.now = omega (arith, is.1, within) in
@@ -110,7 +111,8 @@ module _ (total : ℕ) (all : Result (List Call) WrongLine) (calls : List Call) 
       ∙ ap (λ o. behind_calls calls (said_then (total - length text.now) o (steps_left total rest))) wrong
 
 -- so it refuses the text, want of memory apart
-pub text_refused : (bytes : List ℕ) (calls : List Call) (text : Bor (List ℕ)) (line : List ℕ) (rest : Option (Bor (List ℕ)))
+pub text_refused : (bytes : List ℕ) (calls : List Call) (text : Bor (List ℕ)) (line : List ℕ)
+    (rest : Option (Bor (List ℕ)))
     → length text.now ≤ length bytes → IsFirstTextLine text.now line rest
     → plan_of bytes ≡ behind_calls calls (steps_left (length bytes) (Some text)) → (fault : LineFault)
     → LineFails fault (said_by line) → Refuses (RefusesPlan bytes) (refusal_at fault (length bytes - length text.now))

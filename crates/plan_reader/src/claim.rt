@@ -1,5 +1,5 @@
 //! The cost that a plan claims.
-ghost use Rattle.std.specs.Prelude.{◌≡◌, ◌<◌, IfSome, codes, length, option_map, position};
+ghost use Rattle.std.specs.Prelude.{◌≡◌, ◌<◌, IfSome, length, option_map, position};
 ghost use Rattle.sexpr_text.specs.Tokens.{is_blank as is_space};
 ghost use Rattle.plan_reader.specs.Claims as specs;
 

@@ -1,5 +1,5 @@
 //! The parts of a line: a number in front, a step, and what stands in brackets behind it.
-ghost use Rattle.std.specs.Prelude.{◌≡◌, ◌<◌, ◌≤◌, ◌==◌, IfSome, drop, length, not, position, take};
+ghost use Rattle.std.specs.Prelude.{◌≡◌, ◌<◌, ◌≤◌, ◌==◌, IfSome, drop, length, position, take};
 ghost use Rattle.std.specs.List.{list_all};
 ghost use Rattle.sexpr_text.specs.Tokens.{is_blank};
 ghost use Rattle.plan_reader.specs.Lines as specs;

@@ -2,7 +2,7 @@
 ghost use Rattle.std.specs.Prelude.{◌≡◌, drop, take};
 ghost use Rattle.sexpr_text.specs.Trees.{tree, trees};
 ghost use Rattle.plan_reader.specs.Steps as specs;
-ghost use Rattle.plan_reader.specs.Steps.{LineFails, LineGives};
+ghost use Rattle.plan_reader.specs.Steps.{LineGives};
 
 use crate::fault::LineFault;
 use crate::line::{behind, first_bytes, is_idle, step_bytes};

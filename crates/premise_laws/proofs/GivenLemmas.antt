@@ -1,5 +1,5 @@
 -- Each run of these words over these files is one of the first worked task, and the table is the one of its child.
-use Rattle.std.proofs.Common.{◌≡◌, ℕ, ◌≤◌, [], ◌∷◌, codes, refl, sym, ap, subst, ◌∙◌, arith, None, Some}
+use Rattle.std.proofs.Common.{◌≡◌, ℕ, ◌≤◌, [], ◌∷◌, codes, false, refl, sym, ap, subst, ◌∙◌, arith, None, Some}
 use Rattle.std.proofs.lemmas.Option.{same_Some}
 use Rattle.clap.proofs.OnLiterals.{clap_on_literals}
 use Rattle.command_line.specs.Apps.{is_taken, solve_app}
@@ -35,6 +35,7 @@ cup_asked = record {
   mode = Incremental;
   limits = record { calls = 10000; states = 100000; depth = 3 };
   protocol = 1;
+  optimal = false;
 }
 
 pub cup_meant : command_of cup_words ≡ Some (solve cup_asked)

@@ -51,6 +51,7 @@ cup_headed g = record {
   calls = refl;
   states = refl;
   depth = refl;
+  optimal = refl;
   pools = cup_served g;
 }
 
@@ -100,7 +101,8 @@ cup_few e s = absurd (false≢true (sym (ap is_plan e)))
 cup_sure : (g : Global) → IsSure (cup_head g) fetch cup_entries cup_outcome
 cup_sure g = record {
   holds = first_run.plan;
-  far = λ e. absurd (false≢true (sym (ap is_plan e)));
+  least = λ e. absurd (false≢true e);
+  past = λ e. absurd (false≢true (sym (ap is_plan e)));
   within = λ e. absurd (false≢true (sym (ap is_plan e)));
   room = lit< tt;
   short = let n : length cup_plan ≡ 2 = refl in omega (arith, n);

@@ -25,7 +25,8 @@ pub record IsJudged (told : Option FileMap) (asked : ReplayWords) (status : Stat
   pub is : text ≡ verdict_text verdict
 
 module _ (told : Option FileMap) (asked : ReplayWords) (status : Status) (text : List ℕ) where
-  of_texts : (texts : List (List ℕ)) → AreBytes told (files_named (replay asked)) texts → AnswerOf (replay asked) texts status text
+  of_texts : (texts : List (List ℕ)) → AreBytes told (files_named (replay asked)) texts
+      → AnswerOf (replay asked) texts status text
       → IsJudged told asked status text
   of_texts (domain ∷ problem ∷ streams ∷ report ∷ []) are a = record {
     task = a.0;

@@ -71,8 +71,10 @@ module _ (names : List (List ℕ)) where
   some_numbered next [] known named = All-nil (λ (p : PlainPool). 0 < length p.streams)
   some_numbered next (s ∷ pools) known named =
       let some = places_some s.streams (left_false (names_unknown names s) _ known) (named 0 s refl) in
-      All-cons (λ (p : PlainPool). 0 < length p.streams) _ (numbered_pools names (next + own_workers s) pools) (omega (arith, some))
-      (some_numbered (next + own_workers s) pools (right_false (names_unknown names s) _ known) (λ k t at. named (suc k) t at))
+      All-cons (λ (p : PlainPool). 0 < length p.streams) _ (numbered_pools names (next + own_workers s) pools)
+      (omega (arith, some))
+      (some_numbered (next + own_workers s) pools (right_false (names_unknown names s) _ known)
+      (λ k t at. named (suc k) t at))
 
   -- pools without a fault
   numbered_plain : (pools : List Spelled) → map_fault names pools ≡ None → AreNamed pools
@@ -84,7 +86,8 @@ module _ (names : List (List ℕ)) where
       record {
         few = few_numbered 0 pools none.workers.numbers;
         some = some_numbered 0 pools second.0 named;
-        once = subst AreDistinct (sym (flat_numbered names 0 pools)) (λ a b s at_a at_b. one_place [] _ none.once a b s at_a at_b);
+        once = subst AreDistinct (sym (flat_numbered names 0 pools))
+            (λ a b s at_a at_b. one_place [] _ none.once a b s at_a at_b);
       }
 
 -- ---- each pool of a map names a stream
@@ -210,7 +213,8 @@ module _ (told : Option FileMap) (w : SolveWords) (task : Task) where
       → ((spelled : List Spelled) → form ≡ Some spelled → AreNamed spelled) → Accepted task form pools
       → ArePlain (map plain pools)
   accepted_plain form pools named a =
-      subst ArePlain (sym a.pools_are) (numbered_plain (all_stream_names task) a.spelled a.right (named a.spelled a.form_is))
+      subst ArePlain (sym a.pools_are)
+      (numbered_plain (all_stream_names task) a.spelled a.right (named a.spelled a.form_is))
 
   meant_plain : (path : Option (List ℕ)) (pools : List Pool) → MeansBy path told w task pools
       → ArePlain (map plain pools)

@@ -170,14 +170,16 @@ module _ (b : Bound) (v w : ℕ) (task : Task) where
       (k, leaves b v w task before k left, wrong_line b v w task before k.tried uses steps offset wrong)
   false_dream before e offset m = absurd m
 
-  false_none : (before : List Entry) (e : Entry) → IsFalseNone (at b v) task before e → IsFalseNone (at b w) task before e
+  false_none : (before : List Entry) (e : Entry) → IsFalseNone (at b v) task before e
+      → IsFalseNone (at b w) task before e
   false_none before entry.Nothing (k, left, wrong) = (k, leaves b v w task before k left, wrong)
   false_none before e m = absurd m
 
   entry_breach : (before : List Entry) (e : Entry) → HasOne e → (offset : ℕ) (k : BreachKind)
       → BreaksEntry (at b v) task before e offset k → BreaksEntry (at b w) task before e offset k
   entry_breach before e one offset kind.Ask (first, is, not) = (first, is, λ m. not (asks b w v task before e m))
-  entry_breach before e one offset kind.Answer (first, is, not) = (first, is, λ m. not (follows w v task before e one m))
+  entry_breach before e one offset kind.Answer (first, is, not) =
+      (first, is, λ m. not (follows w v task before e one m))
   entry_breach before e one offset kind.Order (first, out) = (first, order before e out)
   entry_breach before e one offset kind.Dream m = false_dream before e offset m
   entry_breach before e one offset kind.Outcome (first, wrong) = (first, false_none before e wrong)
@@ -254,7 +256,8 @@ module _ (task : Task) (r : Report) (one : HaveOne r.entries) (v w : ℕ) where
     e = m.e;
     there = m.there;
     offset = m.offset;
-    wrong = entry_breach (bound task r) v w task (take m.place r.entries) m.e (one m.place m.e m.there) m.offset k m.wrong;
+    wrong = entry_breach (bound task r) v w task (take m.place r.entries) m.e
+        (one m.place m.e m.there) m.offset k m.wrong;
     is = m.is;
   }))
   breach line k (inr (inr m)) = inr (inr (record {
@@ -271,7 +274,8 @@ module _ (task : Task) (r : Report) (one : HaveOne r.entries) (v w : ℕ) where
   claim limit (outcome.Limit kinds.States) m = m
   claim limit (outcome.Limit kinds.Instances) m = m
 
-  unsure : (limit line : ℕ) → IsUndecidedAt limit task (in_version v r) line → IsUndecidedAt limit task (in_version w r) line
+  unsure : (limit line : ℕ) → IsUndecidedAt limit task (in_version v r) line
+      → IsUndecidedAt limit task (in_version w r) line
   unsure limit line (inl (is, m)) = inl (is, claim limit r.outcome m)
   unsure limit line (inr m) = inr (record {
     place = m.place;
@@ -309,7 +313,8 @@ module _ (limit : ℕ) (task : Task) (r : Report) (one : HaveOne r.entries) (v w
 
   -- what is said of the text of a report is said of the report
   text_said : IsFormed (in_version v r) → IsFormed (in_version w r) → (x : Verdict)
-      → IsVerdict limit task (text_of_report (in_version v r)) x → IsVerdict limit task (text_of_report (in_version w r)) x
+      → IsVerdict limit task (text_of_report (in_version v r)) x
+      → IsVerdict limit task (text_of_report (in_version w r)) x
   text_said formed other x (inl (line, is, fault)) = absurd (fault.none (in_version v r, formed, refl))
   text_said formed other x (inr of) =
       let same = same_report of.report (in_version v r) of.formed formed of.spelled in
@@ -330,7 +335,8 @@ judged_alike limit task r formed first = subst (λ s. AreJudgedAlike limit task 
     formed_first = subst IsFormed is formed
 
     one : HaveOne r.entries
-    one k e at_k = formed_one e (All-contains (IsFormedEntry 1) r.entries e formed_first.entries (member_at r.entries k e at_k))
+    one k e at_k = formed_one e (All-contains (IsFormedEntry 1) r.entries e formed_first.entries
+        (member_at r.entries k e at_k))
 
     formed_two : IsFormed (in_version 2 r)
     formed_two = formed_second r formed

@@ -51,11 +51,13 @@ module _ {A : Type 0} where
       by false e = ap (λ b. cond {A = ℕ} b 1 0) e
 
   at_most_one : (f : A → Bool) (xs : List A)
-      → ((j k : ℕ) (x y : A) → slice_get xs j ≡ Some x → slice_get xs k ≡ Some y → f x ≡ true → f y ≡ true → j ≡ k) → count_by f xs ≤ 1
+      → ((j k : ℕ) (x y : A) → slice_get xs j ≡ Some x → slice_get xs k ≡ Some y → f x ≡ true → f y ≡ true → j ≡ k)
+      → count_by f xs ≤ 1
   at_most_one f [] one = omega arith
   at_most_one f (x ∷ xs) one =
       by (f x) refl
-      (at_most_one f xs (λ j k y z at_j at_k. let same = one (suc j) (suc k) y z at_j at_k in λ fy fz. suc_same j k (same fy fz)))
+      (at_most_one f xs (λ j k y z at_j at_k. let same = one (suc j) (suc k) y z at_j at_k in
+      λ fy fz. suc_same j k (same fy fz)))
     where
       by : (b : Bool) → f x ≡ b → count_by f xs ≤ 1 → count_by f (x ∷ xs) ≤ 1
       by true e rest =
@@ -70,11 +72,13 @@ sum_more : (m : ℕ) (all : List Workers)
     → sum_by (cover (suc m)) all ≤ sum_by (cover m) all + count_by (has m) all
 sum_more m [] = omega arith
 sum_more m (p ∷ all) =
-    omega (arith, sum_next (cover (suc m)) p all, sum_next (cover m) p all, count_next (has m) p all, cover_more m p, sum_more m all)
+    let next = sum_next (cover (suc m)) p all in
+    omega (arith, next, sum_next (cover m) p all, count_next (has m) p all, cover_more m p, sum_more m all)
 
 none_covered : (all : List Workers) → sum_by (cover 0) all ≡ 0
 none_covered [] = refl
-none_covered (p ∷ all) = let here : cover 0 p ≡ 0 = omega arith in omega (arith, sum_next (cover 0) p all, here, none_covered all)
+none_covered (p ∷ all) = let here : cover 0 p ≡ 0 = omega arith in
+    omega (arith, sum_next (cover 0) p all, here, none_covered all)
 
 module _ (task : Task) (all : List Workers) (fit : AreFitPools task all) where
   covered : (m : ℕ) → sum_by (cover m) all ≤ m

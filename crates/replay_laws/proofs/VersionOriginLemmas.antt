@@ -44,8 +44,10 @@ in_one value n number values =
 only_tuple : (value : List ℕ) (n number : ℕ) (values : List (List ℕ))
     → tuple_with value n (entry.Got number 1 values) ≡ in_one value n number values
 only_tuple value n number values =
-    ap (λ ts. if n == number then option_map (λ place. place + 1) (position (list_any (same_numbers value)) ts) else None) (one_tuple values)
-    ∙ ap (λ p. if n == number then option_map (λ (place : ℕ). place + 1) p else None) (placed value values (list_any (same_numbers value) values) refl)
+    ap (λ ts. if n == number then option_map (λ place. place + 1)
+    (position (list_any (same_numbers value)) ts) else None) (one_tuple values)
+    ∙ ap (λ p. if n == number then option_map (λ (place : ℕ). place + 1) p else None)
+    (placed value values (list_any (same_numbers value) values) refl)
 
 one_number : (a b : Bool) (t : ℕ) → (if a then first_of b else None) ≡ Some t → t ≡ 1
 one_number true true t e = cc
@@ -66,7 +68,8 @@ here_one value n (entry.Got number tuples values) one has =
     let parts : ((n == number) && list_any (same_numbers value) values) ≡ true =
     or_none ((n == number) && list_any (same_numbers value) values) has in
     let same : (n == number) ≡ true = first_so (n == number) (list_any (same_numbers value) values) parts in
-    let there : list_any (same_numbers value) values ≡ true = second_so (n == number) (list_any (same_numbers value) values) parts in
+    let there : list_any (same_numbers value) values ≡ true =
+    second_so (n == number) (list_any (same_numbers value) values) parts in
     subst (λ m. tuple_with value n (entry.Got number m values) ≡ Some 1) (sym one)
     (only_tuple value n number values ∙ (rw (same, there) refl))
   where
@@ -83,8 +86,10 @@ has_at n value (entry.Got number tuples values ∷ es) has =
     by ((n == number) && list_any (same_numbers value) values) refl has (has_at n value es)
   where
     by : (b : Bool) → ((n == number) && list_any (same_numbers value) values) ≡ b → (b || has_value es n value) ≡ true
-        → (has_value es n value ≡ true → (k : ℕ) × (e : Entry) × (slice_get es k ≡ Some e) × (has_value (e ∷ []) n value ≡ true))
-        → (k : ℕ) × (e : Entry) × (slice_get (entry.Got number tuples values ∷ es) k ≡ Some e) × (has_value (e ∷ []) n value ≡ true)
+        → (has_value es n value ≡ true → (k : ℕ) × (e : Entry) × (slice_get es k ≡ Some e)
+        × (has_value (e ∷ []) n value ≡ true))
+        → (k : ℕ) × (e : Entry) × (slice_get (entry.Got number tuples values ∷ es) k ≡ Some e)
+        × (has_value (e ∷ []) n value ≡ true)
     by true here all later = (0, entry.Got number tuples values, refl, (rw here refl))
     by false other all later = let r = later all in (suc r.0, r.1, r.2, r.3)
 has_at n value (e ∷ es) has = let r = has_at n value es has in (suc r.0, r.1, r.2, r.3)

@@ -44,7 +44,8 @@ module _ (b : Bound) (v w : ℕ) (task : Task) where
       → IsBatch (at b w) task before list now
   batch before list now m = record { rounds = m.rounds; cut = m.cut; run = m.run }
 
-  level_turn : (before now : List Entry) (cut : Bool) → IsLevel (at b v) task before now cut → IsLevel (at b w) task before now cut
+  level_turn : (before now : List Entry) (cut : Bool) → IsLevel (at b v) task before now cut
+      → IsLevel (at b w) task before now cut
   level_turn before now cut m = record {
     list = m.list;
     due = m.due;
@@ -59,16 +60,20 @@ module _ (b : Bound) (v w : ℕ) (task : Task) where
   fallback before tried now cut (reset first more) = reset first more
   fallback before tried now cut (level m) = level (level_turn before now cut m)
 
-  batches : (real : ℕ) (entries : List dreams.SupposedEntry) (sent : List Sent) (before now : List Entry) (after : List Sent) (cut : Bool)
+  batches : (real : ℕ) (entries : List dreams.SupposedEntry) (sent : List Sent) (before now : List Entry)
+      (after : List Sent) (cut : Bool)
       → AreBatches (at b v) task real entries sent before now after cut
       → AreBatches (at b w) task real entries sent before now after cut
   batches real entries sent before now after cut (finished none) = finished none
   batches real entries sent before now after cut (last next is more m) = last next is more (batch before _ now m)
   batches real entries sent before now after cut (further {now = first} {rest = rest} next is some all m more) =
-      further next is some all (batch before _ first m) (batches real entries (sent ++ next) (before ++ first) rest after cut more)
+      further next is some all (batch before _ first m)
+      (batches real entries (sent ++ next) (before ++ first) rest after cut more)
 
-  first_batch : (real : ℕ) (entries : List dreams.SupposedEntry) (before now : List Entry) (after : List Sent) (cut : Bool)
-      → IsFirstBatch (at b v) task real entries before now after cut → IsFirstBatch (at b w) task real entries before now after cut
+  first_batch : (real : ℕ) (entries : List dreams.SupposedEntry) (before now : List Entry) (after : List Sent)
+      (cut : Bool)
+      → IsFirstBatch (at b v) task real entries before now after cut
+      → IsFirstBatch (at b w) task real entries before now after cut
   first_batch real entries before now after cut m = record {
     list = m.list;
     ready = m.ready;
@@ -94,7 +99,8 @@ module _ (b : Bound) (v w : ℕ) (task : Task) where
       → ((real : ℕ) (entries : List dreams.SupposedEntry) (from now : List Entry) (sent : List Sent) (cut : Bool)
       → asks real entries from now sent cut → others real entries from now sent cut)
       → (tried : List Instance) (before now : List Entry) (next : List Instance) (cut : Bool)
-      → IsDreamTurn (at b v) task asks tried before now next cut → IsDreamTurn (at b w) task others tried before now next cut
+      → IsDreamTurn (at b v) task asks tried before now next cut
+      → IsDreamTurn (at b w) task others tried before now next cut
   dream_turn asks others each tried before now next cut m = record {
     uses = m.uses;
     steps = m.steps;
@@ -165,12 +171,17 @@ module _ (b : Bound) (v w : ℕ) (task : Task) where
   turn : (mode : Mode) (kept : Kept) (before now : List Entry) (next : Kept) (cut : Bool)
       → TurnOf mode (at b v) task kept before now next cut → TurnOf mode (at b w) task kept before now next cut
   turn Incremental kept before now next cut (m, same) = (level_turn before now cut m, same)
-  turn Focused kept before now next cut (inl m, same) =
-      (inl (dream_turn (IsFirstBatch (at b v) task) (IsFirstBatch (at b w) task) first_batch kept.tried before now next.tried cut m), same)
+  turn Focused kept before now next cut (inl m, same) = (
+    inl (dream_turn (IsFirstBatch (at b v) task)
+        (IsFirstBatch (at b w) task) first_batch kept.tried before now next.tried cut m),
+    same,
+  )
   turn Focused kept before now next cut (inr m, same) = (inr (empty_turn kept.tried before now next.tried cut m), same)
   turn Binding kept before now next cut (inl m, same) = (
-    inl (dream_turn (λ real entries. AreBatches (at b v) task real entries []) (λ real entries. AreBatches (at b w) task real entries [])
-        (λ real entries from es sent c run. batches real entries [] from es sent c run) kept.tried before now next.tried cut m),
+    inl (dream_turn (λ real entries. AreBatches (at b v) task real entries [])
+        (λ real entries. AreBatches (at b w) task real entries [])
+        (λ real entries from es sent c run. batches real entries [] from es sent c run) kept.tried before now
+        next.tried cut m),
     same,
   )
   turn Binding kept before now next cut (inr m, same) = (inr (empty_turn kept.tried before now next.tried cut m), same)
@@ -183,7 +194,8 @@ module _ (b : Bound) (v w : ℕ) (task : Task) where
       → AreTurns (at b w) task (TurnOf mode (at b w) task) kept before es stage
   family mode kept before es stage none_left = none_left
   family mode kept before es stage (whole next {now = now} {rest = rest} may this more) =
-      whole next (may_begin before may) (turn mode kept before now next false this) (family mode next (before ++ now) rest stage more)
+      whole next (may_begin before may) (turn mode kept before now next false this)
+      (family mode next (before ++ now) rest stage more)
   family mode kept before es stage (cut_off next may this) =
       cut_off next (may_begin before may) (turn mode kept before es next true this)
   family mode kept before es stage (stopped next more cut may this) =
@@ -202,13 +214,15 @@ module _ (b : Bound) (v w : ℕ) (task : Task) where
       lead_whole after now (may_begin before may) (turn b.mode kept before now after false this)
       (leads after (before ++ now) rest next more)
 
-  pub leaves : (entries : List Entry) (kept : Kept) → Leaves (at b v) task entries kept → Leaves (at b w) task entries kept
+  pub leaves : (entries : List Entry) (kept : Kept) → Leaves (at b v) task entries kept
+      → Leaves (at b w) task entries kept
   leaves entries kept m = leads nothing_kept [] entries kept m
 
 -- ---- the lines of a dream
 
 module _ (b : Bound) (v w : ℕ) (task : Task) (before : List Entry) (tried : List Instance) where
-  chosen : (uses : List DreamUse) (list entries : List dreams.SupposedEntry) → IsChosen (at b v) task before tried uses list entries
+  chosen : (uses : List DreamUse) (list entries : List dreams.SupposedEntry)
+      → IsChosen (at b v) task before tried uses list entries
       → IsChosen (at b w) task before tried uses list entries
   chosen uses list entries m = record {
     supposed = m.supposed;
@@ -231,7 +245,8 @@ module _ (b : Bound) (v w : ℕ) (task : Task) (before : List Entry) (tried : Li
     is = m.is;
   }
 
-  step_line : (uses : List DreamUse) (steps : List Call) (offset : ℕ) → BreaksDreamStep (at b v) task before tried uses steps offset
+  step_line : (uses : List DreamUse) (steps : List Call) (offset : ℕ)
+      → BreaksDreamStep (at b v) task before tried uses steps offset
       → BreaksDreamStep (at b w) task before tried uses steps offset
   step_line uses steps offset m = record {
     place = m.place;
@@ -240,12 +255,14 @@ module _ (b : Bound) (v w : ℕ) (task : Task) (before : List Entry) (tried : Li
     is = m.is;
   }
 
-  pub wrong_line : (uses : List DreamUse) (steps : List Call) (offset : ℕ) → IsWrongLine (at b v) task before tried uses steps offset
+  pub wrong_line : (uses : List DreamUse) (steps : List Call) (offset : ℕ)
+      → IsWrongLine (at b v) task before tried uses steps offset
       → IsWrongLine (at b w) task before tried uses steps offset
   wrong_line uses steps offset (inl m) = inl (use_line uses offset m)
   wrong_line uses steps offset (inr (inl m)) = inr (inl (step_line uses steps offset m))
   wrong_line uses steps offset (inr (inr m)) =
       inr (inr (m.0, λ entries d. m.1 entries (dream_after b w v task before tried uses steps entries d)))
 
-  pub undecided_none : (limit : ℕ) → IsUndecidedNone (at b v) task before tried limit → IsUndecidedNone (at b w) task before tried limit
+  pub undecided_none : (limit : ℕ) → IsUndecidedNone (at b v) task before tried limit
+      → IsUndecidedNone (at b w) task before tried limit
   undecided_none limit m = record { list = m.list; supposed = m.supposed; few = m.few; below = m.below; many = m.many }

@@ -143,7 +143,8 @@ module _ (task : Task) (fit : IsFit task) where
         → slice_get (map (shown_pool task) head.pools) place ≡ Some line
         → (p : Pool) × (slice_get head.pools place ≡ Some p) × (shown_pool task p ≡ line)
     shown_at place line at =
-        map_some (shown_pool task) (slice_get head.pools place) line (sym (slice_get-map (shown_pool task) head.pools place) ∙ at)
+        map_some (shown_pool task) (slice_get head.pools place) line
+        (sym (slice_get-map (shown_pool task) head.pools place) ∙ at)
 
     one_fits : (place : ℕ) (p : Pool) → slice_get head.pools place ≡ Some p
         → is_fit_pool task (map (shown_pool task) (take place head.pools)) (shown_pool task p) ≡ true
@@ -160,7 +161,8 @@ module _ (task : Task) (fit : IsFit task) where
         let shown = workers_same before in
         let sum = together task head.pools can.runnable.fit.pools in
         let taken = All-take (λ (q : Pool). AreStreams task q.streams) place head.pools are in
-        let lists : streams_of head.pools ≡ (streams_of before ++ p.streams) ++ streams_of (drop (suc place) head.pools) =
+        let lists : streams_of head.pools
+        ≡ (streams_of before ++ p.streams) ++ streams_of (drop (suc place) head.pools) =
         ap streams_of parts ∙ flat_map-append (λ (q : Pool). q.streams) before (p ∷ drop (suc place) head.pools)
         ∙ sym (append_assoc (streams_of before) p.streams (streams_of (drop (suc place) head.pools))) in
         let apart =
@@ -168,35 +170,45 @@ module _ (task : Task) (fit : IsFit task) where
         (streams_of (drop (suc place) head.pools)) (subst AreDistinct lists can.pools.once) in
         let new = all_new (streams_of before) p.streams
         (All-contains (λ (q : Pool). AreStreams task q.streams) head.pools p are there) apart in
-        and_four (nat_le 1 p.workers) (nat_le p.workers 16) (nat_le (workers_together (map (shown_pool task) before) + p.workers) 17)
+        and_four (nat_le 1 p.workers) (nat_le p.workers 16)
+        (nat_le (workers_together (map (shown_pool task) before) + p.workers) 17)
         (are_new task (served_by task (map (shown_pool task) before)) (map (stream_name task) p.streams))
         (le-leb 1 p.workers own) (le-leb p.workers 16 few)
-        (le-leb (workers_together (map (shown_pool task) before) + p.workers) 17 (omega (arith, sums, first, second, shown, sum)))
+        (le-leb (workers_together (map (shown_pool task) before) + p.workers) 17
+        (omega (arith, sums, first, second, shown, sum)))
         (subst (λ ss. are_new task ss (map (stream_name task) p.streams) ≡ true) (sym (served_same before taken)) new)
 
     pools_fit : AreFitPoolLines task (map (shown_pool task) head.pools)
     pools_fit place line at =
         let p = shown_at place line at in
         subst (λ q. is_fit_pool task (take place (map (shown_pool task) head.pools)) q ≡ true) p.2
-        (subst (λ ps. is_fit_pool task ps (shown_pool task p.0) ≡ true) (sym (take_map place head.pools)) (one_fits place p.0 p.1))
+        (subst (λ ps. is_fit_pool task ps (shown_pool task p.0) ≡ true) (sym (take_map place head.pools))
+        (one_fits place p.0 p.1))
 
     -- ---- each stream has a pool
 
     is_served : (k : ℕ) (s : Stream) → slice_get task.streams k ≡ Some s
-        → list_any (λ (p : PoolLine). list_any (same_numbers s.name) p.streams) (map (shown_pool task) head.pools) ≡ true
+        → list_any (λ (p : PoolLine). list_any (same_numbers s.name) p.streams) (map (shown_pool task) head.pools)
+        ≡ true
     is_served k s at =
         let pool = can.runnable.fit.pools.served k (slice_get_within task.streams k s at) in
         let found = server_is (map workers_of head.pools) k pool.0 pool.1 in
-        let p = map_some workers_of (slice_get head.pools found.0) pool.0 (sym (slice_get-map workers_of head.pools found.0) ∙ found.1) in
-        let in_pool : list_any (λ t. t == k) p.0.streams ≡ true = ap (λ (w : Workers). list_any (λ t. t == k) w.streams) p.2 ∙ found.2 in
+        let p = map_some workers_of (slice_get head.pools found.0) pool.0
+        (sym (slice_get-map workers_of head.pools found.0) ∙ found.1) in
+        let in_pool : list_any (λ t. t == k) p.0.streams ≡ true =
+        ap (λ (w : Workers). list_any (λ t. t == k) w.streams) p.2 ∙ found.2 in
         let place = any_found (λ t. t == k) p.0.streams in_pool in
-        let name : stream_name task place.1 ≡ s.name = ap (stream_name task) (eqb-true place.1 k place.3) ∙ (rw at refl) in
+        let name : stream_name task place.1 ≡ s.name = ap (stream_name task) (eqb-true place.1 k place.3)
+        ∙ (rw at refl) in
         let inner =
-        any_passes_from_place (same_numbers s.name) (map (stream_name task) p.0.streams) place.0 (stream_name task place.1)
+        any_passes_from_place (same_numbers s.name) (map (stream_name task) p.0.streams) place.0
+        (stream_name task place.1)
         (slice_get-map (stream_name task) p.0.streams place.0 ∙ ap (option_map (stream_name task)) place.2)
         ((numbers_decided s.name (stream_name task place.1)).1 (sym name)) in
-        any_passes_from_place (λ (q : PoolLine). list_any (same_numbers s.name) q.streams) (map (shown_pool task) head.pools) found.0
-        (shown_pool task p.0) (slice_get-map (shown_pool task) head.pools found.0 ∙ ap (option_map (shown_pool task)) p.1) inner
+        any_passes_from_place (λ (q : PoolLine). list_any (same_numbers s.name) q.streams)
+        (map (shown_pool task) head.pools) found.0
+        (shown_pool task p.0) (slice_get-map (shown_pool task) head.pools found.0
+        ∙ ap (option_map (shown_pool task)) p.1) inner
 
     -- ---- the head fits
 
@@ -213,6 +225,7 @@ module _ (task : Task) (fit : IsFit task) where
           (le-leb 1 head.depth can.some_depth) (le-leb head.depth 8 can.depth);
       pools = pools_fit;
       served = all_from
-          (λ (s : Stream). list_any (λ (p : PoolLine). list_any (same_numbers s.name) p.streams) (map (shown_pool task) head.pools))
+          (λ (s : Stream). list_any (λ (p : PoolLine). list_any (same_numbers s.name) p.streams)
+          (map (shown_pool task) head.pools))
           task.streams is_served;
     }

@@ -1,7 +1,8 @@
 //! What a row says so far.
+use crate::replies::Replies;
 use crate::talk::Talk;
 use crate::texts::Texts;
-use crate::word::{first_word, number, numbers};
+use crate::word::{bytes_of, copies_of, first_word, number, numbers};
 use io_world::{Files, RealFiles};
 use std::alloc::{AllocError, Global};
 
@@ -19,6 +20,16 @@ enum Part {
     Unit,
     /// What a child says.
     Child,
+    /// The line that answers a request.
+    Reply,
+}
+
+/// On whom calls fail.
+#[derive(Clone, Copy)]
+pub(crate) enum Callee {
+    Children,
+    Files,
+    Sink,
 }
 
 /// How often the run is done.
@@ -29,6 +40,8 @@ pub(crate) enum Series {
     Pieces,
     /// Over each front of the open file.
     Fronts,
+    /// For each of some numbers, where the call of this number fails.
+    Calls(Callee),
 }
 
 /// A row: a command with its files, what its children say, which calls of the host and of the sink
@@ -40,9 +53,13 @@ pub(crate) struct Draft {
     pub(crate) words: Vec<String>,
     pub(crate) texts: Texts,
     pub(crate) talk: Talk,
+    /// How the children answer that answer by a list of requests.
+    pub(crate) replies: Replies,
     pub(crate) sink_fails: Vec<u64>,
     pub(crate) series: Series,
-    pieces: Vec<usize>,
+    numbers: Vec<usize>,
+    /// `..` stands in place of what a run shares with the one in which no call fails.
+    pub(crate) is_beside_whole: bool,
     /// The children are real ones.
     pub(crate) is_real: bool,
     /// The calls on the children are printed.
@@ -62,9 +79,11 @@ impl Draft {
             words: Vec::new(alloc),
             texts: Texts::new(alloc),
             talk: Talk::new(alloc),
+            replies: Replies::new(alloc),
             sink_fails: Vec::new(alloc),
             series: Series::Once,
-            pieces: Vec::new(alloc),
+            numbers: Vec::new(alloc),
+            is_beside_whole: false,
             is_real: false,
             is_logged: false,
             until: String::new(alloc),
@@ -73,11 +92,14 @@ impl Draft {
     }
 
     /// Takes a line of the row. A line of a text begins with `|`, and with `\` where it has no line
-    /// feed.
+    /// feed; with `.` where it gives bytes by their numbers, and with `*` where it gives a text so
+    /// many times.
     pub(crate) fn take(&mut self, rt: &HostRuntime, line: &[u8]) -> Result<(), AllocError> {
         let says = match line {
             [b'|', text @ ..] => self.add(text)? && self.add(b"\n")?,
             [b'\\', text @ ..] => self.add(text)?,
+            [b'.', b' ', numbers @ ..] => self.add_bytes(numbers)?,
+            [b'*', b' ', copies @ ..] => self.add_copies(copies)?,
             _ => self.say(rt, line)?,
         };
         if !says {
@@ -93,7 +115,20 @@ impl Draft {
             Part::Line => self.texts.add_changed(bytes),
             Part::Unit => self.texts.add_unit(bytes),
             Part::Child => self.talk.add(bytes),
+            Part::Reply => self.replies.add(bytes),
         }
+    }
+
+    /// Puts the bytes of these numbers behind those of the part that is open.
+    fn add_bytes(&mut self, numbers: &[u8]) -> Result<bool, AllocError> {
+        let bytes = bytes_of(self.alloc, numbers)?;
+        self.add(bytes.as_slice())
+    }
+
+    /// Puts a text so many times behind those of the part that is open.
+    fn add_copies(&mut self, copies: &[u8]) -> Result<bool, AllocError> {
+        let bytes = copies_of(self.alloc, copies)?;
+        self.add(bytes.as_slice())
     }
 
     /// Takes a line of a key, and answers whether there is such a key.
@@ -152,7 +187,11 @@ impl Draft {
                 self.talk.begin_child(number(rest))?;
             }
             b"needs" => return self.talk.add_need(rest),
-            b"host" => self.talk.fail(number(rest))?,
+            b"reply" => {
+                self.part = Part::Reply;
+                self.replies.begin(rest)?;
+            }
+            b"host" => self.fail(Callee::Children, number(rest))?,
             b"real" => self.is_real = true,
             _ => return Ok(false),
         }
@@ -164,16 +203,45 @@ impl Draft {
         match key {
             b"words" => self.set_words(rest)?,
             b"word" => self.add_word(rest)?,
-            b"sink" => self.sink_fails.push(number(rest) as u64)?,
+            b"files" => self.fail(Callee::Files, number(rest))?,
+            b"sink" => self.fail(Callee::Sink, number(rest))?,
             b"piece" => {
                 self.series = Series::Pieces;
-                self.pieces = numbers(self.alloc, rest)?;
+                self.numbers = numbers(self.alloc, rest)?;
             }
             b"fronts" => self.series = Series::Fronts,
+            b"each" => return self.fail_each(rest),
+            b"beside" => self.is_beside_whole = true,
             b"log" => self.is_logged = true,
             b"until" => self.until = String::from_utf8_lossy(self.alloc, rest)?,
             _ => return Ok(false),
         }
+        Ok(true)
+    }
+
+    /// The call of this number, from 0, fails.
+    fn fail(&mut self, callee: Callee, call: usize) -> Result<(), AllocError> {
+        match callee {
+            Callee::Children => self.talk.fail(call),
+            Callee::Files => self.texts.fail(call),
+            Callee::Sink => {
+                self.sink_fails.push(call as u64)?;
+                Ok(())
+            }
+        }
+    }
+
+    /// The run is done once for each number from 0 to the last, and the call of this number fails:
+    /// `host LAST`, `files LAST`, `sink LAST`. Answers whether there are such calls.
+    fn fail_each(&mut self, words: &[u8]) -> Result<bool, AllocError> {
+        let (callee, last) = first_word(words);
+        self.series = match callee {
+            b"host" => Series::Calls(Callee::Children),
+            b"files" => Series::Calls(Callee::Files),
+            b"sink" => Series::Calls(Callee::Sink),
+            _ => return Ok(false),
+        };
+        self.numbers = (0..number(last).saturating_add(1)).collect(self.alloc)?;
         Ok(true)
     }
 
@@ -196,7 +264,7 @@ impl Draft {
     pub(crate) fn numbers(&self) -> Result<Vec<usize>, AllocError> {
         match self.series {
             Series::Once => Ok(vec![in self.alloc; 0]?),
-            Series::Pieces => self.pieces.clone(),
+            Series::Pieces | Series::Calls(_) => self.numbers.clone(),
             Series::Fronts => (0..self.texts.open_len()).collect(self.alloc),
         }
     }
@@ -207,6 +275,7 @@ impl Draft {
             Series::Once => {}
             Series::Pieces => self.talk.cut(number)?,
             Series::Fronts => self.texts.cut(number),
+            Series::Calls(callee) => self.fail(callee, number)?,
         }
         Ok(())
     }

@@ -5,9 +5,10 @@ use crate::draft::Draft;
 use crate::either_host::EitherHost;
 use crate::noting_host::NotingHost;
 use crate::ran::{Ran, front_of};
+use crate::replies::Replies;
 use gen_host::{BoxHost, ChildGen, Generator, add_idle};
 use grid_world::GridGen;
-use io_world::{CHILDREN, Host, MemSink};
+use io_world::{CHILDREN, Host, MemSink, SureHost};
 use pddlstream_app::{Status, run};
 use std::alloc::AllocError;
 use std::{io, mem};
@@ -54,6 +55,7 @@ fn run_over<H: Host>(draft: &mut Draft, host: &mut NotingHost<H>) -> io::Result<
 }
 
 /// The row's run. Real children are sixteen programs, and behind them the generator of the grid.
+/// Children that answer by a list of requests are those of a host that never fails.
 pub(crate) fn run_row(rt: &HostRuntime, draft: &mut Draft) -> io::Result<Box<Ran>> {
     let alloc = rt.alloc();
     let mut members: Vec<Box<dyn Generator>> = Vec::new(alloc);
@@ -62,6 +64,9 @@ pub(crate) fn run_row(rt: &HostRuntime, draft: &mut Draft) -> io::Result<Box<Ran
         add_idle(&mut members, Box::new(alloc, member)?)?;
     }
     add_idle(&mut members, Box::new(alloc, GridGen::new(alloc))?)?;
+    let is_sure = draft.replies.has_some();
+    let replies = mem::replace(&mut draft.replies, Replies::new(alloc));
     let host = EitherHost::new(draft.talk.take(), BoxHost::new(members), draft.is_real);
+    let host = EitherHost::new(host, SureHost::new(alloc, replies), is_sure);
     run_over(draft, &mut NotingHost::new(host))
 }

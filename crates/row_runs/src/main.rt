@@ -9,6 +9,7 @@ mod hosts;
 mod noting_host;
 mod play;
 mod ran;
+mod replies;
 mod row;
 mod talk;
 mod texts;
@@ -21,7 +22,7 @@ use std::process::ExitCode;
 use std::{env, io};
 
 /// The files of rows, in the order in which they are run.
-const SUBJECTS: [&str; 31] = [
+const SUBJECTS: [&str; 34] = [
     "outcomes.rows",
     "limits.rows",
     "faults.rows",
@@ -48,9 +49,12 @@ const SUBJECTS: [&str; 31] = [
     "values.rows",
     "supposing.rows",
     "edges.rows",
+    "hostile.rows",
+    "sure.rows",
     "orders.rows",
     "plays.rows",
     "costs.rows",
+    "cheapest.rows",
     "tuples.rows",
     "migrations.rows",
 ];

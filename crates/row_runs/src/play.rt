@@ -24,14 +24,34 @@ fn print_number(rt: &HostRuntime, series: Series, number: usize) -> io::Result<(
         Series::Once => Ok(()),
         Series::Pieces => println!(rt; "piece {number}"),
         Series::Fronts => println!(rt; "front {number}"),
+        Series::Calls(_) => println!(rt; "call {number}"),
     }
 }
 
-/// The row's run of this number.
-fn run_number(rt: &HostRuntime, row: &Row<'_>, number: usize) -> io::Result<Box<Ran>> {
+/// The row's run in which no call fails, where the others are printed beside it; it is printed.
+fn whole_run(rt: &HostRuntime, draft: &mut Draft) -> io::Result<Option<Box<Ran>>> {
+    if !draft.is_beside_whole {
+        return Ok(None);
+    }
+    let ran = run_row(rt, draft)?;
+    print_ran(rt, &ran)?;
+    Ok(Some(ran))
+}
+
+/// The row's run of this number, beside the whole one.
+fn run_number(
+    rt: &HostRuntime,
+    row: &Row<'_>,
+    number: usize,
+    whole: Option<&Ran>,
+) -> io::Result<Box<Ran>> {
     let mut draft = row.draft(rt)?;
     draft.set_number(number)?;
-    run_row(rt, &mut draft)
+    let mut ran = run_row(rt, &mut draft)?;
+    if let Some(whole) = whole {
+        ran.shorten(rt.alloc(), whole.text.as_bytes())?;
+    }
+    Ok(ran)
 }
 
 /// Prints a run where it isn't as the one before, and by which number it was done.
@@ -58,11 +78,12 @@ fn play_numbers(
     row: &Row<'_>,
     series: Series,
     numbers: &[usize],
+    whole: Option<&Ran>,
 ) -> io::Result<()> {
     let mut last: Option<Box<Ran>> = None;
     for number in numbers {
-        let ran = run_number(rt, row, *number)?;
-        print_news(rt, series, *number, last.as_deref(), &ran)?;
+        let ran = run_number(rt, row, *number, whole)?;
+        print_news(rt, series, *number, last.as_deref().or(whole), &ran)?;
         last = Some(ran);
     }
     Ok(())
@@ -84,10 +105,11 @@ fn play_row(rt: &HostRuntime, row: &Row<'_>) -> io::Result<()> {
     };
     let name = String::from_utf8_lossy(rt.alloc(), name)?;
     println!(rt; "== {name}")?;
-    let draft = row.draft(rt)?;
+    let mut draft = row.draft(rt)?;
     print_mute(rt, &draft)?;
     let numbers = draft.numbers()?;
-    play_numbers(rt, row, draft.series, numbers.as_slice())
+    let whole = whole_run(rt, &mut draft)?;
+    play_numbers(rt, row, draft.series, numbers.as_slice(), whole.as_deref())
 }
 
 /// Plays the rows of a text. A row begins with `== ` and its name, and one that varies the last of

@@ -24,6 +24,51 @@ impl Ran {
     pub(crate) fn is_as(&self, other: &Ran) -> bool {
         self.text.as_bytes() == other.text.as_bytes() && self.status == other.status
     }
+
+    /// Shows the run beside the one that wrote this whole text.
+    pub(crate) fn shorten(&mut self, alloc: Global, whole: &[u8]) -> Result<(), AllocError> {
+        if let Some(text) = shortened(alloc, self.text.as_bytes(), whole)? {
+            self.text = text;
+        }
+        Ok(())
+    }
+}
+
+/// The lines of a text but the last, and the last.
+fn split_last(text: &[u8]) -> (&[u8], &[u8]) {
+    let body = text.strip_suffix(b"\n").unwrap_or(text);
+    let end = match body.iter().rposition(|byte| *byte == b'\n') {
+        Some(place) => place.saturating_add(1),
+        None => 0,
+    };
+    match text.split_at_checked(end) {
+        Some(parts) => parts,
+        None => (&[], text),
+    }
+}
+
+/// The part of a text that is compared with a whole one, and what stands behind it: all of it where
+/// the whole one goes on from there, and else its lines but the last.
+fn compared<'a>(text: &'a [u8], whole: &[u8]) -> (&'a [u8], &'a [u8]) {
+    if whole.starts_with(text) {
+        return (text, &[]);
+    }
+    split_last(text)
+}
+
+/// The text with `..` in place of the part that stands in front of the whole one too; none where it
+/// is the whole one, or has no such part.
+fn shortened(alloc: Global, text: &[u8], whole: &[u8]) -> Result<Option<String>, AllocError> {
+    if text == whole {
+        return Ok(None);
+    }
+    let (front, last) = compared(text, whole);
+    if !whole.starts_with(front) {
+        return Ok(None);
+    }
+    let last = String::from_utf8_lossy(alloc, last)?;
+    let shown = format!(in alloc; "..\n{last}")?;
+    Ok(Some(shown))
 }
 
 /// Adds the lines of a text up to the first that begins with this word and a space, and of that one

@@ -8,7 +8,7 @@ use std::mem;
 type Change = (usize, Vec<u8>);
 
 /// The files of a row, of which the one that was named last is open, what stands in place of some
-/// of its lines, and a text of which copies may be added to it.
+/// of its lines, a text of which copies may be added to it, and which calls on the files fail.
 #[derive(Drop)]
 pub(crate) struct Texts {
     alloc: Global,
@@ -16,6 +16,7 @@ pub(crate) struct Texts {
     open: usize,
     changes: Vec<Change>,
     unit: Vec<u8>,
+    fails: Vec<u64>,
 }
 
 impl Texts {
@@ -27,6 +28,7 @@ impl Texts {
             open: 0,
             changes: Vec::new(alloc),
             unit: Vec::new(alloc),
+            fails: Vec::new(alloc),
         }
     }
 
@@ -159,11 +161,18 @@ impl Texts {
         }
     }
 
+    /// The call on the files of this number fails.
+    pub(crate) fn fail(&mut self, call: usize) -> Result<(), AllocError> {
+        self.fails.push(call as u64)?;
+        Ok(())
+    }
+
     /// The files, with the changes. None is left here.
     pub(crate) fn take(&mut self) -> Result<Box<MemFiles>, AllocError> {
         self.change()?;
         let files = mem::replace(&mut self.files, Vec::new(self.alloc));
-        let files = MemFiles::new(self.alloc, files, Vec::new(self.alloc));
+        let fails = mem::replace(&mut self.fails, Vec::new(self.alloc));
+        let files = MemFiles::new(self.alloc, files, fails);
         Ok(Box::new(self.alloc, files)?)
     }
 }

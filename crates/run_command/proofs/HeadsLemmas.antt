@@ -18,6 +18,7 @@ use Rattle.stream_map.specs.Children.{PlainPool, grid_file, plain}
 use Rattle.stream_map.specs.Laws.{AreWhole, PoolHasChild}
 use Rattle.task_model.specs.declared.task.Task.{Task}
 use Rattle.transcript_model.specs.declared.head.Head.{Head}
+use Rattle.transcript_model.specs.declared.head.Mode.TheVariants.{Incremental}
 use Rattle.transcript_model.specs.declared.head.Pool.{Pool}
 use Rattle.run_command.specs.Heads.{AreServed, IsHeadOf}
 use Rattle.command_files.specs.Pools.{HaveText, MeansBy}
@@ -172,3 +173,7 @@ module _ (task : Task) (told : Option FileMap) (w : SolveWords) where
         some_states = omega (arith, headed.states, within.states.0);
         few_states = omega (arith, headed.states, within.states.1);
       }
+
+  -- the cheapest plan is asked for in incremental mode alone
+  pub head_alone : (head : Head) → IsHeadOf told w task head → AreInRange w → head.optimal ≡ true → head.mode ≡ Incremental
+  head_alone head headed within asked = headed.mode ∙ within.cheapest (sym headed.optimal ∙ asked)

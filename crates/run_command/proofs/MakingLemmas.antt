@@ -23,6 +23,7 @@ made_in_range w is = subst AreInRange (sym is) (record {
   workers = (omega arith, omega arith);
   protocol = (omega arith, omega arith);
   alone = λ path e. absurd (cc);
+  cheapest = λ e. refl;
 })
 
 -- files with these texts tell what the files of the number's task do

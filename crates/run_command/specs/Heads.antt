@@ -15,11 +15,13 @@ pub record AreServed (told : Option FileMap) (w : SolveWords) (task : Task) (poo
   pub means : MeansPools told w task meant
   pub text : HaveText (grid_file (map plain meant)) told meant pools
 
--- The head has the protocol, the mode and the limits of the words, and the pools that they mean.
+-- The head has the protocol, the mode and the limits of the words, and the pools that they mean; and it asks for the
+-- cheapest plan where they do.
 pub record IsHeadOf (told : Option FileMap) (w : SolveWords) (task : Task) (head : Head) : Type 0 where
   pub version : head.version ≡ w.protocol
   pub mode : head.mode ≡ w.mode
   pub calls : head.calls ≡ w.limits.calls
   pub states : head.states ≡ w.limits.states
   pub depth : head.depth ≡ w.limits.depth
+  pub optimal : head.optimal ≡ w.optimal
   pub pools : AreServed told w task head.pools

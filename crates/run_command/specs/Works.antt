@@ -1,5 +1,5 @@
 -- What a run solves: the task that files spell, or the grid task of a number, which is made and then solved alike.
-use Rattle.std.specs.Prelude.{ℕ, List, [], ◌∷◌, ◌++◌, codes, Option, None, Some}
+use Rattle.std.specs.Prelude.{ℕ, false, List, [], ◌∷◌, ◌++◌, codes, Option, None, Some}
 use Rattle.std.specs.Fmt.{decimal}
 use Rattle.command_line.specs.Words.{Command, SolveWords, generate, solve}
 use Rattle.command_line.specs.declared.number.TheConstants.{DEFAULT_CALLS, DEFAULT_DEPTH, DEFAULT_STATES}
@@ -34,6 +34,7 @@ made_words = record {
   mode = Incremental;
   limits = record { calls = DEFAULT_CALLS; states = DEFAULT_STATES; depth = DEFAULT_DEPTH };
   protocol = 1;
+  optimal = false;
 }
 
 abbrev pub file_with : List ℕ → List ℕ → StoredFile

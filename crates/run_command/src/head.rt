@@ -21,7 +21,7 @@ pub(crate) fn head_of(words: &SolveConfig, pools: Seq<Pool>) -> Head
         calls: words.calls,
         states: words.states,
         depth: words.depth,
-        optimal: false,
+        optimal: words.optimal,
         pools,
     }
 }

@@ -43,6 +43,7 @@ fn made_words(alloc: Global) -> Result<SolveConfig, AllocError>
         states: DEFAULT_STATES,
         depth: DEFAULT_DEPTH as u8,
         protocol: 1,
+        optimal: false,
     })
 }
 

@@ -1,19 +1,17 @@
 -- What is said in protocol 1 by a table is said in protocol 2 too.
-use Rattle.std.proofs.Common.{◌≡◌, ℕ, ◌∙◌, Bool, true, false, ◌&&◌, ◌||◌, ◌==◌, append-nil, eqb-true, length, not, nat_lt, List, [], ◌∷◌, ◌++◌, refl, sym, subst, ap, Option, None, Some, All, bytes_eq, codes, if◌then◌else◌, slice_get}
+use Rattle.std.proofs.Common.{◌≡◌, ℕ, ◌∙◌, Bool, true, false, ◌&&◌, ◌==◌, append-nil, eqb-true, length, List, [], ◌∷◌, ◌++◌, refl, sym, subst, ap, Option, None, Some, All, bytes_eq, codes, if◌then◌else◌, slice_get}
 use Rattle.std.proofs.lemmas.List.Elements.{All-cons, All-head, All-nil, All-tail}
 use Rattle.std.proofs.lemmas.List.Splits.{slice_split_none}
 use Rattle.std.specs.Cmp.{first_so, second_so}
-use Rattle.std.specs.List.{list_all, slice_split}
+use Rattle.std.specs.List.{list_all}
 use Rattle.std.specs.Option.{is_none}
-use Rattle.gen_lines.specs.Reply.{Reply, are_of_width, bad, ends, fields, has_bars, is_bar, is_value, is_value_byte, joined_tuples, number, parted, reply_of, reply_of_fields, yield_reply, yields}
+use Rattle.gen_lines.specs.Reply.{Reply, are_of_width, bad, ends, fields, has_bars, is_bar, is_value, is_value_byte, number, parted, reply_of, reply_of_fields, yield_reply, yields}
 use Rattle.gen_lines.specs.declared.answer.Wanted.TheVariants as wanted
 use Rattle.gen_lines.specs.declared.answer.Why.{Why}
 use Rattle.gen_lines.specs.declared.answer.Why.TheVariants.{Count, Value}
-use Rattle.io_world.specs.Talks.{Talk}
 use Rattle.round_run.specs.Dialogue.{called_stream}
 use Rattle.run_laws.specs.Tables.{EarlierTalksStay}
 use Rattle.session_core.specs.Slots.{wanted_at}
-use Rattle.table_runs.specs.Asking.{Asking}
 use Rattle.task_model.specs.declared.stream.Stream.{Stream}
 use Rattle.task_model.specs.declared.task.Task.{Task}
 use Rattle.transcript_model.specs.Tables.{IsTable, IsTableRow, MayAnswer, TableRow, reply_in, same_call}
@@ -67,13 +65,15 @@ module _ (width : ℕ) (given : List (List ℕ)) where
       → yield_reply width (parted (has_bars width true) given) ≡ yield_reply width (given ∷ [])
   same_yield good = ap (yield_reply width) (same_parts (has_bars width true) (are_values good))
 
-same_fields : (width : ℕ) (line : List (List ℕ)) → ((why : Why) → ¬ (reply_of_fields (wanted.Outputs width false) line ≡ bad why))
+same_fields : (width : ℕ) (line : List (List ℕ))
+    → ((why : Why) → ¬ (reply_of_fields (wanted.Outputs width false) line ≡ bad why))
     → reply_of_fields (wanted.Outputs width true) line ≡ reply_of_fields (wanted.Outputs width false) line
 same_fields width [] good = refl
 same_fields width (word ∷ given) good = by (bytes_eq word (codes "end")) (bytes_eq word (codes "yield")) refl refl
   where
     by : (ends yield : Bool) → bytes_eq word (codes "end") ≡ ends → bytes_eq word (codes "yield") ≡ yield
-        → reply_of_fields (wanted.Outputs width true) (word ∷ given) ≡ reply_of_fields (wanted.Outputs width false) (word ∷ given)
+        → reply_of_fields (wanted.Outputs width true) (word ∷ given)
+        ≡ reply_of_fields (wanted.Outputs width false) (word ∷ given)
     by true yield e y = (rw e refl)
     by false true e y = (rw (e, y) (same_yield width given (λ why is. good why (rw (e, y) is))))
     by false false e y = (rw (e, y) refl)
@@ -81,11 +81,13 @@ same_fields width (word ∷ given) good = by (bytes_eq word (codes "end")) (byte
 -- ---- tables
 
 -- a table says nothing that may not stand
-never_bad : (version : ℕ) (task : Task) (rows : List TableRow) → IsTable version task rows → (call : Call) (turn : ℕ) (why : Why)
+never_bad : (version : ℕ) (task : Task) (rows : List TableRow) → IsTable version task rows
+    → (call : Call) (turn : ℕ) (why : Why)
     → ¬ (reply_in rows call turn ≡ bad why)
 never_bad version task [] are call turn why = λ is. absurd (cc)
 never_bad version task (row ∷ rows) are call turn why =
-    by (same_call row.call call && (row.turn == turn)) (never_bad version task rows (All-tail (IsTableRow version task) row rows are) call turn why)
+    by (same_call row.call call && (row.turn == turn))
+    (never_bad version task rows (All-tail (IsTableRow version task) row rows are) call turn why)
   where
     no : (reply : Reply) (stream : Stream) → MayAnswer version stream reply → ¬ (reply ≡ bad why)
     no (yields tuples values) stream may is = absurd (cc)
@@ -146,7 +148,8 @@ same_reply task stream line = by (slice_get task.streams stream) refl
       where
         of : (costless : Bool) → is_none s.worth ≡ costless
             → reply_of line (wanted_at task 2 stream) ≡ reply_of line (wanted_at task 1 stream)
-        of true none = (rw (is, none) (same_fields (length s.outputs) (fields line) (λ why failed. good why (rw (is, none) failed))))
+        of true none = (rw (is, none) (same_fields (length s.outputs) (fields line)
+            (λ why failed. good why (rw (is, none) failed))))
         of false some = (rw (is, some) refl)
 
 pub earlier_stay : EarlierTalksStay

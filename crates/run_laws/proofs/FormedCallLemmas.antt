@@ -43,8 +43,10 @@ module _ (task : Task) (fit : IsFit task) (names : List (List ℕ)) (terms : All
           missing (x ∷ xs) (suc j) lt e = missing xs j (omega (arith, lt)) e
       by (Some a) at =
           let named : action_name task k ≡ a.name = rw at refl in
-          let there = slice_get-map (λ (x : Action). x.name) task.domain.actions k ∙ ap (option_map (λ (x : Action). x.name)) at in
-          ap is_name named ∙ all_at is_name (map (λ (x : Action). x.name) task.domain.actions) k a.name fit.domain.action_names.each there
+          let there = slice_get-map (λ (x : Action). x.name) task.domain.actions k
+          ∙ ap (option_map (λ (x : Action). x.name)) at in
+          ap is_name named ∙ all_at is_name
+          (map (λ (x : Action). x.name) task.domain.actions) k a.name fit.domain.action_names.each there
 
   -- the steps of a plan
   pub steps_formed : (steps : List GroundAction) → AreNamedSteps task names steps
@@ -57,7 +59,8 @@ module _ (task : Task) (fit : IsFit task) (names : List (List ℕ)) (terms : All
           let there = member_at steps k s at in
           record {
             name = action_formed s.action
-                (All-contains (λ (x : GroundAction). x.action < length task.domain.actions) steps s named.actions there);
+                (All-contains (λ (x : GroundAction). x.action < length task.domain.actions) steps s named.actions
+                there);
             args = args_formed s.args
                 (All-contains (λ (x : GroundAction). All (IsIn names) x.args) steps s named.objects there);
           }
@@ -65,4 +68,5 @@ module _ (task : Task) (fit : IsFit task) (names : List (List ℕ)) (terms : All
   -- an instance of a stream
   pub instance_formed : (i : Instance) → i.stream < length task.streams → All (IsIn names) i.inputs
       → IsFormedCall IsTerm (call_of_instance task names i)
-  instance_formed i below inputs = record { name = name_there task fit i.stream below; args = args_formed i.inputs inputs }
+  instance_formed i below inputs =
+      record { name = name_there task fit i.stream below; args = args_formed i.inputs inputs }

@@ -62,7 +62,8 @@ number_at first (suc n) (suc k) less =
 
 -- ---- names
 
-placeholders_formed : (j i n : ℕ) → 0 < j → 0 < i → j ≤ 4294967295 → i + n ≤ 4294967295 → All IsTerm (placeholders j i n)
+placeholders_formed : (j i n : ℕ) → 0 < j → 0 < i → j ≤ 4294967295 → i + n ≤ 4294967295
+    → All IsTerm (placeholders j i n)
 placeholders_formed j i zero some one low high = All-nil IsTerm
 placeholders_formed j i (suc n) some one low high =
     All-cons IsTerm (placeholder j i) (placeholders j (i + 1) n)
@@ -82,7 +83,8 @@ name_real : (name : List ℕ) → is_name name ≡ true → ¬ (slice_get name 0
 name_real [] e at = absurd (cc)
 name_real (byte ∷ bytes) e at =
     let is : byte ≡ 64 = same_Some byte 64 at in
-    let letter : is_letter byte ≡ true = first_so (is_letter byte) _ (first_so (is_letter byte && list_all is_name_byte bytes) _ e) in
+    let letter : is_letter byte ≡ true =
+    first_so (is_letter byte) _ (first_so (is_letter byte && list_all is_name_byte bytes) _ e) in
     let no : is_letter 64 ≡ true = subst (λ n. is_letter n ≡ true) is letter in
     absurd (cc)
 
@@ -93,7 +95,8 @@ object_real name (inr made) at =
 
 -- ---- a dream
 
-module _ (limits : Limits) (task : Task) (fit : IsFit task) (before : List Entry) (legal : IsLegal limits.version task before)
+module _ (limits : Limits) (task : Task) (fit : IsFit task) (before : List Entry)
+    (legal : IsLegal limits.version task before)
     (tried : List Instance) (uses : List DreamUse) (steps : List Call) (entries : List dreams.SupposedEntry)
     (d : IsDreamAfter limits task before tried uses steps entries) where
   enough : length task.problem.objects ≤ length (names_of task before)
@@ -115,13 +118,16 @@ module _ (limits : Limits) (task : Task) (fit : IsFit task) (before : List Entry
   terms : All IsTerm names
   terms =
       All-append IsTerm (names_of task before) (entry_names 1 d.list)
-      (All-weaker IsObject IsTerm (λ name is. inl is) (names_of task before) (names_formed limits.version task fit before legal))
-      (entry_names_formed 1 d.list (supposed.have_few task (known_of task before) (notes_of task before) tried fit enough
+      (All-weaker IsObject IsTerm (λ name is. inl is) (names_of task before)
+      (names_formed limits.version task fit before legal))
+      (entry_names_formed 1 d.list (supposed.have_few task (known_of task before)
+      (notes_of task before) tried fit enough
       (coherent limits.version task before fit legal) real limits.depth d.list d.supposed d.dream.few) (omega arith)
       (omega (arith, d.dream.few)))
 
   -- where an entry of the dream stands in the list
-  chosen_at : (k : ℕ) (e : dreams.SupposedEntry) → slice_get entries k ≡ Some e → (p : ℕ) × (slice_get d.list p ≡ Some e)
+  chosen_at : (k : ℕ) (e : dreams.SupposedEntry) → slice_get entries k ≡ Some e → (p : ℕ)
+      × (slice_get d.list p ≡ Some e)
   chosen_at k e at =
       let there = maps_meet Some (slice_get d.list) entries d.dream.places (sym d.dream.chosen) k e at in
       (there.0, sym there.2)
@@ -139,7 +145,8 @@ module _ (limits : Limits) (task : Task) (fit : IsFit task) (before : List Entry
       ∙ ap (option_map (λ (e : dreams.SupposedEntry). e.instance)) chosen.1) in
       let plain =
       supposed.plain task (known_of task before) (notes_of task before) tried fit enough
-      (coherent limits.version task before fit legal) real limits.depth d.list d.supposed d.dream.few place.0 chosen.0 chosen.2 in (
+      (coherent limits.version task before fit legal) real limits.depth d.list d.supposed d.dream.few place.0
+      chosen.0 chosen.2 in (
         omega (arith, place.2, slice_get_within d.list place.0 chosen.0 chosen.2, d.dream.few),
         subst (IsFormedCall IsTerm) (sym (call.2 ∙ ap (call_of_instance task names) same))
             (instance_formed task fit names terms chosen.0.instance
@@ -169,7 +176,8 @@ module _ (limits : Limits) (task : Task) (fit : IsFit task) (before : List Entry
   dream_steps =
       let there =
       supposed.some_coherent task (known_of task before) (notes_of task before) tried fit enough
-      (coherent limits.version task before fit legal) real limits.depth d.list d.supposed d.dream.few entries chosen_at in
+      (coherent limits.version task before fit legal) real limits.depth d.list d.supposed d.dream.few entries
+      chosen_at in
       subst (All (IsFormedCall IsTerm)) (sym d.shown)
       (steps_formed task fit names terms d.plan
       (valid_named task (supposing task (known_of task before) d.list entries) there d.plan d.dream.cost d.dream.valid))

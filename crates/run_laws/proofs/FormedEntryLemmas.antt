@@ -40,7 +40,8 @@ placed_formed : (names more : List (List ℕ)) (objects : List ℕ) → All IsOb
     → All IsObject more
 placed_formed names [] objects all is = All-nil IsObject
 placed_formed names (name ∷ more) objects all is =
-    let first = and_then_some (λ object. option_map (λ os. object ∷ os) (places_of names more)) (place_of names name) objects is in
+    let first = and_then_some (λ object. option_map (λ os. object ∷ os) (places_of names more))
+    (place_of names name) objects is in
     let second = map_some (λ os. first.0 ∷ os) (places_of names more) objects first.2 in
     let here = place_at names name first.0 first.1 in
     All-cons IsObject name more (All-contains IsObject names name all (member_at names first.0 name here))
@@ -77,7 +78,8 @@ module _ (version : ℕ) (task : Task) (fit : IsFit task) (entries : List Entry)
 
   open_few : (k n : ℕ) → is_open (take k entries) n ≡ true → n ≤ 100000
   open_few k n waiting =
-      let there = first_so (list_any (is_ask_of n) (take k entries)) (not (list_any (is_answer_to n) (take k entries))) waiting in
+      let there = first_so (list_any (is_ask_of n) (take k entries))
+      (not (list_any (is_answer_to n) (take k entries))) waiting in
       asked_few n (subst (λ es. list_any (is_ask_of n) es ≡ true)
       (take-append-drop k entries) (any_append_left (is_ask_of n) (take k entries) (drop k entries) there))
 
@@ -94,13 +96,17 @@ module _ (version : ℕ) (task : Task) (fit : IsFit task) (entries : List Entry)
   call_formed k call i named =
       let names = names_of task (take k entries) in
       let first =
-      and_then_some (λ stream. option_map (λ inputs. record { stream = stream; inputs = inputs }) (places_of names call.args))
+      and_then_some (λ stream. option_map (λ inputs. record { stream = stream; inputs = inputs })
+      (places_of names call.args))
       (stream_named task call.name) i named in
-      let second = map_some (λ inputs. record { stream = first.0; inputs = inputs }) (places_of names call.args) i first.2 in
+      let second = map_some (λ inputs. record { stream = first.0; inputs = inputs })
+      (places_of names call.args) i first.2 in
       let place = position_at (λ (s : Stream). same_numbers call.name s.name) task.streams first.0 first.1 in
       let same = (numbers_decided call.name place.0.name).0 place.2 in
-      let there = slice_get-map (λ (s : Stream). s.name) task.streams first.0 ∙ ap (option_map (λ (s : Stream). s.name)) place.1 in
-      let stream_name = all_at is_name (map (λ (s : Stream). s.name) task.streams) first.0 place.0.name fit.streams.names.each there in
+      let there = slice_get-map (λ (s : Stream). s.name) task.streams first.0
+      ∙ ap (option_map (λ (s : Stream). s.name)) place.1 in
+      let stream_name = all_at is_name
+      (map (λ (s : Stream). s.name) task.streams) first.0 place.0.name fit.streams.names.each there in
       record {
         name = ap is_name same ∙ stream_name;
         args = placed_formed names call.args second.0
@@ -115,9 +121,14 @@ module _ (version : ℕ) (task : Task) (fit : IsFit task) (entries : List Entry)
       let parts = ap (count_by is_answer) (take-append-drop k entries) in
       let sums = count_joined is_answer (take k entries) (drop k entries) in
       let asked =
-      asked_few number (any_passes_from_place (is_ask_of number) entries k (entry.Ask number turn call) at (eq-eqb number number refl))
-      in
-      (omega (arith, asked), omega (arith, right.turned, yields, parts, sums, few.answers), call_formed k call right.instance right.named)
+      asked_few number (any_passes_from_place (is_ask_of number) entries k (entry.Ask number turn call) at
+      (eq-eqb number number refl))
+      in (
+        omega (arith, asked),
+        omega (arith, right.turned, yields, parts, sums, few.answers),
+        call_formed k call
+            right.instance right.named,
+      )
   entry_formed k (entry.Got number tuples values) at plain =
       let right = legal k (entry.Got number tuples values) at in (
         omega (arith, open_few k number right.waiting),

@@ -37,16 +37,20 @@ use Rattle.transcript_model.specs.declared.head.Head.{Head}
 
 -- ---- steps
 
-module _ (version : ℕ) (task : Task) (fit : IsFit task) (entries : List Entry) (legal : IsLegal version task entries) where
+module _ (version : ℕ) (task : Task) (fit : IsFit task) (entries : List Entry)
+    (legal : IsLegal version task entries) where
   pub names_terms : All IsTerm (names_of task entries)
   names_terms =
-      All-weaker IsObject IsTerm (λ name is. inl is) (names_of task entries) (names_formed version task fit entries legal)
+      All-weaker IsObject IsTerm (λ name is. inl is) (names_of task entries)
+      (names_formed version task fit entries legal)
 
   plan_formed : (limits : Limits) (calls : List Call) (cost : ℕ) (from : List Origin)
       → IsTruePlan limits.version task entries calls cost from → All (IsFormedCall IsTerm) calls
   plan_formed limits calls cost from plan =
-      let named = valid_named task (known_of task entries) (coherent version task entries fit legal) plan.steps cost plan.valid in
-      subst (All (IsFormedCall IsTerm)) (sym plan.shown) (steps_formed task fit (names_of task entries) names_terms plan.steps named)
+      let named = valid_named task (known_of task entries)
+      (coherent version task entries fit legal) plan.steps cost plan.valid in
+      subst (All (IsFormedCall IsTerm)) (sym plan.shown)
+      (steps_formed task fit (names_of task entries) names_terms plan.steps named)
 
 -- ---- origins
 
@@ -59,8 +63,10 @@ has_at number value (entry.Got n tuples values ∷ xs) has =
   where
     by : (b : Bool) → ((number == n) && list_any (same_numbers value) values) ≡ b
         → (b || has_value xs number value) ≡ true
-        → (has_value xs number value ≡ true → (k : ℕ) × (e : Entry) × (slice_get xs k ≡ Some e) × (has_value (e ∷ []) number value ≡ true))
-        → (k : ℕ) × (e : Entry) × (slice_get (entry.Got n tuples values ∷ xs) k ≡ Some e) × (has_value (e ∷ []) number value ≡ true)
+        → (has_value xs number value ≡ true → (k : ℕ) × (e : Entry) × (slice_get xs k ≡ Some e)
+        × (has_value (e ∷ []) number value ≡ true))
+        → (k : ℕ) × (e : Entry) × (slice_get (entry.Got n tuples values ∷ xs) k ≡ Some e)
+        × (has_value (e ∷ []) number value ≡ true)
     by true here all later = (0, entry.Got n tuples values, refl, (rw here refl))
     by false other all later = let r = later all in (suc r.0, r.1, r.2, r.3)
 has_at number value (x ∷ xs) has = let r = has_at number value xs has in (suc r.0, r.1, r.2, r.3)
@@ -74,7 +80,8 @@ module _ (version : ℕ) (task : Task) (fit : IsFit task) (entries : List Entry)
   given number value k (entry.Got n tuples values) at has =
       let parts = from_or_false ((number == n) && list_any (same_numbers value) values) has in
       let same = eqb-true number n (first_so (number == n) (list_any (same_numbers value) values) parts) in
-      let there = any_found (same_numbers value) values (second_so (number == n) (list_any (same_numbers value) values) parts) in
+      let there = any_found (same_numbers value) values
+      (second_so (number == n) (list_any (same_numbers value) values) parts) in
       let is = (numbers_decided value there.1).0 there.3 in
       let valid = (legal k (entry.Got n tuples values) at).right.valid in
       let most = answer_few version task fit entries legal few k n tuples values at in
@@ -83,7 +90,8 @@ module _ (version : ℕ) (task : Task) (fit : IsFit task) (entries : List Entry)
 
   value_given : (number : ℕ) (value : List ℕ) → has_value entries number value ≡ true
       → (is_value value ≡ true) × (number ≤ 100000)
-  value_given number value has = let there = has_at number value entries has in given number value there.0 there.1 there.2 there.3
+  value_given number value has = let there = has_at number value entries has in
+      given number value there.0 there.1 there.2 there.3
 
   tuples_long : (width tuples : ℕ) (values : List (List ℕ))
       → length (tuples_in width tuples values) ≡ tuples
@@ -96,11 +104,18 @@ module _ (version : ℕ) (task : Task) (fit : IsFit task) (entries : List Entry)
       → tuple ≤ 16
   tuple_few value number tuple k (entry.Got n tuples values) at is =
       let list = tuples_in (length values / tuples) tuples values in
-      let found = chosen (number == n) (option_map (λ place. place + 1) (position (list_any (same_numbers value)) list)) is in
+      let found = chosen (number == n)
+      (option_map (λ place. place + 1) (position (list_any (same_numbers value)) list)) is in
       let place = map_some (λ (place : ℕ). place + 1) (position (list_any (same_numbers value)) list) tuple found in
       let there = position_at (list_any (same_numbers value)) list place.0 place.1 in
       let below = slice_get_within list place.0 there.0 there.1 in
-      omega (arith, below, place.2, tuples_long (length values / tuples) tuples values, (legal k (entry.Got n tuples values) at).right.few)
+      omega (
+        arith,
+        below,
+        place.2,
+        tuples_long (length values / tuples) tuples values,
+        (legal k (entry.Got n tuples values) at).right.few,
+      )
     where
       chosen : (b : Bool) (o : Option ℕ) → (if b then o else None) ≡ Some tuple → o ≡ Some tuple
       chosen true o e = e

@@ -51,7 +51,8 @@ module _ (task : Task) (head : Head) (entries : List Entry) (o : Outcome) (fit :
 
   few : AreFew entries
   few =
-      let asks = turns_keep limits task (TurnOf head.mode limits task) (turn_keeps limits task head.mode) nothing_kept []
+      let asks = turns_keep limits task (TurnOf head.mode limits task)
+      (turn_keeps limits task head.mode) nothing_kept []
       entries run.stage turns (omega arith) in
       let calls = can.runnable.fit.calls in
       record { asks = omega (arith, asks, calls); answers = omega (arith, asks, calls, right.answers) }
@@ -59,7 +60,8 @@ module _ (task : Task) (head : Head) (entries : List Entry) (o : Outcome) (fit :
   one_formed : (k : ℕ) (e : Entry) → slice_get entries k ≡ Some e → IsRightMark head.mode limits task (take k entries) e
       → IsFormedEntry head.version e
   one_formed k (entry.Dream uses steps) at (other, tried, dreamt, dream) =
-      dream_formed limits task fit (take k entries) (legal_take head.version task entries k run.legal) tried uses steps dreamt dream
+      dream_formed limits task fit (take k entries)
+      (legal_take head.version task entries k run.legal) tried uses steps dreamt dream
       (counted other k uses steps at)
   one_formed k (entry.Pick number) at (other, few_asks) = omega (arith, few_asks, asks_front entries k, few.asks)
   one_formed k (entry.Retire number) at (other, few_asks) = omega (arith, few_asks, asks_front entries k, few.asks)
@@ -77,14 +79,16 @@ module _ (task : Task) (head : Head) (entries : List Entry) (o : Outcome) (fit :
       let there = member_at head.pools k p at in
       let workers = All-contains (λ (q : Pool). q.workers ≤ 16) head.pools p can.pools.few there in
       let some = All-contains (λ (q : Pool). 0 < length q.streams) head.pools p can.pools.some there in
-      let are = All-contains (λ (q : Pool). All (λ stream. stream < length task.streams) q.streams) head.pools p can.runnable.streams there
+      let are = All-contains (λ (q : Pool). All (λ stream. stream < length task.streams) q.streams) head.pools p
+      can.runnable.streams there
       in
       record {
         workers = omega (arith, workers);
         some = omega (arith, some, length-map p.streams (stream_name task));
         streams = All-map IsName (stream_name task) p.streams
             (All-weaker (λ stream. stream < length task.streams)
-            (λ stream. IsName (stream_name task stream)) (λ stream below. name_there task fit stream below) p.streams are);
+            (λ stream. IsName (stream_name task stream))
+            (λ stream below. name_there task fit stream below) p.streams are);
       }
 
   versions : (head.version ≡ 1) ⊎ (head.version ≡ 2)
@@ -104,7 +108,8 @@ module _ (task : Task) (head : Head) (entries : List Entry) (o : Outcome) (fit :
     pools = All-map IsFormedPool (shown_pool task) head.pools
         (all_by_place (λ (p : Pool). IsFormedPool (shown_pool task p)) head.pools pool_formed);
     entries = entries_formed;
-    outcome = outcome_formed head.version task fit entries run.legal few (limits_of head) refl o run.sure.holds run.sure.room
+    outcome = outcome_formed head.version task fit entries run.legal few
+        (limits_of head) refl o run.sure.holds run.sure.room
         head run.sure.short can.runnable.few_states;
   }
 
@@ -112,7 +117,8 @@ module _ (task : Task) (head : Head) (entries : List Entry) (o : Outcome) (fit :
 
 -- reports that are the same have the same transcript and the same outcome
 pub named_by_text : TextsNameRuns
-named_by_text first second head other entries others o p fit can run counted fit_second can_second run_second counted_second same =
+named_by_text first second head other entries others o p fit can run counted fit_second can_second run_second
+    counted_second same =
     let one = report_of first head entries o in
     let two = report_of second other others p in
     let here = formed first head entries o fit can run counted in
@@ -120,5 +126,6 @@ named_by_text first second head other entries others o p fit can run counted fit
     let texts = sym (whole_is first head entries o) ∙ same ∙ whole_is second other others p in
     let are : one ≡ two =
     lines_determine one two here there (sym (lines_read (report_lines one) (report_clear one here))
-    ∙ ap read_lines (sym (report_text one) ∙ texts ∙ report_text two) ∙ lines_read (report_lines two) (report_clear two there)) in
+    ∙ ap read_lines (sym (report_text one) ∙ texts ∙ report_text two)
+    ∙ lines_read (report_lines two) (report_clear two there)) in
     (ap (λ (r : Report). r.entries) are, ap (λ (r : Report). r.outcome) are)

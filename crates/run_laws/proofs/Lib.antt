@@ -4,6 +4,7 @@ pub mod FormedDreamLemmas
 pub mod FormedEntryLemmas
 pub mod FormedOutcomeLemmas
 pub mod FormedReportLemmas
+pub mod MemoryLemmas
 pub mod PlainEntryLemmas
 pub mod ShortTextLemmas
 pub mod SkeletonLemmas

@@ -73,10 +73,15 @@ answers_plain number (suc n) (e ∷ es) are =
     let here = answer_plain number e are.0 in
     let rest = answers_plain (number + 1) n es are.1 in
     let count = count_joined is_answer (e ∷ []) es in
-    let asks = asks_more (e ∷ []) es in
-    (and_from (is_plain e) (list_all is_plain es) here.0 rest.0, omega (arith, here.1, rest.1, count), omega (arith, here.2, rest.2, asks))
+    let asks = asks_more (e ∷ []) es in (
+      and_from (is_plain e) (list_all is_plain es) here.0 rest.0,
+      omega (arith, here.1, rest.1, count),
+      omega
+          (arith, here.2, rest.2, asks),
+    )
 
-pub rounds_plain : (limits : Limits) (task : Task) (rounds : List (List Instance)) (list : List Instance) (before es : List Entry)
+pub rounds_plain : (limits : Limits) (task : Task) (rounds : List (List Instance)) (list : List Instance)
+    (before es : List Entry)
     → AreRounds limits.pools list rounds → AreRoundsRun task before rounds es → ArePlain es (length list)
 rounds_plain limits task [] list before es none run =
     subst (λ xs. ArePlain xs (length list)) (sym run)
@@ -89,7 +94,8 @@ rounds_plain limits task (round ∷ rounds) list before es
     let all : es ≡ (asks ++ answers) ++ later = es_is ∙ ap (λ xs. xs ++ later) now_is in
     let size = ap length parts ∙ length-append round rest in
     let plain =
-    joined_plain (asks ++ answers) later (joined_plain asks answers (requests_plain task before (asks_of before + 1) round) told.0)
+    joined_plain (asks ++ answers) later
+    (joined_plain asks answers (requests_plain task before (asks_of before + 1) round) told.0)
     next.plain in
     let first = count_joined is_answer (asks ++ answers) later in
     let second = count_joined is_answer asks answers in

@@ -57,16 +57,19 @@ module _ (task : Task) (a b : List Entry) (real : ℕ) (known : known_of task a 
   all_same : (objects : List ℕ) → all_replaced task a real [] objects ≡ all_replaced task b real [] objects
   all_same [] = refl
   all_same (o ∷ os) =
-      ap (λ rest. option_and_then (λ object. option_map (λ objects. object ∷ objects) rest) (replaced task a real [] o)) (all_same os)
+      ap (λ rest. option_and_then (λ object. option_map (λ objects. object ∷ objects) rest)
+      (replaced task a real [] o)) (all_same os)
 
   become_same : (e : dreams.SupposedEntry) → become task a real [] e ≡ become task b real [] e
   become_same e =
       ap (option_map (λ inputs. record { stream = e.instance.stream; inputs = inputs })) (all_same e.instance.inputs)
 
-  ready_same : (taken : List Instance) (e : dreams.SupposedEntry) → ready_instance task a real [] taken e ≡ ready_instance task b real [] taken e
+  ready_same : (taken : List Instance) (e : dreams.SupposedEntry) → ready_instance task a real [] taken e
+      ≡ ready_instance task b real [] taken e
   ready_same taken e =
       λ j. option_and_then (λ i.
-      if is_due task (known j) (notes j) i && not (list_any (same_instance i) taken) then Some i else None) (become_same e j)
+      if is_due task (known j) (notes j) i && not (list_any (same_instance i) taken) then Some i else None)
+      (become_same e j)
 
   next_same : (number : ℕ) (taken : List Instance) (entries : List dreams.SupposedEntry)
       → next_sent task a real [] number taken entries ≡ next_sent task b real [] number taken entries
@@ -78,11 +81,13 @@ module _ (task : Task) (a b : List Entry) (real : ℕ) (known : known_of task a 
 -- ---- batches that aren't cut
 
 module _ (limits : Limits) (task : Task) where
-  some_asked : (before now : List Entry) (list : List Sent) → IsBatch limits task before (sent_instances list) now → 0 < length list
+  some_asked : (before now : List Entry) (list : List Sent) → IsBatch limits task before (sent_instances list) now
+      → 0 < length list
       → is_cut limits before list ≡ false → 1 ≤ asks_of now
   some_asked before now list batch some whole =
       let count =
-      rounds_count limits task batch.rounds (take (calls_left limits before) (sent_instances list)) before now batch.cut batch.run in
+      rounds_count limits task batch.rounds
+      (take (calls_left limits before) (sent_instances list)) before now batch.cut batch.run in
       let taken = length-take (calls_left limits before) (sent_instances list) in
       let many = length-map list (λ (s : Sent). s.instance) in
       elim (cases_lt (calls_left limits before) (length list)) [
@@ -94,18 +99,22 @@ module _ (limits : Limits) (task : Task) where
             omega (arith, count, taken, many, some, least)
       ]
 
-  batches_ask : (real : ℕ) (entries : List dreams.SupposedEntry) (before now : List Entry) (after : List Sent) (cut : Bool)
+  batches_ask : (real : ℕ) (entries : List dreams.SupposedEntry) (before now : List Entry) (after : List Sent)
+      (cut : Bool)
       → cut ≡ false → 0 < length (next_sent task before real [] (asks_of before + 1) [] entries)
       → AreBatches limits task real entries [] before now after cut → 1 ≤ asks_of now
-  batches_ask real entries before now after cut whole some (finished none) = absurd (omega (arith, some, ap length none))
+  batches_ask real entries before now after cut whole some (finished none) =
+      absurd (omega (arith, some, ap length none))
   batches_ask real entries before now after cut whole some (last next is more batch) = absurd (cc)
-  batches_ask real entries before now after cut whole some (further {now = first} {rest = rest} next is many all batch more) =
+  batches_ask real entries before now after cut whole some
+      (further {now = first} {rest = rest} next is many all batch more) =
       omega (arith, some_asked before first next batch many all, asks_more first rest)
 
   -- ---- picks
 
   -- a new skeleton is picked at once
-  new_picked : (kept : Kept) (before : List Entry) (entries : List dreams.SupposedEntry) (place : ℕ) (s : Skeleton) → IsCarried kept before
+  new_picked : (kept : Kept) (before : List Entry) (entries : List dreams.SupposedEntry) (place : ℕ) (s : Skeleton)
+      → IsCarried kept before
       → IsPicked (kept.skeletons ++ skeleton_of task before entries ∷ []) place s
       → (place ≡ length kept.skeletons) × (s ≡ skeleton_of task before entries)
   new_picked kept before entries place s carried picked =
@@ -113,7 +122,8 @@ module _ (limits : Limits) (task : Task) where
       elim (push_cases kept.skeletons new place s picked.there) [
         | inl early ↦
             let some = carried.picked place s early picked.kept in
-            let least = picked.fewest (length kept.skeletons) new (get_pushed kept.skeletons new (length kept.skeletons) refl) refl in
+            let least = picked.fewest (length kept.skeletons) new
+            (get_pushed kept.skeletons new (length kept.skeletons) refl) refl in
             absurd (omega (arith, some, least))
         | inr here ↦ here
       ]
@@ -124,7 +134,8 @@ module _ (limits : Limits) (task : Task) where
       ap (λ (k : Kept). length k.skeletons) this.next_is ∙ length-set kept.skeletons this.place _
 
   pick_cases : (kept : Kept) (before now : List Entry) (next : Kept) (cut : Bool)
-      (this : IsPickTurn limits task kept before now next cut) (k : ℕ) (s : Skeleton) → slice_get next.skeletons k ≡ Some s
+      (this : IsPickTurn limits task kept before now next cut) (k : ℕ) (s : Skeleton) → slice_get next.skeletons k
+      ≡ Some s
       → (1 ≤ s.picks) ⊎ (¬ (k ≡ this.place) × (slice_get kept.skeletons k ≡ Some s))
   pick_cases kept before now next cut this k s at =
       let now_is = ap (λ (x : Kept). slice_get x.skeletons k) (sym this.next_is) ∙ at in
@@ -145,7 +156,8 @@ module _ (limits : Limits) (task : Task) where
         let real = length (names_of task before) in
         let p = new_picked kept before this.entries this.pick.place this.pick.skeleton carried this.pick.picked in
         let run =
-        subst (λ (s : Skeleton). AreBatches limits task s.real s.entries [] (dreamt ++ pick ∷ []) this.pick.batches this.pick.sent false)
+        subst (λ (s : Skeleton). AreBatches limits task s.real s.entries []
+        (dreamt ++ pick ∷ []) this.pick.batches this.pick.sent false)
         p.1 this.pick.run in
         let all : before ++ now ≡ dreamt ++ this.rest =
         ap (λ es. before ++ es) this.is ∙ sym (append_assoc before (dream ∷ []) this.rest) in
@@ -154,9 +166,11 @@ module _ (limits : Limits) (task : Task) where
         mark_adds limits.version task dreamt fit.problem.objects.names.distinct so_far pick refl in
         let number = asks_of (dreamt ++ pick ∷ []) + 1 in
         let some =
-        dream_asks limits task before kept.tried fit (legal_front limits.version task before now legal) this.uses this.steps this.entries
+        dream_asks limits task before kept.tried fit
+        (legal_front limits.version task before now legal) this.uses this.steps this.entries
         number this.dream in
-        let same = next_same task (dreamt ++ pick ∷ []) dreamt real marks.same.known marks.same.notes number [] this.entries in
+        let same = next_same task (dreamt ++ pick ∷ []) dreamt real marks.same.known marks.same.notes number []
+        this.entries in
         let asked =
         batches_ask real this.entries (dreamt ++ pick ∷ []) this.pick.batches this.pick.sent false refl
         (omega (arith, some, ap length same)) run in
@@ -191,7 +205,8 @@ module _ (limits : Limits) (task : Task) where
               | inr other ↦ elim (push_cases kept.skeletons (skeleton_of task before this.entries) k s other.1) [
                 | inl early ↦ carried.picked k s early rests
                 | inr here ↦
-                    let p = new_picked kept before this.entries this.pick.place this.pick.skeleton carried this.pick.picked in
+                    let p = new_picked kept before this.entries this.pick.place this.pick.skeleton carried
+                    this.pick.picked in
                     absurd (other.0 (here.0 ∙ sym p.0))
               ]
             ]
@@ -221,8 +236,10 @@ module _ (limits : Limits) (task : Task) where
         same_carried kept before now next carried (ap (λ (k : Kept). k.skeletons) this.1)
     turn_carries Focused kept before now next legal carried this = same_carried kept before now next carried this.1
     turn_carries Binding kept before now next legal carried this = same_carried kept before now next carried this.1
-    turn_carries Adaptive kept before now next legal carried (inl this) = new_carried kept before now next legal carried this
-    turn_carries Adaptive kept before now next legal carried (inr (inl this)) = old_carried kept before now next carried this
+    turn_carries Adaptive kept before now next legal carried (inl this) =
+        new_carried kept before now next legal carried this
+    turn_carries Adaptive kept before now next legal carried (inr (inl this)) =
+        old_carried kept before now next carried this
     turn_carries Adaptive kept before now next legal carried (inr (inr this)) =
         same_carried kept before now next carried (ap (λ (k : Kept). k.skeletons) this.next_is)
 

@@ -22,7 +22,8 @@ module _ (task : Task) (fit : IsFit task) where
   stream_found k below =
       let i : Instance = record { stream = k; inputs = [] } in
       let whole =
-      call_names_instance task [] i fit (λ a b x at_a at_b. absurd (nothing a x at_a)) below (λ o there. absurd (none o there)) in
+      call_names_instance task [] i fit (λ a b x at_a at_b. absurd (nothing a x at_a)) below
+      (λ o there. absurd (none o there)) in
       let first =
       and_then_some (λ stream. option_map (λ inputs. record { stream = stream; inputs = inputs }) (Some []))
       (stream_named task (stream_name task k)) i whole in
@@ -39,9 +40,11 @@ module _ (task : Task) (fit : IsFit task) where
   -- a stream of the task has a name
   pub name_there : (k : ℕ) → k < length task.streams → is_name (stream_name task k) ≡ true
   name_there k below =
-      let place = position_at (λ (s : Stream). same_numbers (stream_name task k) s.name) task.streams k (stream_found k below) in
+      let place = position_at (λ (s : Stream). same_numbers (stream_name task k) s.name) task.streams k
+      (stream_found k below) in
       let same = (numbers_decided (stream_name task k) place.0.name).0 place.2 in
-      let there = slice_get-map (λ (s : Stream). s.name) task.streams k ∙ ap (option_map (λ (s : Stream). s.name)) place.1 in
+      let there = slice_get-map (λ (s : Stream). s.name) task.streams k
+      ∙ ap (option_map (λ (s : Stream). s.name)) place.1 in
       ap is_name same
       ∙ All-contains (λ name. is_name name ≡ true) (map (λ (s : Stream). s.name) task.streams) place.0.name
       (passes_all is_name (λ name. is_name name ≡ true) (map (λ (s : Stream). s.name) task.streams)

@@ -1,4 +1,5 @@
--- The entries that are supposed after a transcript have names for their objects, and what is known with them is coherent.
+-- The entries that are supposed after a transcript have names for their objects, and what is known with them is
+-- coherent.
 use Rattle.std.proofs.Common.{◌≡◌, ℕ, zero, suc, ◌+◌, ◌<◌, ◌≤◌, arith, List, [], ◌∷◌, ◌++◌, length, take, refl, sym, ap, subst, ◌∙◌, Some, slice_get, All}
 use Rattle.std.proofs.lemmas.List.{length-append}
 use Rattle.std.proofs.lemmas.List.Sums.{sum_by-cons}
@@ -40,7 +41,8 @@ module _ (task : Task) (known : Known) (notes : List Note) (tried : List Instanc
   -- ---- plain entries
 
   module _ (fit : IsFit task) (enough : length task.problem.objects ≤ length known.names) (c : IsCoherent known)
-      (real : AreReal known.names) (depth : ℕ) (list : List SupposedEntry) (so : AreSupposed task known notes tried depth list)
+      (real : AreReal known.names) (depth : ℕ) (list : List SupposedEntry)
+      (so : AreSupposed task known notes tried depth list)
       (few : length list ≤ 20000) where
     abbrev pub terms : List (List ℕ)
     terms = known.names ++ entry_names 1 list
@@ -48,7 +50,8 @@ module _ (task : Task) (known : Known) (notes : List Note) (tried : List Instanc
     abbrev first_after : ℕ → ℕ
     first_after k = length known.names + outputs_in (take k list)
 
-    outputs_are : (k : ℕ) (e : SupposedEntry) (s : Stream) → slice_get list k ≡ Some e → slice_get task.streams e.instance.stream ≡ Some s
+    outputs_are : (k : ℕ) (e : SupposedEntry) (s : Stream) → slice_get list k ≡ Some e
+        → slice_get task.streams e.instance.stream ≡ Some s
         → e.outputs ≡ numbers_from (first_after k) (length s.outputs)
     outputs_are k e s at named = each_is_fresh task known notes tried depth list so k e at ∙ here
       where
@@ -56,16 +59,19 @@ module _ (task : Task) (known : Known) (notes : List Note) (tried : List Instanc
             ≡ numbers_from (first_after k) (length s.outputs)
         here = rw named
 
-    outputs_many : (k : ℕ) (e : SupposedEntry) (s : Stream) → slice_get list k ≡ Some e → slice_get task.streams e.instance.stream ≡ Some s
+    outputs_many : (k : ℕ) (e : SupposedEntry) (s : Stream) → slice_get list k ≡ Some e
+        → slice_get task.streams e.instance.stream ≡ Some s
         → length e.outputs ≡ length s.outputs
-    outputs_many k e s at named = ap length (outputs_are k e s at named) ∙ length-numbers_from (first_after k) (length s.outputs)
+    outputs_many k e s at named = ap length (outputs_are k e s at named)
+        ∙ length-numbers_from (first_after k) (length s.outputs)
 
     pub have_few : HaveFew list
     have_few =
         few_outputs task known notes tried depth 8 list so
         (λ k s at. (fit_parts task.domain s (fit_stream_at task k s fit at)).outputs)
 
-    coherent_with : (kept : List SupposedEntry) → ((k : ℕ) (e : SupposedEntry) → slice_get kept k ≡ Some e → IsPlainEntry task terms e)
+    coherent_with : (kept : List SupposedEntry)
+        → ((k : ℕ) (e : SupposedEntry) → slice_get kept k ≡ Some e → IsPlainEntry task terms e)
         → IsCoherent (supposing task known list kept)
     coherent_with kept plain = supposing_coherent task known list kept fit enough c real have_few few plain
 
@@ -75,7 +81,8 @@ module _ (task : Task) (known : Known) (notes : List Note) (tried : List Instanc
     plain_behind k e at earlier =
         let o = each_is_of task known notes tried depth list so k e at in
         let s = stream_of task known list (take k list) e o.supported in
-        let there = coherent_with (take k list) (λ j d here. let r = from_take list k j d here in earlier j d r.0 r.1) in
+        let there = coherent_with (take k list)
+        (λ j d here. let r = from_take list k j d here in earlier j d r.0 r.1) in
         let now = supposing task known list (take k list) in
         let types = first_so (have_types now e.instance.inputs s.stream.inputs) _ s.reached in
         let many = outputs_many k e s.stream at s.named in
@@ -87,7 +94,14 @@ module _ (task : Task) (known : Known) (notes : List Note) (tried : List Instanc
           given = reachable_in s.stream now there e.instance s.reached;
           fresh = subst (All (IsIn terms)) (sym (outputs_are k e s.stream at s.named))
               (numbers_in terms (first_after k) (length s.stream.outputs)
-              (omega (arith, length-append known.names (entry_names 1 list), names_many 1 list, outputs_behind list k e at, many)));
+              (omega (
+                arith,
+                length-append known.names
+                    (entry_names 1 list),
+                names_many 1 list,
+                outputs_behind list k e at,
+                many,
+              )));
         }
 
     plain_before : (n k : ℕ) (e : SupposedEntry) → k < n → slice_get list k ≡ Some e → IsPlainEntry task terms e

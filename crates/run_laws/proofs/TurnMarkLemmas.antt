@@ -63,7 +63,8 @@ module _ (mode : Mode) (limits : Limits) (task : Task) where
       → AreRight mode limits task before (e ∷ [])
   one_right before e is right = record { marks = one; answers = mark_even e is }
     where
-      one : (k : ℕ) (x : Entry) → slice_get (e ∷ []) k ≡ Some x → IsRightMark mode limits task (before ++ take k (e ∷ [])) x
+      one : (k : ℕ) (x : Entry) → slice_get (e ∷ []) k ≡ Some x
+          → IsRightMark mode limits task (before ++ take k (e ∷ [])) x
       one zero x at =
           let same : e ≡ x = cc in
           subst (λ y. IsRightMark mode limits task (before ++ []) y) same
@@ -83,7 +84,8 @@ module _ (mode : Mode) (limits : Limits) (task : Task) where
           elim (append_cases now rest k e at) [
             | inl early ↦
                 subst (λ es. IsRightMark mode limits task (before ++ es) e)
-                (sym (take-append-le k now rest (omega (arith, slice_get_within now k e early)))) (first.marks k e early)
+                (sym (take-append-le k now rest (omega (arith, slice_get_within now k e early))))
+                (first.marks k e early)
             | inr later ↦
                 subst (λ es. IsRightMark mode limits task es e)
                 (append_assoc before now (take later.0 rest) ∙ ap (λ es. before ++ es) (sym (behind later.0 later.1)))
@@ -110,16 +112,19 @@ module _ (mode : Mode) (limits : Limits) (task : Task) where
   batch_right : (before now : List Entry) (list : List Instance) → IsBatch limits task before list now
       → AreRight mode limits task before now
   batch_right before now list batch =
-      let plain = rounds_plain limits task batch.rounds (take (calls_left limits before) list) before now batch.cut batch.run in
+      let plain = rounds_plain limits task batch.rounds
+      (take (calls_left limits before) list) before now batch.cut batch.run in
       record {
         marks = λ k e at. plain_mark (before ++ take k now) e (all_at is_plain now k e plain.plain at);
         answers = plain.answers ∙ sym plain.asks;
       }
 
-  level_right : (before now : List Entry) (cut : Bool) → IsLevel limits task before now cut → AreRight mode limits task before now
+  level_right : (before now : List Entry) (cut : Bool) → IsLevel limits task before now cut
+      → AreRight mode limits task before now
   level_right before now cut this =
       subst (AreRight mode limits task before) (sym this.is)
-      (marked_right before this.rest entry.Level refl tt (batch_right (before ++ entry.Level ∷ []) this.rest this.list this.batch))
+      (marked_right before this.rest entry.Level refl tt
+      (batch_right (before ++ entry.Level ∷ []) this.rest this.list this.batch))
 
   fallback_right : (before : List Entry) (tried : List Instance) (now : List Entry) (cut : Bool)
       → IsFallback limits task before tried now cut → AreRight mode limits task before now
@@ -127,11 +132,13 @@ module _ (mode : Mode) (limits : Limits) (task : Task) where
       marked_right before [] entry.Reset refl tt (none_right (before ++ entry.Reset ∷ []))
   fallback_right before tried now cut (level this) = level_right before now cut this
 
-  batches_right : (real : ℕ) (entries : List dreams.SupposedEntry) (sent : List Sent) (before now : List Entry) (after : List Sent) (cut : Bool)
+  batches_right : (real : ℕ) (entries : List dreams.SupposedEntry) (sent : List Sent) (before now : List Entry)
+      (after : List Sent) (cut : Bool)
       → AreBatches limits task real entries sent before now after cut → AreRight mode limits task before now
   batches_right real entries sent before now after cut (finished none) = none_right before
   batches_right real entries sent before now after cut (last next is more batch) = batch_right before now _ batch
-  batches_right real entries sent before now after cut (further {now = first} {rest = rest} next is some all batch more) =
+  batches_right real entries sent before now after cut
+      (further {now = first} {rest = rest} next is some all batch more) =
       joined_right before first rest (batch_right before first _ batch)
       (batches_right real entries (sent ++ next) (before ++ first) rest after cut more)
 
@@ -140,12 +147,14 @@ module _ (mode : Mode) (limits : Limits) (task : Task) where
   module _ (dreams_too : ¬ (mode ≡ Incremental)) where
     dream_right : (asks : ℕ → List dreams.SupposedEntry → List Entry → List Entry → List Sent → Bool → Type 0)
         (tried : List Instance) (before now : List Entry) (next : List Instance) (cut : Bool)
-        → ((real : ℕ) (entries : List dreams.SupposedEntry) (b n : List Entry) (s : List Sent) (c : Bool) → asks real entries b n s c
+        → ((real : ℕ) (entries : List dreams.SupposedEntry) (b n : List Entry) (s : List Sent) (c : Bool)
+        → asks real entries b n s c
         → AreRight mode limits task b n)
         → IsDreamTurn limits task asks tried before now next cut → AreRight mode limits task before now
     dream_right asks tried before now next cut each this =
         subst (AreRight mode limits task before) (sym this.is)
-        (marked_right before this.rest (entry.Dream this.uses this.steps) refl (dreams_too, tried, this.entries, this.dream)
+        (marked_right before this.rest (entry.Dream this.uses this.steps) refl
+        (dreams_too, tried, this.entries, this.dream)
         (each _ this.entries _ this.rest this.sent cut this.batches))
 
     empty_right : (tried : List Instance) (before now : List Entry) (next : List Instance) (cut : Bool)
@@ -213,12 +222,14 @@ module _ (limits : Limits) (task : Task) where
       → AreRight mode limits task before now
   turn_right Incremental kept before now next cut this few = level_right Incremental limits task before now cut this.0
   turn_right Focused kept before now next cut (inl this, same) few =
-      dream_right Focused limits task (λ is. absurd (cc)) (IsFirstBatch limits task) kept.tried before now next.tried cut
+      dream_right Focused limits task (λ is. absurd (cc))
+      (IsFirstBatch limits task) kept.tried before now next.tried cut
       (λ real entries b n s c first. batch_right Focused limits task b n _ first.batch) this
   turn_right Focused kept before now next cut (inr this, same) few =
       empty_right Focused limits task (λ is. absurd (cc)) kept.tried before now next.tried cut this
   turn_right Binding kept before now next cut (inl this, same) few =
-      dream_right Binding limits task (λ is. absurd (cc)) (λ real entries. AreBatches limits task real entries []) kept.tried
+      dream_right Binding limits task (λ is. absurd (cc))
+      (λ real entries. AreBatches limits task real entries []) kept.tried
       before now next.tried cut
       (λ real entries b n s c run. batches_right Binding limits task real entries [] b n s c run) this
   turn_right Binding kept before now next cut (inr this, same) few =
@@ -239,9 +250,11 @@ module _ (limits : Limits) (task : Task) where
   turns_right fit mode kept before es stage legal carried (whole next {now = now} {rest = rest} may this more) resting =
       let all = subst (IsLegal limits.version task) (sym (append_assoc before now rest)) legal in
       let later =
-      turn_carries limits task fit mode kept before now next (legal_front limits.version task (before ++ now) rest all) carried this in
+      turn_carries limits task fit mode kept before now next
+      (legal_front limits.version task (before ++ now) rest all) carried this in
       joined_right mode limits task before now rest (turn_right mode kept before now next false this carried.few)
       (turns_right fit mode next (before ++ now) rest stage all later more resting)
   turns_right fit mode kept before es stage legal carried (cut_off next may this) resting =
       turn_right mode kept before es next true this carried.few
-  turns_right fit mode kept before es stage legal carried (stopped next more cut may this) resting = absurd (resting refl)
+  turns_right fit mode kept before es stage legal carried (stopped next more cut may this) resting =
+      absurd (resting refl)

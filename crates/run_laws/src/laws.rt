@@ -1,4 +1,5 @@
 //! Laws of whole runs, each the contract of a function that does nothing.
+ghost use Rattle.run_laws.specs.Memory.{BatchesLoseNoAnswer};
 ghost use Rattle.run_laws.specs.Reports.{ReportsOfRunsAreFormed, ShortReportsCountSteps};
 ghost use Rattle.run_laws.specs.Reports.{TextsNameRuns};
 ghost use Rattle.run_laws.specs.Tables.{EarlierTalksStay, TablesNameRuns};
@@ -32,4 +33,10 @@ pub fn tables_name_runs()
 /// one of protocol 2 too.
 pub fn earlier_talks_stay()
     ensures { EarlierTalksStay }
+{}
+
+/// A batch that stops where memory is wanting loses no answer to a request that it has printed: none
+/// waits for its answer, or the last call on a child was refused for want of memory.
+pub fn batches_lose_no_answer()
+    ensures { BatchesLoseNoAnswer }
 {}

@@ -3,4 +3,6 @@
 
 mod laws;
 
-pub use laws::{reports_of_runs_are_formed, short_reports_count_steps, texts_name_runs};
+pub use laws::{
+    batches_lose_no_answer, reports_of_runs_are_formed, short_reports_count_steps, texts_name_runs,
+};

@@ -1,6 +1,5 @@
 -- Atoms in cells, and the set that they make.
-use Rattle.std.proofs.Common.{◌≡◌, ◌≢◌, ◌⊎◌, ◌==◌, ◌*◌, ◌%◌, inl, inr, ℕ, eqb-true, eq-eqb, fold, zero, suc, ◌+◌, ◌-◌, ◌<◌, ◌≤◌, Bool, true, false, ◌||◌, ◌&&◌, not, List, [], ◌∷◌, ◌++◌, length, get_or, replicate, refl, sym, ap, ◌∙◌, subst, arith, slice_set}
-use Rattle.std.proofs.Math.ListN.{set}
+use Rattle.std.proofs.Common.{◌≡◌, ◌≢◌, ◌⊎◌, ◌==◌, ◌*◌, ◌%◌, inl, inr, ℕ, eqb-true, eq-eqb, fold, zero, suc, ◌+◌, ◌-◌, ◌<◌, Bool, true, false, ◌||◌, ◌&&◌, not, List, [], ◌∷◌, ◌++◌, length, get_or, replicate, refl, sym, ap, ◌∙◌, subst, arith, slice_set}
 use Rattle.std.proofs.lemmas.Bool.{false≢true}
 use Rattle.std.specs.Cmp.{second_so}
 use Rattle.std.proofs.lemmas.List.{get_or-set_other, get_or-set_same, length-replicate, length-set}
@@ -13,7 +12,7 @@ use Rattle.spread_state.specs.declared.cells.TheConstants.{CELLS}
 use Rattle.task_model.proofs.StateLemmas.{contains-empty, contains-from_list, contains-insert, contains-remove, contains-with_atoms, same_atoms}
 use Rattle.task_model.proofs.StateOrderLemmas.{same_is, ties}
 use Rattle.task_model.specs.AtomOrder.{atom_cmp}
-use Rattle.task_model.specs.State.{Atoms, contains, empty, from_list, insert, items, remove, with_atoms}
+use Rattle.task_model.specs.State.{Atoms, contains, empty, insert, items, remove, with_atoms}
 use Rattle.task_model.specs.declared.fact.Atom.{Atom}
 
 abbrev same : Atom → Atom → Bool
@@ -64,7 +63,8 @@ one_has : (cells : List Atoms) (q : Atom) (m : ℕ) → m < length cells
     → list_any (λ (c : Atoms). contains c q) cells ≡ contains (cell_in cells m) q
 one_has [] q m lt own = absurd (omega (arith, lt))
 one_has (c ∷ cells) q zero lt own =
-    ap (λ b. contains c q || b) (none_has cells q (λ k has. let e = own (suc k) has in omega (arith, e))) ∙ or_false (contains c q)
+    ap (λ b. contains c q || b) (none_has cells q (λ k has. let e = own (suc k) has in omega (arith, e)))
+    ∙ or_false (contains c q)
 one_has (c ∷ cells) q (suc m) lt own =
     by (contains c q) refl
     (one_has cells q m (omega (arith, lt)) (λ k has. let e : suc m ≡ suc k = own (suc k) has in omega (arith, e)))
@@ -107,7 +107,8 @@ module _ (cells : List Atoms) (spread : IsSpread cells) (k : ℕ) (lt : k < CELL
     where
       by : (j ≡ k) ⊎ (j ≢ k) → cell_of q ≡ j
       by (inl e) =
-          owned q (ap (λ c. contains c q) (sym (ap (cell_in after) e ∙ get_or-set_same cells k changed empty inside)) ∙ has) ∙ sym e
+          owned q (ap (λ c. contains c q) (sym (ap (cell_in after) e ∙ get_or-set_same cells k changed empty inside))
+          ∙ has) ∙ sym e
       by (inr n) = spread.own j q (ap (λ c. contains c q) (sym (get_or-set_other cells k j changed empty n)) ∙ has)
 
   pub spread_after : IsSpread after
@@ -162,11 +163,13 @@ module _ (cells : List Atoms) (spread : IsSpread cells) (a : Atom) where
       by : (b : Bool) → same q a ≡ b → cell_of q ≡ k
       by true e = ap cell_of (same_atom_is q a e)
       by false e =
-          spread.own k q (ap (λ b. b || contains (cell_in cells k) q) (sym e) ∙ sym (contains-insert (cell_in cells k) a q) ∙ has)
+          spread.own k q (ap (λ b. b || contains (cell_in cells k) q) (sym e)
+          ∙ sym (contains-insert (cell_in cells k) a q) ∙ has)
 
   remove_owned : (q : Atom) → contains (remove (cell_in cells k) a) q ≡ true → cell_of q ≡ k
   remove_owned q has =
-      spread.own k q (second_so (not (same q a)) (contains (cell_in cells k) q) (sym (contains-remove (cell_in cells k) a q) ∙ has))
+      spread.own k q (second_so (not (same q a)) (contains (cell_in cells k) q)
+      (sym (contains-remove (cell_in cells k) a q) ∙ has))
 
   pub added : IsSpread (slice_set cells k (insert (cell_in cells k) a))
       × (cell_atoms (slice_set cells k (insert (cell_in cells k) a)) ≡ insert (cell_atoms cells) a)

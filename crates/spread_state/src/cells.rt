@@ -1,5 +1,5 @@
 //! Atoms, spread over cells.
-ghost use Rattle.std.specs.Prelude.{◌≡◌, ◌<◌, ◌++◌, fold, IfOk, OnOk, OnErr};
+ghost use Rattle.std.specs.Prelude.{◌≡◌, ◌<◌, ◌++◌, IfOk, OnOk, OnErr};
 ghost use Rattle.spread_state.specs.Cells as specs;
 ghost use Rattle.task_model.specs.State as set;
 

@@ -63,6 +63,7 @@ module _ (n : ℕ) {words : List (List ℕ)} {told : Option FileMap} (run : Prog
             depth = (a.depth ∙ sym b.depth) i;
             pools = shares i;
           };
+          optimal = a.optimal ∙ sym b.optimal;
           workers = same;
         }
 

@@ -1,15 +1,15 @@
 -- Runs of the program of whose only child the same talk is told.
-use Rattle.std.proofs.Common.{◌≡◌, ℕ, ◌≤◌, List, length, Some, refl, sym, ap, subst}
+use Rattle.std.proofs.Common.{◌≡◌, ℕ, ◌≤◌, List, length, Some, refl, sym, ap, subst, ◌∙◌}
 use Rattle.grid_laws.proofs.ProgramLemmas.{program_runs}
 use Rattle.io_world.specs.Talks.{Talk}
 use Rattle.level_run.specs.Reports.{IsRun}
-use Rattle.level_run.specs.Turns.{HasFewSteps}
+use Rattle.level_run.specs.Turns.{HasFewSteps, IsPast}
 use Rattle.mode_turns.specs.Lazy.{IsLazy, IsLazyEnd}
 use Rattle.command_files.specs.Outside.{Outside}
 use Rattle.run_command.specs.Runs.{HasOutcome}
 use Rattle.command_files.specs.declared.status.Status.{Status}
 use Rattle.round_run.specs.Dialogue.{Dialogue, workers_in}
-use Rattle.task_model.specs.Plans.{IsFar, IsReached, MoreThan}
+use Rattle.task_model.specs.Plans.{IsReached, MoreThan}
 use Rattle.task_model.specs.declared.task.Task.{Task}
 use Rattle.text_laws.proofs.SpelledRunLemmas.{one_spelled}
 use Rattle.text_laws.specs.Spelled.{AreAlike, AsksOneChild, HasTold, IsSpelledRun, OneTalkOneRun}
@@ -31,8 +31,8 @@ few_steps head other outcome.NoPlan same few = few
 few_steps head other (outcome.Limit kind) same few = few
 
 run_alike : (task : Task) (head other : Head) (entries : List Entry) (o : Outcome) → limits_of other ≡ limits_of head
-    → IsRun task other entries o → IsRun task head entries o
-run_alike task head other entries o same run =
+    → other.optimal ≡ head.optimal → IsRun task other entries o → IsRun task head entries o
+run_alike task head other entries o same alike run =
     let sure = run.sure in
     record {
       stage = run.stage;
@@ -45,7 +45,10 @@ run_alike task head other entries o same run =
       closed = run.closed;
       sure = record {
         holds = subst (λ l. IsTrueOutcome l task entries o) same sure.holds;
-        far = λ is. subst (λ (l : Limits). IsFar task (known_of task entries) l.states) same (sure.far is);
+        least = λ asked. sure.least (alike ∙ asked);
+        past = λ is.
+            subst (λ optimal. IsPast optimal task (known_of task entries) head.states) alike
+            (subst (λ (l : Limits). IsPast other.optimal task (known_of task entries) l.states) same (sure.past is));
         within = λ is. subst (λ (l : Limits). ¬ (MoreThan l.states (IsReached task (known_of task entries)))) same (sure.within is);
         room = sure.room;
         short = few_steps head other o (ap (λ (l : Limits). l.states) same) sure.short;
@@ -66,7 +69,7 @@ spelled {words} {outside} child talk has head alike asks told =
       mode = asks.mode;
       pools = asks.pools;
       one = asks.alone;
-      run = run_alike run.task head run.head run.entries has.outcome limits has.turns;
+      run = run_alike run.task head run.head run.entries has.outcome limits (sym alike.optimal) has.turns;
       talks =
           subst (λ ps. Dialogue run.task head.version ps run.entries outside.spoken) (sym alike.workers)
           (subst (λ (l : Limits). Dialogue run.task l.version (workers_in run.head) run.entries outside.spoken) limits has.talks);
@@ -79,6 +82,6 @@ one_talk words others outside after status end text line child talk first second
     let head = first.run.head in
     one_spelled first.run.task head asks.pool talk first.run.entries second.run.entries first.outcome second.outcome outside.spoken
     after.spoken first.run.fit (program_runs first.run).fit.pools
-    (spelled child talk first head (record { limits = refl; workers = refl }) asks told)
+    (spelled child talk first head (record { limits = refl; optimal = refl; workers = refl }) asks told)
     (subst (λ t. IsSpelledRun t head asks.pool talk second.run.entries second.outcome after.spoken) (sym same)
     (spelled child talk second head alike asks again))

@@ -54,6 +54,7 @@ OneWorkerSpellsOneRun =
 -- The heads differ in nothing but the words that start their children.
 pub record AreAlike (head other : Head) : Type 0 where
   pub limits : limits_of head ≡ limits_of other
+  pub optimal : head.optimal ≡ other.optimal
   pub workers : workers_in head ≡ workers_in other
 
 -- In incremental mode no other child can be asked than this: it is the one worker of the one pool.

@@ -1,5 +1,7 @@
 -- Why a run stops at a file, and that no streams are fit.
-use Rattle.std.proofs.Common.{◌≡◌, ℕ, ◌≤◌, List, [], ◌∷◌, refl, sym, ap, subst, arith, Option, None, Some, option_map}
+use Rattle.std.proofs.Common.{◌≡◌, ℕ, ◌≤◌, List, [], ◌∷◌, refl, sym, ap, subst, arith, Option, None, Some, option_map, Result}
+use Rattle.std.proofs.lemmas.Result.{IfErr-weaker}
+use Rattle.std.specs.Prelude.{IfErr}
 use Rattle.lemmas.specs.Lists.{LeadsAlong}
 use Rattle.io_world.specs.FileMap.{FileMap}
 use Rattle.legal_report.specs.Reports.{RefusesReport, SpellsTranscript}
@@ -23,6 +25,12 @@ use Rattle.validate_app.specs.declared.stop.FileRole.{FileRole}
 use Rattle.validate_app.specs.declared.stop.FileRole.TheVariants.{Domain, Problem, Streams, Report, Plan}
 use Rattle.validate_app.specs.declared.stop.Stop.{Stop}
 use Rattle.validate_app.specs.declared.stop.Stop.TheVariants as stop
+
+-- where a run stops for want of memory alone, it may stop
+pub memory_stops : {T : Type 0} (files : TextsSeen) (w : ValidateWords) (r : Result T Stop)
+    → IfErr r (λ s. s ≡ stop.Memory) → IfErr r (StopsAtText files w)
+memory_stops files w r h =
+    IfErr-weaker r (λ s. s ≡ stop.Memory) (StopsAtText files w) (λ s is. subst (StopsAtText files w) (sym is) tt) h
 
 module _ (told : Option FileMap) (w : ValidateWords) where
   -- what is so of the text is so of the file's bytes
@@ -49,12 +57,14 @@ module _ (told : Option FileMap) (w : ValidateWords) where
         → (text : List ℕ) → text ≡ bytes → (entries : List Entry) → SpellsTranscript task text entries
         → IsTranscriptOf told w task entries
     report_there task bytes has text is entries spelled =
-        let there = holds Report r.report report_named bytes has text is (λ b. SpellsTranscript task b entries) spelled in
+        let there = holds Report r.report report_named bytes has text is
+        (λ b. SpellsTranscript task b entries) spelled in
         subst (IsTranscriptBy told w task entries) (sym certified) there
 
 module _ (files : TextsSeen) (w : ValidateWords) where
   -- behind accepted texts a run stops at the file that isn't read
-  pub stops_there : (which : FileRole) → AreAcceptedBefore files.told w which → (path : List ℕ) → path_of w which ≡ Some path
+  pub stops_there : (which : FileRole) → AreAcceptedBefore files.told w which → (path : List ℕ) → path_of w which
+      ≡ Some path
       → (why : Stop) → EndsAt files which path why → StopsAtText files w why
   stops_there which accepted path named stop.Usage ends = absurd ends
   stops_there which accepted path named (stop.Refused other kind place) ends = absurd ends
@@ -66,7 +76,8 @@ module _ (files : TextsSeen) (w : ValidateWords) where
   stops_there which accepted path named stop.Memory ends = tt
 
   pub domain_refused : (bytes : List ℕ) → HasTextBytes files.told Domain w.domain bytes → (text : List ℕ) → text ≡ bytes
-      → (why : InputRefusal) → Refuses (RefusesDomain text) why → (s : Stop) → s ≡ text_stop Domain why → StopsAtText files w s
+      → (why : InputRefusal) → Refuses (RefusesDomain text) why → (s : Stop) → s ≡ text_stop Domain why
+      → StopsAtText files w s
   domain_refused bytes has text is (refusal.At kind place) r s so =
       subst (StopsAtText files w) (sym so)
       (holds files.told w Domain w.domain refl bytes has text is (λ b. RefusesDomain b kind place) r)
@@ -101,7 +112,8 @@ module _ (files : TextsSeen) (w : ValidateWords) (r : ReportWords) (certified : 
         holds files.told w Streams r.streams (streams_named files.told w r certified) bytes has text is
             (λ b. RefusesStreams d b kind place) refused,
       )
-  streams_refused d there problem bytes has text is refusal.Memory refused s so = subst (StopsAtText files w) (sym so) tt
+  streams_refused d there problem bytes has text is refusal.Memory refused s so =
+      subst (StopsAtText files w) (sym so) tt
 
   pub report_flawed : (task : Task) → IsPlainTaskOf files.told w task → (bytes : List ℕ)
       → HasTextBytes files.told Report r.report bytes → (text : List ℕ) → text ≡ bytes → (line : ℕ) (flaw : ReportFlaw)
@@ -120,7 +132,8 @@ module _ (told : Option FileMap) (first mid last : ℕ) (earlier : first ≤ mid
       → StopsAtText (record { told = told; first = first; last = last }) w why
   stops_since later same stop.Usage n = absurd n
   stops_since later same (stop.Refused which kind place) n =
-      subst (λ t. StopsAtText (record { told = t; first = first; last = last }) w (stop.Refused which kind place)) same n
+      subst (λ t. StopsAtText (record { told = t; first = first; last = last }) w (stop.Refused which kind place))
+      same n
   stops_since later same (stop.Flawed line flaw) n =
       subst (λ t. StopsAtText (record { told = t; first = first; last = last }) w (stop.Flawed line flaw)) same n
   stops_since later same (stop.Failed which) n =

@@ -1,5 +1,5 @@
 -- Told files are judged in one way.
-use Rattle.std.proofs.Common.{◌≡◌, ◌⊎◌, inl, inr, ℕ, ◌<◌, ◌≤◌, List, [], length, refl, sym, ap, subst, ◌∙◌, arith, Option, None, Some, option_map, Ok, Err}
+use Rattle.std.proofs.Common.{◌≡◌, ℕ, List, [], refl, sym, ap, subst, ◌∙◌, Option, None, Some}
 use Rattle.std.proofs.lemmas.Option.{same_Some}
 use Rattle.io_world.specs.FileMap.{FileMap}
 use Rattle.legal_report.proofs.LawsLemmas.{one_transcript}
@@ -41,21 +41,25 @@ module _ (told : Option FileMap) (w : ValidateWords) (task : Task) (t : IsPlainT
   pub fit_task : IsFit task
   fit_task = record {
     domain = domain_fit t.domain.bytes task.domain t.domain.has.short t.domain.so;
-    problem = problem_fit task.domain t.problem.bytes task.problem short_text t.problem.has.short t.problem.so task.streams;
+    problem = problem_fit task.domain t.problem.bytes task.problem short_text t.problem.has.short t.problem.so
+        task.streams;
     streams = by w.certified refl;
   }
     where
       by : (o : Option ReportWords) → w.certified ≡ o → AreFitStreams task
       by None none =
-          no_streams task.domain task.streams (subst (AreStreamsBy told w task.domain task.streams) none t.streams) task.problem
+          no_streams task.domain task.streams
+          (subst (AreStreamsBy told w task.domain task.streams) none t.streams) task.problem
       by (Some report) some =
-          let there : HoldsText told w role.Streams (λ bytes. SpellsStreams task.domain bytes task.streams) = subst (AreStreamsBy told w task.domain task.streams) some t.streams in
+          let there : HoldsText told w role.Streams (λ bytes. SpellsStreams task.domain bytes task.streams) =
+          subst (AreStreamsBy told w task.domain task.streams) some t.streams in
           streams_fit task.domain there.bytes task.streams short_text there.has.short there.so task.problem
 
 -- ---- what is known is coherent
 
 -- the transcript is legal
-legal_of : (told : Option FileMap) (w : ValidateWords) (task : Task) (entries : List Entry) → IsTranscriptOf told w task entries
+legal_of : (told : Option FileMap) (w : ValidateWords) (task : Task) (entries : List Entry)
+    → IsTranscriptOf told w task entries
     → (version : ℕ) × IsLegal version task entries
 legal_of told w task entries report = by w.certified refl
   where
@@ -78,8 +82,19 @@ known_coherent told w task fit entries report =
 pub are_judged : SpelledPlansAreJudged
 are_judged told w task entries calls claimed spelled report plan =
     let fit = fit_task told w task spelled in
-    let said = some_verdict task fit (known_of task entries) (known_coherent told w task fit entries report) calls in
-    (said.0, record { task = task; spelled = spelled; entries = entries; report = report; calls = calls; plan = plan; said = said.1 })
+    let said = some_verdict task fit (known_of task entries) (known_coherent told w task fit entries report) calls in (
+      said.0,
+      record {
+        task = task;
+        spelled = spelled;
+        entries = entries;
+        report = report;
+        calls = calls;
+        plan =
+            plan;
+        said = said.1;
+      },
+    )
 
 -- ---- what files hold is one thing
 
@@ -100,12 +115,14 @@ module _ (told : FileMap) (w : ValidateWords) where
       of_one_text role.Domain (λ bytes. SpellsDomain bytes d) (λ bytes. SpellsDomain bytes e) (d ≡ e)
       (λ bytes. text_one_domain bytes d e)
 
-  one_problem : (d : domains.Domain) (p q : problems.Problem) → IsProblemOf files w d p → IsProblemOf files w d q → p ≡ q
+  one_problem : (d : domains.Domain) (p q : problems.Problem) → IsProblemOf files w d p → IsProblemOf files w d q → p
+      ≡ q
   one_problem d p q =
       of_one_text role.Problem (λ bytes. SpellsProblem d bytes p) (λ bytes. SpellsProblem d bytes q) (p ≡ q)
       (λ bytes. text_one_problem d bytes p q)
 
-  one_streams : (d : domains.Domain) (ss ts : List Stream) → AreStreamsByWords files w d ss → AreStreamsByWords files w d ts → ss ≡ ts
+  one_streams : (d : domains.Domain) (ss ts : List Stream) → AreStreamsByWords files w d ss
+      → AreStreamsByWords files w d ts → ss ≡ ts
   one_streams d ss ts a b = by w.certified refl
     where
       by : (o : Option ReportWords) → w.certified ≡ o → ss ≡ ts
@@ -115,7 +132,8 @@ module _ (told : FileMap) (w : ValidateWords) where
           first ∙ sym second
       by (Some report) some =
           of_one_text role.Streams (λ bytes. SpellsStreams d bytes ss) (λ bytes. SpellsStreams d bytes ts) (ss ≡ ts)
-          (λ bytes. text_one_streams d bytes ss ts) (subst (AreStreamsBy files w d ss) some a) (subst (AreStreamsBy files w d ts) some b)
+          (λ bytes. text_one_streams d bytes ss ts) (subst (AreStreamsBy files w d ss) some a)
+          (subst (AreStreamsBy files w d ts) some b)
 
   pub one_task : (t u : Task) → IsPlainTaskOf files w t → IsPlainTaskOf files w u → t ≡ u
   one_task t u a b =
@@ -126,7 +144,8 @@ module _ (told : FileMap) (w : ValidateWords) where
       (subst (λ d. AreStreamsByWords files w d u.streams) (sym domain) b.streams) in
       λ i. record { domain = domain i; problem = problem i; streams = streams i }
 
-  one_report : (task : Task) (xs ys : List Entry) → IsTranscriptOf files w task xs → IsTranscriptOf files w task ys → xs ≡ ys
+  one_report : (task : Task) (xs ys : List Entry) → IsTranscriptOf files w task xs → IsTranscriptOf files w task ys
+      → xs ≡ ys
   one_report task xs ys a b = by w.certified refl
     where
       by : (o : Option ReportWords) → w.certified ≡ o → xs ≡ ys
@@ -135,7 +154,8 @@ module _ (told : FileMap) (w : ValidateWords) where
           let second : ys ≡ [] = subst (IsTranscriptBy files w task ys) none b in
           first ∙ sym second
       by (Some report) some =
-          of_one_text role.Report (λ bytes. SpellsTranscript task bytes xs) (λ bytes. SpellsTranscript task bytes ys) (xs ≡ ys)
+          of_one_text role.Report (λ bytes. SpellsTranscript task bytes xs) (λ bytes. SpellsTranscript task bytes ys)
+          (xs ≡ ys)
           (λ bytes. one_transcript task bytes xs ys) (subst (IsTranscriptBy files w task xs) some a)
           (subst (IsTranscriptBy files w task ys) some b)
 
@@ -145,7 +165,8 @@ module _ (told : FileMap) (w : ValidateWords) where
 
   one_plan : (xs ys : List Call) (c d : Option ℕ) → IsPlanOf files w xs c → IsPlanOf files w ys d → (xs ≡ ys) × (c ≡ d)
   one_plan xs ys c d =
-      of_one_text role.Plan (λ text. SpellsPlan text xs × (claimed_cost text ≡ c)) (λ text. SpellsPlan text ys × (claimed_cost text ≡ d))
+      of_one_text role.Plan (λ text. SpellsPlan text xs × (claimed_cost text ≡ c))
+      (λ text. SpellsPlan text ys × (claimed_cost text ≡ d))
       ((xs ≡ ys) × (c ≡ d)) (λ text. same_plan text xs ys c d)
 
 -- of told files one verdict holds at most, with one claim
@@ -155,13 +176,15 @@ judged_once told w v u c d a b =
     let fit = fit_task (Some told) w a.task a.spelled in
     let task : a.task ≡ b.task = one_task told w a.task b.task a.spelled b.spelled in
     let entries : a.entries ≡ b.entries =
-    one_report told w a.task a.entries b.entries a.report (subst (λ t. IsTranscriptOf (Some told) w t b.entries) (sym task) b.report) in
+    one_report told w a.task a.entries b.entries a.report
+    (subst (λ t. IsTranscriptOf (Some told) w t b.entries) (sym task) b.report) in
     let plan = one_plan told w a.calls b.calls c d a.plan b.plan in
     let said : IsPlanVerdict a.task (known_of a.task a.entries) a.calls u =
     subst (λ t. IsPlanVerdict t (known_of t a.entries) a.calls u) (sym task)
     (subst (λ es. IsPlanVerdict b.task (known_of b.task es) a.calls u) (sym entries)
     (subst (λ cs. IsPlanVerdict b.task (known_of b.task b.entries) cs u) (sym plan.0) b.said)) in (
-      verdict_once a.task fit (known_of a.task a.entries) (known_coherent (Some told) w a.task fit a.entries a.report) a.calls v u
+      verdict_once a.task fit (known_of a.task a.entries)
+          (known_coherent (Some told) w a.task fit a.entries a.report) a.calls v u
           a.said said,
       plan.1,
     )

@@ -22,7 +22,8 @@ module _ (words : List (List ℕ)) (told : FileMap) (first last : ℕ) where
   -- how a run came to its end, where no memory is wanting and no file failed
   data Came (o : Outcome) : Type 0 where
     no_words : paths_of_words words ≡ None → o ≡ Stopped stop.Usage → Came o
-    halted : (w : ValidateWords) (why : Stop) → paths_of_words words ≡ Some w → IsHalt told w why → o ≡ Stopped why → Came o
+    halted : (w : ValidateWords) (why : Stop) → paths_of_words words ≡ Some w → IsHalt told w why → o ≡ Stopped why
+        → Came o
     judged : (w : ValidateWords) (v : Verdict) (claimed : Option ℕ) → paths_of_words words ≡ Some w
         → IsJudgedPlan (Some told) w v claimed → o ≡ Judged v claimed → Came o
 

@@ -7,7 +7,7 @@ use Rattle.legal_report.proofs.LawsLemmas as reports
 use Rattle.legal_report.specs.Reports.{RefusesReport, SpellsTranscript}
 use Rattle.legal_report.specs.declared.flaw.ReportFlaw.{ReportFlaw}
 use Rattle.plan_reader.specs.Claims.{claimed_cost}
-use Rattle.plan_reader.specs.Plans.{RefusesPlan, SpellsPlan, WrongLine, plan_of}
+use Rattle.plan_reader.specs.Plans.{RefusesPlan, SpellsPlan, WrongLine}
 use Rattle.problem_reader.specs.Problems as problem_texts
 use Rattle.stream_reader.specs.Reading as stream_texts
 use Rattle.task_reader.proofs.SpelledLemmas.{domain_not_refused, problem_not_refused, streams_not_refused}
@@ -42,9 +42,11 @@ module _ (told : FileMap) (w : ValidateWords) where
 
   -- why a run stops at this file, which was read
   pub data Halts (which : FileRole) (why : Stop) : Type 0 where
-    refused : (kind : FaultKind) (place : ℕ) → IsTextRefused seen w which kind place → why ≡ stop.Refused which kind place
+    refused : (kind : FaultKind) (place : ℕ) → IsTextRefused seen w which kind place → why
+        ≡ stop.Refused which kind place
         → Halts which why
-    flawed : (line : ℕ) (flaw : ReportFlaw) → which ≡ role.Report → IsReportFlawed seen w line flaw → why ≡ stop.Flawed line flaw
+    flawed : (line : ℕ) (flaw : ReportFlaw) → which ≡ role.Report → IsReportFlawed seen w line flaw → why
+        ≡ stop.Flawed line flaw
         → Halts which why
     long : HasMoreBytes seen w which → why ≡ stop.TooLong which → Halts which why
 
@@ -82,16 +84,19 @@ module _ (told : FileMap) (w : ValidateWords) where
   -- ---- at one file
 
   -- a file that holds something has not too many bytes
-  short_enough : (which : FileRole) (IsSo : List ℕ → Type 0) → HoldsText seen w which IsSo → ¬ (HasMoreBytes seen w which)
+  short_enough : (which : FileRole) (IsSo : List ℕ → Type 0) → HoldsText seen w which IsSo
+      → ¬ (HasMoreBytes seen w which)
   short_enough which IsSo holds (path, named, more) =
       let paths : holds.path ≡ path = same_Some holds.path path (sym holds.named ∙ named) in
       let held : told path ≡ Some holds.bytes = ap told (sym paths) ∙ holds.has.held in
-      let longer : most_text_bytes which < length holds.bytes = subst (λ o. HasMore o (most_text_bytes which)) held more in
+      let longer : most_text_bytes which < length holds.bytes =
+      subst (λ o. HasMore o (most_text_bytes which)) held more in
       omega (arith, longer, holds.has.short)
 
   refused_short : (which : FileRole) (kind : FaultKind) (place : ℕ) → IsTextRefused seen w which kind place
       → ¬ (HasMoreBytes seen w which)
-  refused_short role.Domain kind place r more = short_enough role.Domain (λ bytes. RefusesDomain bytes kind place) r more
+  refused_short role.Domain kind place r more =
+      short_enough role.Domain (λ bytes. RefusesDomain bytes kind place) r more
   refused_short role.Problem kind place (d, domain, r) more =
       short_enough role.Problem (λ bytes. RefusesProblem d bytes kind place) r more
   refused_short role.Streams kind place (d, domain, problem, r) more =
@@ -112,13 +117,15 @@ module _ (told : FileMap) (w : ValidateWords) where
       (λ bytes. refused_once domain_texts.IsDomainAnswered one_domain_fault bytes kind than place other) r s
   one_refusal role.Problem kind than place other (d, domain, r) (e, again, s) =
       let same = one_domain told w e d again domain in
-      of_one_text told w role.Problem (λ bytes. RefusesProblem d bytes kind place) (λ bytes. RefusesProblem d bytes than other)
+      of_one_text told w role.Problem (λ bytes. RefusesProblem d bytes kind place)
+      (λ bytes. RefusesProblem d bytes than other)
       (refusal.At kind place ≡ refusal.At than other)
       (λ bytes. refused_once (problem_texts.IsProblemAnswered d) (one_problem_fault d) bytes kind than place other) r
       (subst (λ x. HoldsText seen w role.Problem (λ bytes. RefusesProblem x bytes than other)) same s)
   one_refusal role.Streams kind than place other (d, domain, problem, r) (e, again, also, s) =
       let same = one_domain told w e d again domain in
-      of_one_text told w role.Streams (λ bytes. RefusesStreams d bytes kind place) (λ bytes. RefusesStreams d bytes than other)
+      of_one_text told w role.Streams (λ bytes. RefusesStreams d bytes kind place)
+      (λ bytes. RefusesStreams d bytes than other)
       (refusal.At kind place ≡ refusal.At than other)
       (λ bytes. refused_once (stream_texts.AreStreamsAnswered d) (one_streams_fault d) bytes kind than place other) r
       (subst (λ x. HoldsText seen w role.Streams (λ bytes. RefusesStreams x bytes than other)) same s)
@@ -132,7 +139,8 @@ module _ (told : FileMap) (w : ValidateWords) where
       wrong : FaultKind → ℕ → WrongLine
       wrong kind place = record { kind = kind; place = place }
 
-  one_flaw : (line other : ℕ) (flaw than : ReportFlaw) → IsReportFlawed seen w line flaw → IsReportFlawed seen w other than
+  one_flaw : (line other : ℕ) (flaw than : ReportFlaw) → IsReportFlawed seen w line flaw
+      → IsReportFlawed seen w other than
       → stop.Flawed line flaw ≡ stop.Flawed other than
   one_flaw line other flaw than (task, spelled, r) (also, again, s) =
       let tasks = one_task told w also task again spelled in
@@ -165,10 +173,12 @@ module _ (told : FileMap) (w : ValidateWords) where
   unnamed none path named = absurd (let both = sym (ap (option_map (λ (r : ReportWords). r.report)) none) ∙ named in cc)
 
   streamless : w.certified ≡ None → (path : List ℕ) → ¬ (path_of w role.Streams ≡ Some path)
-  streamless none path named = absurd (let both = sym (ap (option_map (λ (r : ReportWords). r.streams)) none) ∙ named in cc)
+  streamless none path named = absurd
+      (let both = sym (ap (option_map (λ (r : ReportWords). r.streams)) none) ∙ named in cc)
 
   -- it is refused for nothing
-  good_unrefused : (which : FileRole) → IsGood which → (kind : FaultKind) (place : ℕ) → ¬ (IsTextRefused seen w which kind place)
+  good_unrefused : (which : FileRole) → IsGood which → (kind : FaultKind) (place : ℕ)
+      → ¬ (IsTextRefused seen w which kind place)
   good_unrefused role.Domain (d, domain) kind place bad =
       of_one_text told w role.Domain (λ bytes. SpellsDomain bytes d) (λ bytes. RefusesDomain bytes kind place) ⊥
       (λ bytes. domain_not_refused bytes d kind place) domain bad
@@ -179,7 +189,8 @@ module _ (told : FileMap) (w : ValidateWords) where
       (subst (λ x. HoldsText seen w role.Problem (λ bytes. RefusesProblem x bytes kind place)) same bad)
   good_unrefused role.Streams (task, t) kind place (e, again, problem, bad) =
       let same = one_domain told w e task.domain again t.domain in
-      by w.certified refl (subst (λ x. HoldsText seen w role.Streams (λ bytes. RefusesStreams x bytes kind place)) same bad)
+      by w.certified refl (subst (λ x. HoldsText seen w role.Streams (λ bytes. RefusesStreams x bytes kind place))
+      same bad)
     where
       by : (o : Option ReportWords) → w.certified ≡ o
           → ¬ (HoldsText seen w role.Streams (λ bytes. RefusesStreams task.domain bytes kind place))
@@ -192,7 +203,8 @@ module _ (told : FileMap) (w : ValidateWords) where
   good_unrefused role.Report good kind place bad = bad
   good_unrefused role.Plan (calls, claimed, plan) kind place (accepted, bad) =
       of_one_text told w role.Plan (λ text. SpellsPlan text calls × (claimed_cost text ≡ claimed))
-      (λ text. RefusesPlan text kind place) ⊥ (λ text spells refuses. absurd (let both = sym spells.0 ∙ refuses in cc)) plan bad
+      (λ text. RefusesPlan text kind place) ⊥
+      (λ text spells refuses. absurd (let both = sym spells.0 ∙ refuses in cc)) plan bad
 
   -- nor is it a report that certifies nothing
   good_unflawed : IsGood role.Report → (line : ℕ) (flaw : ReportFlaw) → ¬ (IsReportFlawed seen w line flaw)
@@ -204,8 +216,10 @@ module _ (told : FileMap) (w : ValidateWords) where
       by : (o : Option ReportWords) → w.certified ≡ o → ⊥
       by None none = unnamed none bad.path bad.named
       by (Some words) some =
-          of_one_text told w role.Report (λ bytes. SpellsTranscript task bytes entries) (λ bytes. RefusesReport task bytes line flaw) ⊥
-          (λ bytes. reports.not_refused task bytes entries line flaw) (subst (IsTranscriptBy seen w task entries) some report)
+          of_one_text told w role.Report (λ bytes. SpellsTranscript task bytes entries)
+          (λ bytes. RefusesReport task bytes line flaw) ⊥
+          (λ bytes. reports.not_refused task bytes entries line flaw)
+          (subst (IsTranscriptBy seen w task entries) some report)
           (subst (λ u. HoldsText seen w role.Report (λ bytes. RefusesReport u bytes line flaw)) same bad)
 
   -- nor has it too many bytes
@@ -233,7 +247,8 @@ module _ (told : FileMap) (w : ValidateWords) where
   -- so no run stops at it
   good_goes_on : (which : FileRole) → IsGood which → (why : Stop) → ¬ (Halts which why)
   good_goes_on which good why (refused kind place r is) = good_unrefused which good kind place r
-  good_goes_on which good why (flawed line flaw report r is) = good_unflawed (subst (λ x. IsGood x) report good) line flaw r
+  good_goes_on which good why (flawed line flaw report r is) =
+      good_unflawed (subst (λ x. IsGood x) report good) line flaw r
   good_goes_on which good why (long more is) = good_short which good more
 
   -- ---- at two files

@@ -1,5 +1,5 @@
 -- Of a plan over what is known exactly one thing is said.
-use Rattle.std.proofs.Common.{◌≡◌, ◌⊎◌, ℕ, zero, suc, ◌+◌, ◌<◌, ◌≤◌, ◌==◌, Bool, true, false, List, [], ◌∷◌, ◌++◌, map, take, length, refl, sym, ap, subst, ◌∙◌, arith, add-one, inl, inr, Option, None, Some, slice_get, take_all, eq-eqb, option_and_then}
+use Rattle.std.proofs.Common.{◌≡◌, ◌⊎◌, ℕ, zero, suc, ◌+◌, ◌<◌, ◌≤◌, ◌==◌, Bool, true, false, List, [], ◌∷◌, ◌++◌, take, length, refl, sym, ap, subst, ◌∙◌, arith, inl, inr, Option, None, Some, slice_get, take_all, eq-eqb, option_and_then}
 use Rattle.std.proofs.lemmas.Bool.{cases_lt}
 use Rattle.std.proofs.lemmas.List.{length-map}
 use Rattle.std.proofs.lemmas.Option.{none-some, same_Some, slice_get_within}
@@ -42,7 +42,8 @@ use Rattle.validate_app.specs.declared.verdict.Verdict.TheVariants.{Valid, Step,
 
 -- ---- a step
 
-module _ (task : Task) (fit : IsFit task) (known : Known) (coherent : IsCoherent known) (state : Atoms) (call : Call) where
+module _ (task : Task) (fit : IsFit task) (known : Known) (coherent : IsCoherent known) (state : Atoms)
+    (call : Call) where
   -- the call shows no step, or one that isn't applicable
   pub record IsRefused (step : GroundAction) (why : StepFault) : Type 0 where
     pub named : step_named task known.names call ≡ Some step
@@ -77,8 +78,10 @@ module _ (task : Task) (fit : IsFit task) (known : Known) (coherent : IsCoherent
   refused step why named fails real = inr (step, why, record { named = named; fails = fails; real = real })
 
   -- the objects of a step of this action
-  module _ (a : Action) (k : ℕ) (called : action_called task call.name ≡ Some a) (place : action_named task call.name ≡ Some k)
-      (at : slice_get task.domain.actions k ≡ Some a) (objects : List ℕ) (found : places_of known.names call.args ≡ Some objects)
+  module _ (a : Action) (k : ℕ) (called : action_called task call.name ≡ Some a)
+      (place : action_named task call.name ≡ Some k)
+      (at : slice_get task.domain.actions k ≡ Some a) (objects : List ℕ)
+      (found : places_of known.names call.args ≡ Some objects)
     where
       abbrev step : GroundAction
       step = record { action = k; args = objects }
@@ -99,7 +102,8 @@ module _ (task : Task) (fit : IsFit task) (known : Known) (coherent : IsCoherent
       miscounted other =
           let many = as_many in
           refused step fault.Args named
-          (a, at, sym (have_types-unequal known objects a.params (λ e. other (omega (arith, e, many))))) (λ e. absurd (cc))
+          (a, at, sym (have_types-unequal known objects a.params (λ e. other (omega (arith, e, many)))))
+          (λ e. absurd (cc))
 
       -- as many as parameters
       counted : (length call.args == length a.params) ≡ true → Judged
@@ -145,17 +149,21 @@ module _ (task : Task) (fit : IsFit task) (known : Known) (coherent : IsCoherent
           unnamed None absent = rw absent refl
           unnamed (Some k) place =
               let there = position_at (λ (a : Action). same_numbers call.name a.name) task.domain.actions k place in
-              absurd (none-some there.0 (sym none ∙ ap (option_and_then (slice_get task.domain.actions)) place ∙ there.1))
+              absurd (none-some there.0 (sym none ∙ ap (option_and_then (slice_get task.domain.actions)) place
+              ∙ there.1))
       by_action (Some a) called =
           let found = and_then_some (slice_get task.domain.actions) (action_named task call.name) a called in
-          by_objects found.0 found.1 found.2 (length call.args == length a.params) refl (places_of known.names call.args) refl
+          by_objects found.0 found.1 found.2 (length call.args == length a.params) refl
+          (places_of known.names call.args) refl
         where
           by_objects : (k : ℕ) → action_named task call.name ≡ Some k → slice_get task.domain.actions k ≡ Some a
               → (b : Bool) → (length call.args == length a.params) ≡ b
               → (o : Option (List ℕ)) → places_of known.names call.args ≡ o → Judged
-          by_objects k place at false other None none = stopped flaw.Args (rw (called, other) refl) (inl (rw (place, none) refl))
+          by_objects k place at false other None none =
+              stopped flaw.Args (rw (called, other) refl) (inl (rw (place, none) refl))
           by_objects k place at false other (Some objects) found =
-              stopped flaw.Args (rw (called, other) refl) (miscounted a k called place at objects found (λ e. absurd (not_both _ (eq-eqb _ _ e) other)))
+              stopped flaw.Args (rw (called, other) refl)
+              (miscounted a k called place at objects found (λ e. absurd (not_both _ (eq-eqb _ _ e) other)))
           by_objects k place at true many None none =
               stopped flaw.Object (rw (called, many, none) refl) (inl (rw (place, none) refl))
           by_objects k place at true many (Some objects) found = counted a k called place at objects found many
@@ -163,15 +171,18 @@ module _ (task : Task) (fit : IsFit task) (known : Known) (coherent : IsCoherent
 -- ---- calls, one after another
 
 module _ (task : Task) (fit : IsFit task) (known : Known) (coherent : IsCoherent known) where
-  can_run : (calls : List Call) (state : Atoms) (cost : ℕ) → CallsLeadTo task known calls state cost → CanRun task known calls
+  can_run : (calls : List Call) (state : Atoms) (cost : ℕ) → CallsLeadTo task known calls state cost
+      → CanRun task known calls
   can_run calls state cost lead =
       record { steps = lead.steps; shown = lead.shown; state = state; cost = cost; runs = lead.runs }
 
   -- calls lead to one state, at one cost
-  lead_once : (calls : List Call) (a b : Atoms) (m n : ℕ) → CallsLeadTo task known calls a m → CallsLeadTo task known calls b n
+  lead_once : (calls : List Call) (a b : Atoms) (m n : ℕ) → CallsLeadTo task known calls a m
+      → CallsLeadTo task known calls b n
       → (a ≡ b) × (m ≡ n)
   lead_once calls a b m n x y =
-      let same = same_steps task fit known coherent (initial_state task) a b x.steps y.steps m n x.runs y.runs (sym x.shown ∙ y.shown) in
+      let same = same_steps task fit known coherent (initial_state task) a b x.steps y.steps m n x.runs y.runs
+      (sym x.shown ∙ y.shown) in
       execution_determined task known (initial_state task) y.steps a b m n
       (subst (λ steps. Executes task known (initial_state task) steps a m) same x.runs) y.runs
 
@@ -202,7 +213,8 @@ module _ (task : Task) (fit : IsFit task) (known : Known) (coherent : IsCoherent
   fails_end : (calls : List Call) (number : ℕ) (why : StepFlaw) (f : FailsAtCall task known calls number why) (k : ℕ)
       → f.place < k → ¬ (CanRun task known (take k calls))
   fails_end calls number why f k lt can =
-      let front : CanRun task known (take (f.place + 1) (take k calls)) = front_can task known (take k calls) (f.place + 1) can in
+      let front : CanRun task known (take (f.place + 1) (take k calls)) =
+      front_can task known (take k calls) (f.place + 1) can in
       let within = get_and_take calls f.place k f.call lt f.there in
       let cut : take (f.place + 1) (take k calls) ≡ take f.place calls ++ f.call ∷ [] =
       next_taken (take k calls) f.place f.call within.0 ∙ ap (λ cs. cs ++ f.call ∷ []) within.1 in
@@ -237,11 +249,14 @@ module _ (task : Task) (fit : IsFit task) (known : Known) (coherent : IsCoherent
 
       by : (f.place < g.place) ⊎ (g.place ≤ f.place) → (g.place < f.place) ⊎ (f.place ≤ g.place)
           → (number ≡ other) × (why ≡ than)
-      by (inl lt) q = absurd (fails_end calls number why f g.place lt (can_run (take g.place calls) g.state g.cost g.before))
-      by (inr ge) (inl lt) = absurd (fails_end calls other than g f.place lt (can_run (take f.place calls) f.state f.cost f.before))
+      by (inl lt) q = absurd (fails_end calls number why f g.place lt
+          (can_run (take g.place calls) g.state g.cost g.before))
+      by (inr ge) (inl lt) = absurd (fails_end calls other than g f.place lt
+          (can_run (take f.place calls) f.state f.cost f.before))
       by (inr ge) (inr le) = here (omega (arith, ge, le))
 
-  plan_leads : (calls : List Call) (cost : ℕ) (p : IsPlan task known calls cost) → CallsLeadTo task known calls p.valid.0 cost
+  plan_leads : (calls : List Call) (cost : ℕ) (p : IsPlan task known calls cost)
+      → CallsLeadTo task known calls p.valid.0 cost
   plan_leads calls cost p = record { steps = p.steps; shown = p.shown; runs = p.valid.1 }
 
   plan_once : (calls : List Call) (m n : ℕ) → IsPlan task known calls m → IsPlan task known calls n → m ≡ n
@@ -265,7 +280,8 @@ module _ (task : Task) (fit : IsFit task) (known : Known) (coherent : IsCoherent
   plan_runs : (calls : List Call) (cost : ℕ) → IsPlan task known calls cost → CanRun task known calls
   plan_runs calls cost p = can_run calls p.valid.0 cost (plan_leads calls cost p)
 
-  pub verdict_once : (calls : List Call) (v w : Verdict) → IsPlanVerdict task known calls v → IsPlanVerdict task known calls w → v ≡ w
+  pub verdict_once : (calls : List Call) (v w : Verdict) → IsPlanVerdict task known calls v
+      → IsPlanVerdict task known calls w → v ≡ w
   verdict_once calls (Valid m) (Valid n) p q = ap Valid (plan_once calls m n p q)
   verdict_once calls (Valid m) (Step number why) p f = absurd (fails_all calls number why f (plan_runs calls m p))
   verdict_once calls (Valid m) (Goal part) p g = absurd (plan_misses calls m part p g)
@@ -292,7 +308,8 @@ module _ (task : Task) (fit : IsFit task) (known : Known) (coherent : IsCoherent
     why : StepFlaw
     fails : FailsAtCall task known calls number why
 
-  led_more : (calls : List Call) (place : ℕ) → place < length calls → Led calls place → Led calls (suc place) ⊎ Failed calls
+  led_more : (calls : List Call) (place : ℕ) → place < length calls → Led calls place → Led calls (suc place)
+      ⊎ Failed calls
   led_more calls place lt led = by (judged task fit known coherent led.state (get_there calls place lt).0)
     where
       by : CanTake task fit known coherent led.state (get_there calls place lt).0
@@ -301,7 +318,8 @@ module _ (task : Task) (fit : IsFit task) (known : Known) (coherent : IsCoherent
       by (inl can) = inl (record {
         state = can.after;
         cost = led.cost + can.cost;
-        leads = one_more task fit known coherent calls place (get_there calls place lt).0 led.state can.after led.cost can.cost
+        leads = one_more task fit known coherent calls place
+            (get_there calls place lt).0 led.state can.after led.cost can.cost
             (get_there calls place lt).1 led.leads (can.step, can.named, can.taken);
       })
       by (inr cannot) = inr (record {
@@ -321,7 +339,12 @@ module _ (task : Task) (fit : IsFit task) (known : Known) (coherent : IsCoherent
 
   led_upto : (calls : List Call) (place : ℕ) → place ≤ length calls → Led calls place ⊎ Failed calls
   led_upto calls zero le =
-      inl (record { state = initial_state task; cost = 0; leads = none_lead task fit known coherent (initial_state task) refl })
+      inl (record {
+        state = initial_state task;
+        cost = 0;
+        leads =
+            none_lead task fit known coherent (initial_state task) refl;
+      })
   led_upto calls (suc place) le = by (led_upto calls place (omega (arith, le)))
     where
       by : Led calls place ⊎ Failed calls → Led calls (suc place) ⊎ Failed calls
@@ -332,8 +355,10 @@ module _ (task : Task) (fit : IsFit task) (known : Known) (coherent : IsCoherent
   some_verdict calls = by (led_upto calls (length calls) (omega arith))
     where
       by_goal : (led : Led calls (length calls)) → CallsLeadTo task known calls led.state led.cost → (b : Bool)
-          → is_true task.domain known led.state task.problem.goal (slots_of []) ≡ b → (v : Verdict) × IsPlanVerdict task known calls v
-      by_goal led leads true reached = (Valid led.cost, is_plan task fit known coherent calls led.state led.cost leads reached)
+          → is_true task.domain known led.state task.problem.goal (slots_of []) ≡ b → (v : Verdict)
+          × IsPlanVerdict task known calls v
+      by_goal led leads true reached =
+          (Valid led.cost, is_plan task fit known coherent calls led.state led.cost leads reached)
       by_goal led leads false missed = (
         Goal (false_text task known led.state task.problem.goal []),
         record {

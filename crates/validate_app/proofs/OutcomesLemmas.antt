@@ -1,5 +1,5 @@
 -- How a run ends that comes to an outcome.
-use Rattle.std.proofs.Common.{◌≡◌, ◌⊎◌, ℕ, List, refl, sym, ◌∙◌, subst, Option, Some, inl, inr}
+use Rattle.std.proofs.Common.{◌≡◌, ◌⊎◌, ℕ, List, sym, ◌∙◌, subst, Option, Some, inl, inr}
 use Rattle.io_world.specs.FileMap.{FileMap}
 use Rattle.task_model.specs.Known.{Known}
 use Rattle.task_model.specs.declared.task.Task.{Task}
@@ -20,13 +20,15 @@ use Rattle.validate_app.specs.declared.stop.Stop.TheVariants as stop
 use Rattle.validate_app.specs.declared.verdict.Verdict.TheVariants as verdict
 
 -- its text was told
-pub ends_told : (words : List (List ℕ)) (files : TextsSeen) (before after : Option (List ℕ)) (end : Status) (o : Outcome)
+pub ends_told : (words : List (List ℕ)) (files : TextsSeen) (before after : Option (List ℕ)) (end : Status)
+    (o : Outcome)
     → IsOutcome words files o → (text : List ℕ) → text ≡ text_of o → (status : Status) → status ≡ status_of o
     → TellsOutcome text status before after end → ValidationEnds words files before after end
 ends_told words files before after end o cause text is status so told = record {
   outcome = o;
   cause = cause;
-  told = subst (λ s. TellsOutcome (text_of o) s before after end) so (subst (λ t. TellsOutcome t status before after end) is told);
+  told = subst (λ s. TellsOutcome (text_of o) s before after end) so
+      (subst (λ t. TellsOutcome t status before after end) is told);
 }
 
 -- no outcome is a fault of the sink
@@ -51,7 +53,8 @@ sink_failed o status end so (inr cause) fault = cause
 -- ---- words
 
 -- why there is no verdict for words with these paths
-pub has_stopped : (words : List (List ℕ)) (files : TextsSeen) (w : ValidateWords) → paths_of_words words ≡ Some w → (why : Stop)
+pub has_stopped : (words : List (List ℕ)) (files : TextsSeen) (w : ValidateWords) → paths_of_words words ≡ Some w
+    → (why : Stop)
     → StopsAtText files w why → HasNoVerdict words files why
 has_stopped words files w meant stop.Usage n = absurd n
 has_stopped words files w meant (stop.Refused which kind place) n = (w, meant, n)
@@ -63,7 +66,8 @@ has_stopped words files w meant stop.Memory n = tt
 -- ---- verdicts
 
 -- what is said over what the transcript certifies is said of the files
-pub is_judged : (told : Option FileMap) (w : ValidateWords) (task : Task) → IsPlainTaskOf told w task → (mid : Option FileMap)
+pub is_judged : (told : Option FileMap) (w : ValidateWords) (task : Task) → IsPlainTaskOf told w task
+    → (mid : Option FileMap)
     → mid ≡ told → (known : Known) → IsCertain mid w task known → (later : Option FileMap) → later ≡ told
     → (calls : List Call) (claimed : Option ℕ) → IsPlanOf later w calls claimed → (slice : List Call) → slice ≡ calls
     → (v : Verdict) → IsPlanVerdict task known slice v → IsJudgedPlan told w v claimed

@@ -35,9 +35,11 @@ module _ (task : Task) (names : List (List ℕ)) (call : Call) where
   pub named_step : (step : GroundAction) → step_named task names call ≡ Some step → IsNamed step
   named_step step is =
       let action =
-      and_then_some (λ a. option_map (λ (args : List ℕ). record { action = a; args = args }) (places_of names call.args))
+      and_then_some (λ a. option_map (λ (args : List ℕ). record { action = a; args = args })
+      (places_of names call.args))
       (action_named task call.name) step is in
-      let args = map_some (λ (args : List ℕ). record { action = action.0; args = args }) (places_of names call.args) step action.2 in
+      let args = map_some (λ (args : List ℕ). record { action = action.0; args = args })
+      (places_of names call.args) step action.2 in
       record {
         action = ap (option_and_then (slice_get task.domain.actions)) action.1
             ∙ ap (λ (s : GroundAction). slice_get task.domain.actions s.action) args.2;
@@ -51,7 +53,8 @@ module _ (task : Task) (names : List (List ℕ)) (call : Call) where
       let k = and_then_some (slice_get task.domain.actions) (action_named task call.name) a named in
       map_none (λ (args : List ℕ). record { action = k.0; args = args }) (places_of names call.args)
       (sym (ap (option_and_then
-      (λ action. option_map (λ (args : List ℕ). record { action = action; args = args }) (places_of names call.args))) k.1) ∙ none)
+      (λ action. option_map (λ (args : List ℕ). record { action = action; args = args })
+      (places_of names call.args))) k.1) ∙ none)
 
 module _ (task : Task) (known : Known) (state : Atoms) (call : Call) where
   pub no_action : action_called task call.name ≡ None → first_flaw task known state call ≡ Some flaw.Action
@@ -62,13 +65,15 @@ module _ (task : Task) (known : Known) (state : Atoms) (call : Call) where
         → first_flaw task known state call ≡ Some flaw.Args
     other_count other =
         ap (λ o. flaw_of task known state o call.args) named
-        ∙ ap (λ b. cond b (flaw_over task known state a (places_of known.names call.args)) (Some flaw.Args)) (ne_eqb _ _ other)
+        ∙ ap (λ b. cond b (flaw_over task known state a (places_of known.names call.args)) (Some flaw.Args))
+        (ne_eqb _ _ other)
 
     module _ (count : length call.args ≡ length a.params) where
       over : first_flaw task known state call ≡ flaw_over task known state a (places_of known.names call.args)
       over =
           ap (λ o. flaw_of task known state o call.args) named
-          ∙ ap (λ b. cond b (flaw_over task known state a (places_of known.names call.args)) (Some flaw.Args)) (eq-eqb _ _ count)
+          ∙ ap (λ b. cond b (flaw_over task known state a (places_of known.names call.args)) (Some flaw.Args))
+          (eq-eqb _ _ count)
 
       pub no_object : step_named task known.names call ≡ None → first_flaw task known state call ≡ Some flaw.Object
       no_object none =

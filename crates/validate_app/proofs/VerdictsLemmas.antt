@@ -1,5 +1,5 @@
 -- Steps that are taken one after another.
-use Rattle.std.proofs.Common.{◌≡◌, ℕ, ◌+◌, suc, ◌<◌, List, [], ◌∷◌, ◌++◌, take, length, refl, sym, ap, subst, ◌∙◌, arith, Some, slice_get}
+use Rattle.std.proofs.Common.{◌≡◌, ℕ, ◌+◌, suc, List, [], ◌∷◌, ◌++◌, take, refl, sym, ◌∙◌, arith, Some, slice_get}
 use Rattle.std.proofs.lemmas.List.{map-append}
 use Rattle.lemmas.proofs.Members.{take_next}
 use Rattle.shown_steps.proofs.RunsLemmas.{step_shown}
@@ -26,10 +26,12 @@ module _ (task : Task) (fit : IsFit task) (known : Known) (coherent : IsCoherent
   -- one step more
   pub one_more : (calls : List Call) (place : ℕ) (call : Call) (before after : Atoms) (cost more : ℕ)
       → slice_get calls place ≡ Some call → CallsLeadTo task known (take place calls) before cost
-      → (step : GroundAction) × (step_named task known.names call ≡ Some step) × IsStep task known before step after more
+      → (step : GroundAction) × (step_named task known.names call ≡ Some step)
+      × IsStep task known before step after more
       → CallsLeadTo task known (take (suc place) calls) after (cost + more)
   one_more calls place call before after cost more at lead (step, is, taken) =
-      let one : Executes task known before (step ∷ []) after more = (after, more, 0, taken, (refl, refl), omega arith) in
+      let one : Executes task known before (step ∷ []) after more =
+      (after, more, 0, taken, (refl, refl), omega arith) in
       record {
         steps = lead.steps ++ step ∷ [];
         shown = take_next calls place call at

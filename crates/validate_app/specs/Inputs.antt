@@ -33,7 +33,8 @@ path_of w Report = option_map (λ (r : ReportWords). r.report) w.certified
 path_of w Plan = Some w.plan
 
 -- The words name the file, and it has bytes of which this is so.
-pub record HoldsText (told : Option FileMap) (w : ValidateWords) (which : FileRole) (IsSo : List ℕ → Type 0) : Type 0 where
+pub record HoldsText (told : Option FileMap) (w : ValidateWords) (which : FileRole)
+    (IsSo : List ℕ → Type 0) : Type 0 where
   pub path : List ℕ
   pub named : path_of w which ≡ Some path
   pub bytes : List ℕ
@@ -70,7 +71,8 @@ pub record IsPlainTaskOf (told : Option FileMap) (w : ValidateWords) (task : Tas
 -- over the task the report's file has this transcript, which is legal; it is empty where no report is named
 abbrev pub IsTranscriptBy : Option FileMap → ValidateWords → Task → List Entry → Option ReportWords → Type 0
 IsTranscriptBy told w task entries None = entries ≡ []
-IsTranscriptBy told w task entries (Some report) = HoldsText told w Report (λ bytes. SpellsTranscript task bytes entries)
+IsTranscriptBy told w task entries (Some report) =
+    HoldsText told w Report (λ bytes. SpellsTranscript task bytes entries)
 
 -- the same, by what the words name
 abbrev pub IsTranscriptOf : Option FileMap → ValidateWords → Task → List Entry → Type 0

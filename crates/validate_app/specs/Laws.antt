@@ -23,8 +23,8 @@ abbrev pub HasFailed : Outcome → Type 0
 HasFailed (Judged v claimed) = ⊥
 HasFailed (Stopped why) = IsFailure why
 
--- Of words and told files one outcome is right, unless memory is wanting or a file failed: one verdict with one claim, or
--- one fault at one place of one file.
+-- Of words and told files one outcome is right, unless memory is wanting or a file failed: one verdict with one claim,
+-- or one fault at one place of one file.
 abbrev pub OutcomesAreUnique : Type 0
 OutcomesAreUnique =
     (words : List (List ℕ)) (told : FileMap) (first last : ℕ) (o p : Outcome)
@@ -35,6 +35,7 @@ OutcomesAreUnique =
 -- where the files spell a task, a legal transcript and a plan, something is said
 abbrev pub SpelledPlansAreJudged : Type 0
 SpelledPlansAreJudged =
-    (told : Option FileMap) (w : ValidateWords) (task : Task) (entries : List Entry) (calls : List Call) (claimed : Option ℕ)
+    (told : Option FileMap) (w : ValidateWords) (task : Task) (entries : List Entry) (calls : List Call)
+    (claimed : Option ℕ)
     → IsPlainTaskOf told w task → IsTranscriptOf told w task entries → IsPlanOf told w calls claimed
     → (v : Verdict) × IsJudgedPlan told w v claimed

@@ -51,7 +51,8 @@ TellsOutcome text status before after end =
     ⊎ ((end ≡ WriteFault) × ((n : ℕ) × (n < length text) × Appends before after (take n text)))
 
 -- A run ends so: what it came to has its cause, and its text was written.
-pub record ValidationEnds (words : List (List ℕ)) (files : TextsSeen) (before after : Option (List ℕ)) (end : Status) : Type 0 where
+pub record ValidationEnds (words : List (List ℕ)) (files : TextsSeen) (before after : Option (List ℕ))
+    (end : Status) : Type 0 where
   pub outcome : Outcome
   pub cause : IsOutcome words files outcome
   pub told : TellsOutcome (text_of outcome) (status_of outcome) before after end

@@ -31,7 +31,8 @@ module _ (task : Task) (known : Known) (state : Atoms) where
   abbrev pub flaw_with : Action → List ℕ → Option StepFlaw
   flaw_with a objects =
       if have_types known objects a.params
-      then (if is_true task.domain known state a.condition (slots_of objects) then cost_flaw (cost_of task known a objects)
+      then (if is_true task.domain known state a.condition (slots_of objects) then cost_flaw
+      (cost_of task known a objects)
       else Some (flaw.Condition (false_text task known state a.condition objects)))
       else Some flaw.Sort
 

@@ -1,5 +1,5 @@
 //! The program's call.
-ghost use Rattle.std.specs.Prelude.{◌≡◌, ◌≤◌, ◌⊎◌, List, ℕ, map, string_bytes, IfOk, IfErr};
+ghost use Rattle.std.specs.Prelude.{◌≡◌, ◌≤◌, ◌⊎◌, map, string_bytes, IfOk, IfErr};
 ghost use Rattle.io_world.specs.Faults.{last_count, Rose};
 ghost use Rattle.validate_app.specs.Files.{texts_seen_of};
 ghost use Rattle.validate_app.specs.Held.{held_paths};
@@ -121,7 +121,8 @@ pub fn run<F: Files, O: Sink>(alloc: Global, words: &[String], files: &mut F, ou
     // The run ends with what it came to, which has its cause in the words and the told files, and
     // whose text the sink took, or a part of it where the sink failed.
     ensures ends { ValidationEnds (map string_bytes words.now)
-        (texts_seen_of F.told F.faults files.old files.new) (O.taken out.old) (O.taken out.new) result }
+        (texts_seen_of F.told F.faults files.old files.new) (O.taken out.old) (O.taken out.new)
+        result }
     // A fault of the sink is answered only where its count rose.
     ensures sink { result ≡ WriteFault → Rose last_count (O.faults out.old) (O.faults out.new) }
 {

@@ -5,7 +5,7 @@ ghost use Rattle.validate_app.specs.Files.{texts_seen_of};
 ghost use Rattle.validate_app.specs.Held.{held_paths, held_report};
 ghost use Rattle.validate_app.specs.Inputs.{IsCertain, IsPlainTaskOf, StopsAtText};
 
-use crate::stop::{FileRole, Stop};
+use crate::stop::{FileRole, Stop, boxed};
 use crate::texts::read_file;
 use crate::words::{Paths, ReportPaths};
 use io_world::Files;
@@ -21,12 +21,12 @@ fn read_named_report<F: Files>(
     paths: &Paths<'_>,
     report: &ReportPaths<'_>,
     task: &Task,
-) -> Result<Ledger, Stop>
+) -> Result<Box<Ledger>, Stop>
     requires named { (held_paths paths.now).certified ≡ Some (held_report report.now) }
     requires fit { IsFit task.now }
     requires task { IsPlainTaskOf (F.told files.old) (held_paths paths.now) task.now }
-    ensures known { IfOk result (λ ledger. IsCertain (F.told files.old) (held_paths paths.now) task.now
-        ledger.facts.known) }
+    ensures known { IfOk result (λ ledger. IsCertain (F.told files.old) (held_paths paths.now)
+        task.now ledger.value.facts.known) }
     ensures stop { IfErr result (StopsAtText (texts_seen_of F.told F.faults files.old files.new)
         (held_paths paths.now)) }
     ensures same { F.told files.new ≡ F.told files.old }
@@ -37,7 +37,7 @@ fn read_named_report<F: Files>(
         Err(stop) => return Err(stop),
     };
     match certify(alloc, task, bytes.as_slice()) {
-        Ok(Certified::Legal(ledger)) => Ok(ledger),
+        Ok(Certified::Legal(ledger)) => boxed(alloc, ledger),
         Ok(Certified::Flawed(line, flaw)) => Err(Stop::Flawed { line, flaw }),
         Err(_) => Err(Stop::Memory),
     }
@@ -49,11 +49,11 @@ pub(crate) fn read_report<F: Files>(
     files: &mut F,
     paths: &Paths<'_>,
     task: &Task,
-) -> Result<Ledger, Stop>
+) -> Result<Box<Ledger>, Stop>
     requires fit { IsFit task.now }
     requires task { IsPlainTaskOf (F.told files.old) (held_paths paths.now) task.now }
-    ensures known { IfOk result (λ ledger. IsCertain (F.told files.old) (held_paths paths.now) task.now
-        ledger.facts.known) }
+    ensures known { IfOk result (λ ledger. IsCertain (F.told files.old) (held_paths paths.now)
+        task.now ledger.value.facts.known) }
     ensures stop { IfErr result (StopsAtText (texts_seen_of F.told F.faults files.old files.new)
         (held_paths paths.now)) }
     ensures same { F.told files.new ≡ F.told files.old }
@@ -62,7 +62,7 @@ pub(crate) fn read_report<F: Files>(
     match &paths.certified {
         Some(report) => read_named_report(alloc, files, paths, report, task),
         None => match Ledger::new(alloc, task) {
-            Ok(ledger) => Ok(ledger),
+            Ok(ledger) => boxed(alloc, ledger),
             Err(_) => Err(Stop::Memory),
         },
     }

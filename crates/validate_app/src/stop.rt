@@ -1,13 +1,14 @@
 //! Why a run has no verdict.
-ghost use Rattle.std.specs.Prelude.{◌≡◌};
-ghost use Rattle.task_reader.specs.Refusals.{Refuses};
+ghost use Rattle.std.specs.Prelude.{◌≡◌, IfOk, IfErr};
 ghost use Rattle.validate_app.specs.Files.{most_text_bytes};
 ghost use Rattle.validate_app.specs.Told.{text_role_word};
 ghost use Rattle.validate_app.specs.Inputs.{text_stop};
+ghost use Rattle.validate_app.specs.declared.stop.Stop.TheVariants.{Memory};
 
 use legal_report::ReportFlaw;
 use plan_reader::PLAN_BYTES;
 use report_reader::REPORT_BYTES;
+use std::alloc::Global;
 use task_reader::{FaultKind, InputRefusal, TEXT_BYTES};
 
 /// What a file is read for.
@@ -73,6 +74,17 @@ pub(crate) enum Stop {
     TooLong(FileRole),
     /// Memory is wanting.
     Memory,
+}
+
+/// The value in a box, which is dropped by one call.
+pub(crate) fn boxed<T: Drop>(alloc: Global, content: T) -> Result<Box<T>, Stop>
+    ensures content { IfOk result (λ b. b.value ≡ content) }
+    ensures stop { IfErr result (λ stop. stop ≡ Memory) }
+{
+    match Box::new(alloc, content) {
+        Ok(held) => Ok(held),
+        Err(_) => Err(Stop::Memory),
+    }
 }
 
 /// Why the run stops whose text is refused so.

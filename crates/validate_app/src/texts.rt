@@ -8,7 +8,7 @@ ghost use Rattle.validate_app.specs.Held.{held_paths, held_report};
 ghost use Rattle.validate_app.specs.Inputs.{AreAcceptedBefore, AreStreamsByWords, HasProblem, IsDomainOf, IsPlanOf, IsProblemOf, IsPlainTaskOf, StopsAtText};
 ghost use Rattle.validate_app.specs.declared.stop.FileRole.TheVariants.{Plan};
 
-use crate::stop::{FileRole, Stop, stop_of};
+use crate::stop::{FileRole, Stop, boxed, stop_of};
 use crate::words::{Paths, ReportPaths};
 use io_world::{FileFault, Files};
 use plan_reader::{claimed_cost, plan_in};
@@ -23,8 +23,10 @@ pub(crate) fn read_file<F: Files>(
     role: FileRole,
     path: &str,
 ) -> Result<Vec<u8>, Stop>
-    ensures bytes { IfOk result (λ bytes. HasTextBytes (F.told files.old) role path.now bytes.items) }
-    ensures stop { IfErr result (EndsAt (texts_seen_of F.told F.faults files.old files.new) role path.now) }
+    ensures bytes { IfOk result (λ bytes. HasTextBytes (F.told files.old) role path.now
+        bytes.items) }
+    ensures stop { IfErr result (EndsAt (texts_seen_of F.told F.faults files.old files.new) role
+        path.now) }
     ensures same { F.told files.new ≡ F.told files.old }
     ensures later { F.faults files.old ≤ F.faults files.new }
 {
@@ -37,9 +39,14 @@ pub(crate) fn read_file<F: Files>(
 }
 
 /// Reads the domain.
-fn read_domain<F: Files>(alloc: Global, files: &mut F, paths: &Paths<'_>) -> Result<Domain, Stop>
-    ensures domain { IfOk result (IsDomainOf (F.told files.old) (held_paths paths.now)) }
-    ensures fit { IfOk result (λ domain. IsFitDomain domain) }
+fn read_domain<F: Files>(
+    alloc: Global,
+    files: &mut F,
+    paths: &Paths<'_>,
+) -> Result<Box<Domain>, Stop>
+    ensures domain { IfOk result (λ domain. IsDomainOf (F.told files.old) (held_paths paths.now)
+        domain.value) }
+    ensures fit { IfOk result (λ domain. IsFitDomain domain.value) }
     ensures stop { IfErr result (StopsAtText (texts_seen_of F.told F.faults files.old files.new)
         (held_paths paths.now)) }
     ensures same { F.told files.new ≡ F.told files.old }
@@ -50,7 +57,7 @@ fn read_domain<F: Files>(alloc: Global, files: &mut F, paths: &Paths<'_>) -> Res
         Err(stop) => return Err(stop),
     };
     match domain_in(alloc, bytes.as_slice()) {
-        Ok(domain) => Ok(domain),
+        Ok(domain) => boxed(alloc, domain),
         Err(refusal) => Err(stop_of(FileRole::Domain, refusal)),
     }
 }
@@ -61,10 +68,11 @@ fn read_problem<F: Files>(
     files: &mut F,
     paths: &Paths<'_>,
     domain: &Domain,
-) -> Result<Problem, Stop>
+) -> Result<Box<Problem>, Stop>
     requires domain { IsDomainOf (F.told files.old) (held_paths paths.now) domain.now }
-    ensures problem { IfOk result (IsProblemOf (F.told files.old) (held_paths paths.now) domain.now) }
-    ensures fit { IfOk result (IsFitOver domain.now) }
+    ensures problem { IfOk result (λ problem. IsProblemOf (F.told files.old) (held_paths paths.now)
+        domain.now problem.value) }
+    ensures fit { IfOk result (λ problem. IsFitOver domain.now problem.value) }
     ensures stop { IfErr result (StopsAtText (texts_seen_of F.told F.faults files.old files.new)
         (held_paths paths.now)) }
     ensures same { F.told files.new ≡ F.told files.old }
@@ -75,7 +83,7 @@ fn read_problem<F: Files>(
         Err(stop) => return Err(stop),
     };
     match problem_in(alloc, bytes.as_slice(), domain) {
-        Ok(problem) => Ok(problem),
+        Ok(problem) => boxed(alloc, problem),
         Err(refusal) => Err(stop_of(FileRole::Problem, refusal)),
     }
 }
@@ -98,7 +106,8 @@ fn read_named_streams<F: Files>(
     requires named { (held_paths paths.now).certified ≡ Some (held_report report.now) }
     requires domain { IsDomainOf (F.told files.old) (held_paths paths.now) domain.now }
     requires problem { HasProblem (F.told files.old) (held_paths paths.now) domain.now }
-    ensures streams { IfOk result (AreStreamsByWords (F.told files.old) (held_paths paths.now) domain.now) }
+    ensures streams { IfOk result (AreStreamsByWords (F.told files.old) (held_paths paths.now)
+        domain.now) }
     ensures fit { IfOk result (AreFitOver domain.now) }
     ensures stop { IfErr result (StopsAtText (texts_seen_of F.told F.faults files.old files.new)
         (held_paths paths.now)) }
@@ -124,7 +133,8 @@ fn read_streams<F: Files>(
 ) -> Result<Seq<Stream>, Stop>
     requires domain { IsDomainOf (F.told files.old) (held_paths paths.now) domain.now }
     requires problem { HasProblem (F.told files.old) (held_paths paths.now) domain.now }
-    ensures streams { IfOk result (AreStreamsByWords (F.told files.old) (held_paths paths.now) domain.now) }
+    ensures streams { IfOk result (AreStreamsByWords (F.told files.old) (held_paths paths.now)
+        domain.now) }
     ensures fit { IfOk result (AreFitOver domain.now) }
     ensures stop { IfErr result (StopsAtText (texts_seen_of F.told F.faults files.old files.new)
         (held_paths paths.now)) }
@@ -142,9 +152,10 @@ pub(crate) fn read_task<F: Files>(
     alloc: Global,
     files: &mut F,
     paths: &Paths<'_>,
-) -> Result<Task, Stop>
-    ensures task { IfOk result (IsPlainTaskOf (F.told files.old) (held_paths paths.now)) }
-    ensures fit { IfOk result (λ task. IsFit task) }
+) -> Result<Box<Task>, Stop>
+    ensures task { IfOk result (λ task. IsPlainTaskOf (F.told files.old) (held_paths paths.now)
+        task.value) }
+    ensures fit { IfOk result (λ task. IsFit task.value) }
     ensures stop { IfErr result (StopsAtText (texts_seen_of F.told F.faults files.old files.new)
         (held_paths paths.now)) }
     ensures same { F.told files.new ≡ F.told files.old }
@@ -159,11 +170,18 @@ pub(crate) fn read_task<F: Files>(
         Err(stop) => return Err(stop),
     };
     match read_streams(alloc, files, paths, &domain) {
-        Ok(streams) => Ok(Task {
-            domain,
-            problem,
-            streams,
-        }),
+        Ok(streams) => {
+            let domain = Box::into_inner(domain);
+            let problem = Box::into_inner(problem);
+            boxed(
+                alloc,
+                Task {
+                    domain,
+                    problem,
+                    streams,
+                },
+            )
+        }
         Err(stop) => Err(stop),
     }
 }

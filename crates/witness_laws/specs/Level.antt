@@ -1,5 +1,6 @@
 -- A run of the first worked task: one level, in which the cup is asked for, and then a plan of two steps.
 use Rattle.std.specs.Prelude.{ℕ, List, [], ◌∷◌, codes}
+use Rattle.command_line.specs.declared.number.TheConstants.{DEFAULT_CALLS, DEFAULT_DEPTH, DEFAULT_STATES}
 use Rattle.task_model.specs.Plans.{IsSolvable}
 use Rattle.transcript_model.specs.Legal.{HasNoneOpen, IsLegal}
 use Rattle.transcript_model.specs.Outcomes.{IsTruePlan}
@@ -22,9 +23,9 @@ abbrev pub cup_limits : Limits
 cup_limits = record {
   version = 1;
   mode = Incremental;
-  calls = 10000;
-  states = 100000;
-  depth = 3;
+  calls = DEFAULT_CALLS;
+  states = DEFAULT_STATES;
+  depth = DEFAULT_DEPTH;
   pools = record { workers = 1; streams = 0 ∷ [] } ∷ [];
 }
 

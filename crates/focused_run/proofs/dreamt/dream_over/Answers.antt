@@ -1,4 +1,5 @@
 use Rattle.std.proofs.Common.{◌==◌, ◌∙◌, ap, length, sym, subst, refl}
+use Rattle.std.proofs.lemmas.Bool.{false≢true}
 use Rattle.dreaming.proofs.DreamlessLemmas.{surely_none}
 use Rattle.dreaming.specs.Answers.{IsDreamed, IsKnownPlan, IsSureNone}
 use Rattle.round_run.proofs.BatchLemmas.{empty_of, filled_of}
@@ -16,6 +17,9 @@ pub known_plan-requires-clause-valid : goal.known_plan-requires-clause-valid
 known_plan-requires-clause-valid c =
     (subst (IsKnownPlan c.args.task.now c.args.session.now.entries) c.in-Dream.is c.in_ok-dreamt.ensures.known
     (empty_of c.in-Dream.uses (ap (λ us. length us == 0) (sym c.as_slice.ensures) ∙ sym c.is_empty.ensures ∙ c.if-is_empty.true))).1
+
+pub known_plan-requires-clause-least : goal.known_plan-requires-clause-least
+known_plan-requires-clause-least c = λ asked. absurd (false≢true (sym c.requires.any ∙ asked))
 
 pub returns-else-is_empty : goal.returns-else-is_empty
 returns-else-is_empty c =

@@ -1,7 +1,9 @@
+use Rattle.std.proofs.Common.{◌≡◌, false, subst, sym}
 use Rattle.std.specs.Result.{IfOk}
 use Rattle.focused_run.specs.NextDreams.{IsNextDream}
 use Rattle.level_run.specs.Deciding.{MayDecide}
 use Rattle.round_run.proofs.GoingLemmas.{of_parts, to_parts}
+use Rattle.transcript_model.specs.declared.head.Head.{Head}
 use Rattle.focused_run.proofs.dreamt.next_dream.Goals as goal
 
 pub dream_over-requires : goal.dream_over-requires
@@ -18,6 +20,7 @@ dream_over-requires c =
             learnt = m.learnt;
             within = m.within;
           });
+      any = subst (λ (h : Head). h.optimal ≡ false) (sym c.head.ensures.is) c.requires.any;
     }
 
 pub returns : goal.returns

@@ -1,7 +1,5 @@
 use Rattle.std.proofs.Common.{arith}
-use Rattle.std.proofs.lemmas.Result.{IfOk-weaker}
 use Rattle.legal_report.proofs.LinesLemmas.{report_short}
-use Rattle.legal_report.proofs.ReportsLemmas.{certified_text}
 use Rattle.legal_report.proofs.report.certify.Goals as goal
 
 pub certify_report-requires-clause-lines : goal.certify_report-requires-clause-lines

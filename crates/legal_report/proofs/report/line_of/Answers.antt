@@ -1,4 +1,4 @@
-use Rattle.std.proofs.Common.{◌≡◌, ◌≤◌, ◌∙◌, List, ap, arith, length, take}
+use Rattle.std.proofs.Common.{List, ap, arith, length}
 use Rattle.std.specs.List.{flat_map}
 use Rattle.report_text.specs.Texts.{entry_lines}
 use Rattle.transcript_model.specs.declared.entry.Entry.{Entry}

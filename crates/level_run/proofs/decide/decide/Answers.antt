@@ -1,7 +1,7 @@
-use Rattle.std.proofs.Common.{length}
+use Rattle.std.proofs.Common.{length, subst, sym}
 use Rattle.std.specs.Result.{IfOk}
 use Rattle.round_run.proofs.GoingLemmas.{of_parts, to_parts}
-use Rattle.level_run.specs.Deciding.{MayDecide}
+use Rattle.level_run.specs.Deciding.{MayDecide, SeeksPlan}
 use Rattle.level_run.specs.Turns.{IsDecided}
 use Rattle.level_run.proofs.decide.decide.Goals as goal
 
@@ -19,6 +19,7 @@ choose-requires g c =
             learnt = m.learnt;
             within = m.within;
           });
+      seeks = subst (SeeksPlan g.S.PlanSearch.cheapest) (sym c.head.ensures.is) c.requires.seeks;
     }
 
 pub returns-clause-decided : goal.returns-clause-decided

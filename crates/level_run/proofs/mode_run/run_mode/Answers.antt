@@ -1,5 +1,6 @@
-use Rattle.std.proofs.Common.{◌≡◌, ◌∙◌, subst, sym}
+use Rattle.std.proofs.Common.{◌∙◌, subst, sym}
 use Rattle.level_run.proofs.ReportingLemmas.{ends_memory, ends_stopped}
+use Rattle.level_run.specs.Deciding.{IsHeadFor}
 use Rattle.session_core.specs.Session.{IsNew, IsOf}
 use Rattle.task_model.specs.Fit.{IsFit}
 use Rattle.task_model.specs.declared.task.Task.{Task}
@@ -19,7 +20,10 @@ report-result-requires g c =
     let idle = c.requires.may.idle in
     record {
       fit = subst IsFit (sym clean.task) c.requires.may.fit;
-      mode = subst (λ (h : Head). h.mode ≡ g.M.Turns.mode) (sym clean.head) c.requires.may.is;
+      mode = subst (IsHeadFor g.M.Turns.mode g.M.PlanSearch.cheapest) (sym clean.head) (record {
+        is = c.requires.may.is;
+        seeks = record { is = c.requires.seeks; alone = λ asked. c.requires.may.is ∙ c.requires.may.alone asked };
+      });
       fresh = c.requires.fresh;
       still = record {
         new = subst (λ (t : Task). IsNew t desk.state) (sym clean.task) clean.new;

@@ -33,5 +33,5 @@ returns c =
     (subst (λ ss. ShowsPlan head.version task c.entries.result.now ss c.args.cost o) c.as_slice-steps.ensures shows))
     (valid_there task s c.requires.may.working c.requires.may.learnt c.requires.may.session known c.facts-facts.ensures
     c.args.plan.now.steps
-    c.args.cost c.requires.valid) c.requires.few small)
+    c.args.cost c.requires.valid) c.requires.few c.requires.least small)
     c.plan_outcome.ensures

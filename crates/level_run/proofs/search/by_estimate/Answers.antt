@@ -1,3 +1,4 @@
+use Rattle.std.proofs.Common.{◌≡◌, false, true}
 use Rattle.level_run.proofs.search.by_estimate.Goals as goal
 
 pub returns-then-branch : goal.returns-then-branch
@@ -7,6 +8,7 @@ pub returns : goal.returns
 returns c = record {
   found = record {
     plan = c.in_ok-found.ensures.plan;
+    least = λ asked. let no : false ≡ true = asked in absurd (cc);
     nothing = c.in_ok-found.ensures.nothing;
     past = c.in_ok-found.ensures.limit;
   };

@@ -14,6 +14,7 @@ use Rattle.level_run.proofs.TurnsLemmas.{Standing, run_at, run_cut, standing_fir
 use Rattle.level_run.proofs.TurnsLevelLemmas.{may_begin}
 use Rattle.level_run.proofs.TurnsOutcomeLemmas.{decided_dues, decided_outcome}
 use Rattle.level_run.specs.Advancing.{HasTurned, RanTurn}
+use Rattle.level_run.specs.Deciding.{IsHeadFor, SeeksPlan}
 use Rattle.level_run.specs.Turns.{IsFrontOfRun, IsSettledEnd, IsTurn}
 use Rattle.transcript_model.specs.declared.head.Head.{Head}
 use Rattle.level_run.proofs.turn_loop.run_turns.Goals as goal
@@ -65,7 +66,12 @@ decide-requires g c =
         learnt = rests.works.learnt;
         within = subst (λ (h : Head). length c.turns.desk.state.asked ≤ h.calls) (sym i.goes.same.head) i.within;
       };
+      seeks = subst (SeeksPlan g.M.PlanSearch.cheapest) (sym i.goes.same.head) c.requires.mode.seeks;
     }
+
+pub turn-requires-clause-mode : goal.turn-requires-clause-mode
+turn-requires-clause-mode g c =
+    subst (IsHeadFor g.M.Turns.mode g.M.PlanSearch.cheapest) (sym c.turns.invariant.goes.same.head) c.requires.mode
 
 pub turn-requires-clause-turn : goal.turn-requires-clause-turn
 turn-requires-clause-turn g c =

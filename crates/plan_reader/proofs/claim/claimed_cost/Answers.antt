@@ -12,7 +12,8 @@ pub lines-preserved : goal.lines-preserved
 lines-preserved c =
     subst (λ left. claimed_cost c.args.text.now ≡ first_claim (lines_left left)) c.in-Some.is c.lines.invariant
     ∙ claims_left c.in-Some.rest.now c.cut_line.result.line.now c.cut_line.result.rest c.cut_line.ensures
-    ∙ ap (λ o. option_or o (first_claim (lines_left c.cut_line.result.rest))) (sym c.claim_of.ensures ∙ c.in_default-claim_of.is)
+    ∙ ap (λ o. option_or o (first_claim (lines_left c.cut_line.result.rest)))
+    (sym c.claim_of.ensures ∙ c.in_default-claim_of.is)
 
 pub lines-smaller : goal.lines-smaller
 lines-smaller c =
@@ -24,7 +25,8 @@ pub returns-in-Some-claim_of : goal.returns-in-Some-claim_of
 returns-in-Some-claim_of c =
     sym (subst (λ left. claimed_cost c.args.text.now ≡ first_claim (lines_left left)) c.in-Some.is c.lines.invariant
     ∙ claims_left c.in-Some.rest.now c.cut_line.result.line.now c.cut_line.result.rest c.cut_line.ensures
-    ∙ ap (λ o. option_or o (first_claim (lines_left c.cut_line.result.rest))) (sym c.claim_of.ensures ∙ c.in-Some-claim_of.is))
+    ∙ ap (λ o. option_or o (first_claim (lines_left c.cut_line.result.rest)))
+    (sym c.claim_of.ensures ∙ c.in-Some-claim_of.is))
 
 pub returns : goal.returns
 returns c =

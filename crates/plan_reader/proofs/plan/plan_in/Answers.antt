@@ -1,4 +1,4 @@
-use Rattle.std.proofs.Common.{◌≡◌, ◌+◌, ◌≤◌, length, sym, subst, arith, Some}
+use Rattle.std.proofs.Common.{◌≡◌, ◌+◌, ◌≤◌, length, sym, subst, arith}
 use Rattle.task_reader.specs.Refusals.{Refuses}
 use Rattle.plan_reader.proofs.PlansLemmas.{IsLeft, all_left, few_lines, line_read, lines_left, rest_left, rest_shorter, steps_left, text_refused}
 use Rattle.plan_reader.specs.Lines.{text_lines}
@@ -18,13 +18,16 @@ lines-preserved c =
     let calls = c.lines.calls.items in
     let within = subst (IsLeft total) c.in-Some.is c.lines.invariant.within in
     let read =
-    subst (λ left. plan_of c.args.text.now ≡ behind_calls calls (steps_left total left)) c.in-Some.is c.lines.invariant.read in
+    subst (λ left. plan_of c.args.text.now ≡ behind_calls calls (steps_left total left)) c.in-Some.is
+    c.lines.invariant.read in
     let few =
-    subst (λ left. length calls + length (lines_left left) ≤ length (text_lines c.args.text.now)) c.in-Some.is c.lines.invariant.few in
+    subst (λ left. length calls + length (lines_left left) ≤ length (text_lines c.args.text.now)) c.in-Some.is
+    c.lines.invariant.few in
     let shorter =
     rest_shorter c.in-Some.rest.now c.cut_line.result.line.now c.cut_line.result.rest c.cut_line.ensures in
     record {
-      within = rest_left total c.in-Some.rest.now c.cut_line.result.line.now c.cut_line.result.rest within c.cut_line.ensures;
+      within = rest_left total c.in-Some.rest.now c.cut_line.result.line.now c.cut_line.result.rest within
+          c.cut_line.ensures;
       read = line_read total (plan_of c.args.text.now) calls c.in-Some.rest c.cut_line.result.line.now
           c.cut_line.result.rest within c.cut_line.ensures read _ c.in-Ok.ensures.added;
       few = omega (arith, few, shorter, c.add_said.ensures.few);

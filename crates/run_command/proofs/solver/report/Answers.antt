@@ -1,7 +1,7 @@
 use Rattle.std.proofs.Common.{◌∙◌, inl, inr, refl}
 use Rattle.round_run.proofs.CallsRunLemmas.{stops_none}
 use Rattle.round_run.proofs.StoppedLemmas.{handed}
-use Rattle.run_command.proofs.HeadsLemmas.{head_runs}
+use Rattle.run_command.proofs.HeadsLemmas.{head_alone, head_runs}
 use Rattle.command_files.proofs.InputsLemmas.{later_on}
 use Rattle.run_command.proofs.CausesLemmas.{no_cause}
 use Rattle.round_run.specs.declared.fault.RunFault.TheVariants as fault
@@ -62,6 +62,8 @@ run_in_mode-requires g c =
         runnable = head_runs c.in_ok-task.task (g.F.Files.told c.args.files.now) (held_solve c.args.words.now) c.head_of-head.result
             (c.head_of-head.ensures _ _ served) c.requires.within;
         is = refl;
+        alone = head_alone c.in_ok-task.task (g.F.Files.told c.args.files.now) (held_solve c.args.words.now) c.head_of-head.result
+            (c.head_of-head.ensures _ _ served) c.requires.within;
         idle = c.requires.idle;
       };
     }

@@ -7,4 +7,5 @@ changes_of-requires-clause-adds g c =
 
 pub changes_of-requires-clause-deletes : goal.changes_of-requires-clause-deletes
 changes_of-requires-clause-deletes g c =
-    (readable_action c.args.task.now.domain c.requires.domain c.in_ok-action.action.now c.in_ok-action.ensures.fit).deletes
+    (readable_action c.args.task.now.domain c.requires.domain c.in_ok-action.action.now
+    c.in_ok-action.ensures.fit).deletes

@@ -16,16 +16,20 @@ decreases-truth g l = 2 * weight l.formula.now
 -- what is left to see decides
 abbrev pub invariant-all_true-loop-part : goal.invariant-all_true-loop-part
 invariant-all_true-loop-part g l =
-    (all_at l.scene.task.now.domain (g.L.Look.known l.scene.look.now) l.scene.state.now (length l.scene.task.now.domain.derived)
+    (all_at l.scene.task.now.domain (g.L.Look.known l.scene.look.now) l.scene.state.now
+    (length l.scene.task.now.domain.derived)
     (parts_of (drop l.part-index l.parts)) l.initial.env
-    ≡ all_at l.scene.task.now.domain (g.L.Look.known l.scene.look.now) l.scene.state.now (length l.scene.task.now.domain.derived)
+    ≡ all_at l.scene.task.now.domain (g.L.Look.known l.scene.look.now) l.scene.state.now
+    (length l.scene.task.now.domain.derived)
     (parts_of l.parts) l.initial.env)
     × (l.env ≡ l.initial.env)
 
 abbrev pub invariant-any_true-loop-part : goal.invariant-any_true-loop-part
 invariant-any_true-loop-part g l =
-    (any_at l.scene.task.now.domain (g.L.Look.known l.scene.look.now) l.scene.state.now (length l.scene.task.now.domain.derived)
+    (any_at l.scene.task.now.domain (g.L.Look.known l.scene.look.now) l.scene.state.now
+    (length l.scene.task.now.domain.derived)
     (parts_of (drop l.part-index l.parts)) l.initial.env
-    ≡ any_at l.scene.task.now.domain (g.L.Look.known l.scene.look.now) l.scene.state.now (length l.scene.task.now.domain.derived)
+    ≡ any_at l.scene.task.now.domain (g.L.Look.known l.scene.look.now) l.scene.state.now
+    (length l.scene.task.now.domain.derived)
     (parts_of l.parts) l.initial.env)
     × (l.env ≡ l.initial.env)

@@ -17,7 +17,8 @@ returns-in-Static g c =
     sym (role_kept domain c.requires.fit.domain c.args.pred role.Static c.requires.predicate)
     ∙ sym (ap (λ rs. get_or rs c.args.pred role.Static) c.as_slice.ensures) ∙ c.in-Static.is in
     c.has.ensures
-    ∙ sym (static_at domain (g.L.Look.known c.args.scene.now.look.now) c.args.scene.now.state.now c.args.pred c.args.args
+    ∙ sym (static_at domain (g.L.Look.known c.args.scene.now.look.now) c.args.scene.now.state.now c.args.pred
+    c.args.args
     (length domain.derived) is)
 
 pub returns-in-Fluent : goal.returns-in-Fluent
@@ -27,5 +28,6 @@ returns-in-Fluent g c =
     sym (role_kept domain c.requires.fit.domain c.args.pred role.Static c.requires.predicate)
     ∙ sym (ap (λ rs. get_or rs c.args.pred role.Static) c.as_slice.ensures) ∙ c.in-Fluent.is in
     c.has-in-Fluent.ensures
-    ∙ sym (fluent_at domain (g.L.Look.known c.args.scene.now.look.now) c.args.scene.now.state.now c.args.pred c.args.args
+    ∙ sym (fluent_at domain (g.L.Look.known c.args.scene.now.look.now) c.args.scene.now.state.now c.args.pred
+    c.args.args
     (length domain.derived) is)

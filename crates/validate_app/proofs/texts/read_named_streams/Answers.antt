@@ -8,7 +8,8 @@ use Rattle.validate_app.proofs.texts.read_named_streams.Goals as goal
 pub returns-in-Err-clause-stop : goal.returns-in-Err-clause-stop
 returns-in-Err-clause-stop g c =
     stops_there _ _ Streams (c.args.domain.now, c.requires.domain, c.requires.problem) _
-    (streams_named (g.F.Files.told c.args.files.now) (held_paths c.args.paths.now) (held_report c.args.report.now) c.requires.named) c.in-Err.stop c.in-Err.ensures.stop
+    (streams_named (g.F.Files.told c.args.files.now) (held_paths c.args.paths.now)
+    (held_report c.args.report.now) c.requires.named) c.in-Err.stop c.in-Err.ensures.stop
 
 pub returns-clause-stop : goal.returns-clause-stop
 returns-clause-stop g c =
@@ -18,7 +19,8 @@ returns-clause-stop g c =
 
 pub returns-in-Ok-streams_in-clause-streams : goal.returns-in-Ok-streams_in-clause-streams
 returns-in-Ok-streams_in-clause-streams g c =
-    streams_there _ _ _ c.requires.named c.args.domain.now c.in-Ok.bytes.items c.in-Ok.ensures.bytes c.as_slice.result.now
+    streams_there _ _ _ c.requires.named c.args.domain.now c.in-Ok.bytes.items c.in-Ok.ensures.bytes
+    c.as_slice.result.now
     c.as_slice.ensures.value c.in-Ok-streams_in.streams c.in-Ok-streams_in.ensures.read
 
 pub returns-in-Ok-streams_in-clause-fit : goal.returns-in-Ok-streams_in-clause-fit

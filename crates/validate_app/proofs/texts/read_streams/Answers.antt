@@ -1,4 +1,4 @@
-use Rattle.std.proofs.Common.{ap, ◌∙◌, option_map}
+use Rattle.std.proofs.Common.{ap, option_map}
 use Rattle.validate_app.proofs.InputsLemmas.{no_streams, no_streams_named}
 use Rattle.validate_app.specs.Held.{held_report}
 use Rattle.validate_app.proofs.texts.read_streams.Goals as goal

@@ -1,4 +1,4 @@
-use Rattle.std.proofs.Common.{◌∙◌, ap, sym, Some}
+use Rattle.std.proofs.Common.{◌∙◌, ap, sym}
 use Rattle.std.proofs.lemmas.Result.{err_from_is_err_and}
 use Rattle.clap.specs.Words.{is_simple_and_free}
 use Rattle.validate_app.proofs.WordsLemmas.{read_refused, read_taken, validate_simple}
@@ -11,7 +11,8 @@ matches_of_words-requires c = ap is_simple_and_free c.in_ok-command.ensures ∙ 
 pub returns-in_err-matches-clause-usage : goal.returns-in_err-matches-clause-usage
 returns-in_err-matches-clause-usage c =
     let p = err_from_is_err_and c.from_residual-in_err-matches.result c.from_residual-in_err-matches.ensures.1 in
-    rw (p.1, p.2) (λ why. read_refused validate_app _ validate_paths _ c.in_ok-command.ensures (c.in_err-matches.ensures.usage why))
+    rw (p.1, p.2) (λ why. read_refused validate_app _ validate_paths _ c.in_ok-command.ensures
+    (c.in_err-matches.ensures.usage why))
 
 pub returns-clause-usage : goal.returns-clause-usage
 returns-clause-usage c = λ why.

@@ -11,5 +11,6 @@ returns c = IfOk-weaker c.arg-5.result _ _ (λ r h. h.shape c.optional-2.ensures
     ∙ ap₂ with_rule (c.in_ok-arg-3.ensures.shape c.positional-3.ensures.local
     ∙ ap₂ with_rule (c.in_ok-arg-2.ensures.shape c.positional-2.ensures.local
     ∙ ap₂ with_rule (c.in_ok-arg.ensures.shape c.positional.ensures.local
-    ∙ ap₂ with_rule c.new.ensures.app c.positional.ensures.rule) c.positional-2.ensures.rule) c.positional-3.ensures.rule)
+    ∙ ap₂ with_rule c.new.ensures.app c.positional.ensures.rule) c.positional-2.ensures.rule)
+    c.positional-3.ensures.rule)
     c.optional.ensures.rule) c.optional-2.ensures.rule) c.arg-5.ensures

@@ -20,6 +20,7 @@ next_dream-requires g c =
         learnt = works.learnt;
         within = omega (arith, c.requires.turn.left);
       };
+      any = c.requires.mode.seeks.is;
     }
 
 pub returns-in_err-dreamt : goal.returns-in_err-dreamt
@@ -52,7 +53,7 @@ returns-in-Known g c =
     }
 
 pub with_new-requires-clause-keeps : goal.with_new-requires-clause-keeps
-with_new-requires-clause-keeps g c = record { mode = c.requires.mode; kept = c.requires.fits.holds }
+with_new-requires-clause-keeps g c = record { mode = c.requires.mode.is; kept = c.requires.fits.holds }
 
 pub with_new-requires-clause-dream : goal.with_new-requires-clause-dream
 with_new-requires-clause-dream g c =
@@ -60,7 +61,7 @@ with_new-requires-clause-dream g c =
     subst (IsNextDream desk.head desk.task desk.state.entries c.args.self.now.tried) c.in-Lined.is c.in_ok-dreamt.ensures
 
 pub without_new-requires-clause-keeps : goal.without_new-requires-clause-keeps
-without_new-requires-clause-keeps g c = record { mode = c.requires.mode; kept = c.requires.fits.holds }
+without_new-requires-clause-keeps g c = record { mode = c.requires.mode.is; kept = c.requires.fits.holds }
 
 pub without_new-requires-clause-none : goal.without_new-requires-clause-none
 without_new-requires-clause-none g c =

@@ -20,6 +20,7 @@ next_dream-requires g c =
         learnt = works.learnt;
         within = omega (arith, c.requires.turn.left);
       };
+      any = c.requires.mode.seeks.is;
     }
 
 pub returns-in_err-dreamt : goal.returns-in_err-dreamt
@@ -51,6 +52,9 @@ returns-in-Known g c =
           });
     }
 
+pub ask-requires-clause-mode : goal.ask-requires-clause-mode
+ask-requires-clause-mode g c = c.requires.mode.is
+
 pub ask-requires-clause-dream : goal.ask-requires-clause-dream
 ask-requires-clause-dream g c =
     let desk = c.args.desk.now in
@@ -66,7 +70,7 @@ returns-in-Empty g c =
     let old = c.args.desk.now in
     let new = c.without_dream.new.desk in
     let tried = c.args.self.now.tried in
-    let may = subst (λ m. MayFallBack m []) (sym c.requires.mode) g.met.B.DreamBatches.falls_back in
+    let may = subst (λ m. MayFallBack m []) (sym c.requires.mode.is) g.met.B.DreamBatches.falls_back in
     record {
       goes = turn_as old new _ (RanDreamless old.task old.head tried c.without_dream.new.tried old.state new.state)
           (RanFocused old.task old.head tried c.without_dream.new.tried old.state new.state)

@@ -3,9 +3,7 @@ use Rattle.legal_report.specs.Walks.{StandsAtEntry}
 use Rattle.legal_report.proofs.walk.Walk.walk.Goals as goal
 
 pub loop-place-init : goal.loop-place-init
-loop-place-init c =
-    let counted = (c.in_ok-ledger.ensures 1).counted in
-    record { ledger = c.in_ok-ledger.ensures c.args.self.now.version; few = omega (arith, counted) }
+loop-place-init c = c.requires.stands
 
 pub returns : goal.returns
 returns c =

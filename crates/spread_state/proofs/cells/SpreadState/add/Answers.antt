@@ -1,6 +1,5 @@
-use Rattle.std.proofs.Common.{◌≡◌, ◌∙◌, ap, slice_set}
+use Rattle.std.proofs.Common.{◌∙◌, ap}
 use Rattle.spread_state.proofs.CellsLemmas.{added_at}
-use Rattle.spread_state.specs.Cells.{IsSpread, cell_atoms}
 use Rattle.task_model.specs.State.{insert}
 use Rattle.spread_state.proofs.cells.SpreadState.add.Goals as goal
 

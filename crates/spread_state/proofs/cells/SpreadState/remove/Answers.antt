@@ -1,4 +1,4 @@
-use Rattle.std.proofs.Common.{◌≡◌, ◌∙◌, ap}
+use Rattle.std.proofs.Common.{◌∙◌, ap}
 use Rattle.spread_state.proofs.CellsLemmas.{removed_at}
 use Rattle.task_model.specs.State.{remove}
 use Rattle.spread_state.proofs.cells.SpreadState.remove.Goals as goal

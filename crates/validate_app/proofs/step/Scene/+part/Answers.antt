@@ -1,4 +1,4 @@
-use Rattle.std.proofs.Common.{◌≡◌, ◌+◌, true, false, sym, ap, ◌∙◌, arith, rules}
+use Rattle.std.proofs.Common.{◌≡◌, true, false, sym, ap, ◌∙◌, arith}
 use Rattle.std.proofs.lemmas.List.{drop_all}
 use Rattle.fit_check.proofs.ConditionPartLemmas.{part_smaller}
 use Rattle.formula_eval.proofs.ConditionPartLemmas.{readable_part}
@@ -10,14 +10,17 @@ use Rattle.validate_app.proofs.step.Scene.+part.Goals as goal
 
 pub false_among-holds_with-requires-clause-readable : goal.false_among-holds_with-requires-clause-readable
 false_among-holds_with-requires-clause-readable t c =
-    readable_part c.args.self.now.task.now.domain c.args.parts.now c.loop-part.part-index c.part-item.result c.requires.readable
+    readable_part c.args.self.now.task.now.domain c.args.parts.now c.loop-part.part-index c.part-item.result
+    c.requires.readable
     c.loop-part-test.true c.part-item.is
 
 pub false_among-false_part-requires : goal.false_among-false_part-requires
 false_among-false_part-requires t c =
-    let smaller = part_smaller c.args.parts.now c.loop-part.part-index c.part-item.result c.loop-part-test.true c.part-item.is in
+    let smaller = part_smaller c.args.parts.now c.loop-part.part-index c.part-item.result c.loop-part-test.true
+    c.part-item.is in
     let readable =
-    readable_part c.args.self.now.task.now.domain c.args.parts.now c.loop-part.part-index c.part-item.result c.requires.readable
+    readable_part c.args.self.now.task.now.domain c.args.parts.now c.loop-part.part-index c.part-item.result
+    c.requires.readable
     c.loop-part-test.true c.part-item.is in
     (omega (arith, c.decreases), (c.requires.fit, (readable, c.holds_with.ensures.stands)))
 
@@ -32,7 +35,8 @@ false_among-loop-part-preserved t c =
     ∙ c.if-not-holds_with.false in
     record {
       left =
-          true_part (holds_with task known state c.args.env.now) c.args.whole.now c.args.parts.now c.loop-part.part-index part
+          true_part (holds_with task known state c.args.env.now) c.args.whole.now c.args.parts.now
+          c.loop-part.part-index part
           c.loop-part-test.true c.part-item.is passes
           ∙ c.loop-part.invariant.left;
       same = c.holds_with.ensures.same ∙ c.loop-part.invariant.same;
@@ -50,7 +54,8 @@ false_among-returns-then-not-holds_with t c =
     ∙ c.if-not-holds_with.true in
     c.false_part.ensures
     ∙ ap (λ e. false_part (holds_with task known state e) part) (c.holds_with.ensures.same ∙ c.loop-part.invariant.same)
-    ∙ sym (first_false (holds_with task known state c.args.env.now) c.args.whole.now c.args.parts.now c.loop-part.part-index part
+    ∙ sym (first_false (holds_with task known state c.args.env.now) c.args.whole.now c.args.parts.now
+    c.loop-part.part-index part
     c.loop-part-test.true c.part-item.is fails)
     ∙ c.loop-part.invariant.left
 

@@ -15,7 +15,8 @@ abbrev pub invariant-false_among-loop-part : goal.invariant-false_among-loop-par
 invariant-false_among-loop-part l = record {
   left : false_among (holds_with l.self.task.now l.self.facts.now.known l.state l.initial.env)
       (parts_of (drop l.part-index l.parts)) l.whole
-      ≡ false_among (holds_with l.self.task.now l.self.facts.now.known l.state l.initial.env) (parts_of l.parts) l.whole;
+      ≡ false_among (holds_with l.self.task.now l.self.facts.now.known l.state l.initial.env)
+      (parts_of l.parts) l.whole;
   same : l.env ≡ l.initial.env;
   stands : StandsFor l.self.task.now.domain l.self.facts.now.known l.state l.memo;
 }

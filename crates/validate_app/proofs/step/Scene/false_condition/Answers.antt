@@ -10,14 +10,16 @@ use Rattle.validate_app.proofs.step.Scene.false_condition.Goals as goal
 pub returns-in_default : goal.returns-in_default
 returns-in_default g c =
     let fails = c.requires.fails in
-    let none : slice_get c.args.self.now.task.now.domain.actions c.args.step.now.action ≡ None = sym c.in_default.ensures in
+    let none : slice_get c.args.self.now.task.now.domain.actions c.args.step.now.action ≡ None =
+    sym c.in_default.ensures in
     absurd (none-some fails.0 (sym none ∙ fails.1))
 
 pub false_text-requires-clause-readable : goal.false_text-requires-clause-readable
 false_text-requires-clause-readable g c =
     let domain = c.args.self.now.task.now.domain in
     (readable_action domain c.requires.fit.domain c.in-Some.action.now
-    (fit_action domain c.requires.fit.domain c.args.step.now.action c.in-Some.action.now (sym c.in-Some.ensures))).condition
+    (fit_action domain c.requires.fit.domain c.args.step.now.action c.in-Some.action.now
+    (sym c.in-Some.ensures))).condition
 
 pub false_text-requires-clause-few : goal.false_text-requires-clause-few
 false_text-requires-clause-few g c =
@@ -35,8 +37,10 @@ returns g c =
     let known = c.args.self.now.facts.now.known in
     let a = c.requires.counted in
     let action = c.in-Some.action.now in
-    condition_fails task known (g.B.Board.atoms c.args.board.now) c.args.call.now a.0 a.1 a.2 c.args.step.now c.requires.named c.requires.fails action
+    condition_fails task known (g.B.Board.atoms c.args.board.now) c.args.call.now a.0 a.1 a.2 c.args.step.now
+    c.requires.named c.requires.fails action
     (sym c.in-Some.ensures)
     ∙ ap (λ t. Some (flaw.Condition t))
     (ap (λ s. false_text task known s action.condition c.args.step.now.args) (sym c.in_ok-state.ensures)
-    ∙ ap (false_text task known c.in_ok-state.state action.condition) (sym c.as_slice.ensures) ∙ sym c.in_ok-part.ensures)
+    ∙ ap (false_text task known c.in_ok-state.state action.condition) (sym c.as_slice.ensures)
+    ∙ sym c.in_ok-part.ensures)

@@ -1,4 +1,4 @@
-use Rattle.std.proofs.Common.{◌≡◌, ◌+◌, sym, ap, refl, subst, ◌∙◌, arith, take, take_all, add-one}
+use Rattle.std.proofs.Common.{◌+◌, sym, ap, refl, subst, ◌∙◌, arith, take, take_all, add-one}
 use Rattle.formula_eval.proofs.ReadableLemmas.{fit_readable}
 use Rattle.lemmas.proofs.Bools.{not_both}
 use Rattle.lemmas.proofs.ListTests.{get_some}
@@ -23,11 +23,14 @@ loop-place-preserved g c =
     let place = c.loop-place.place in
     let call = c.index-calls-place.result in
     let there = get_some c.args.calls.now place call c.loop-place-test.true c.index-calls-place.is in
-    let taken = subst (IsTakenStep task facts.known (g.B.Board.atoms c.loop-place.board) call (g.B.Board.atoms c.take.new.board)) c.in-Costs.is c.in_ok-more.ensures.taken in
-    let next = one_more task c.requires.fit facts.known facts.coherent c.args.calls.now place call (g.B.Board.atoms c.loop-place.board)
+    let taken = subst (IsTakenStep task facts.known (g.B.Board.atoms c.loop-place.board) call
+    (g.B.Board.atoms c.take.new.board)) c.in-Costs.is c.in_ok-more.ensures.taken in
+    let next = one_more task c.requires.fit facts.known facts.coherent c.args.calls.now place call
+    (g.B.Board.atoms c.loop-place.board)
     (g.B.Board.atoms c.take.new.board) c.loop-place.cost c.in-Costs.more there c.loop-place.invariant.leads taken in
     record {
-      leads = subst (λ n. CallsLeadTo task facts.known (take n c.args.calls.now) (g.B.Board.atoms c.take.new.board) (c.loop-place.cost + c.in-Costs.more))
+      leads = subst (λ n. CallsLeadTo task facts.known (take n c.args.calls.now) (g.B.Board.atoms c.take.new.board)
+          (c.loop-place.cost + c.in-Costs.more))
           (sym (add-one place)) next;
       small = omega (arith, c.loop-place.invariant.small, rw c.in-Costs.is at c.in_ok-more.ensures.small);
     }
@@ -35,7 +38,8 @@ loop-place-preserved g c =
 pub returns-in-Fails : goal.returns-in-Fails
 returns-in-Fails g c =
     let call = c.index-calls-place.result in
-    let taken = subst (IsTakenStep c.args.self.now.task.now c.args.self.now.facts.now.known (g.B.Board.atoms c.loop-place.board) call (g.B.Board.atoms c.take.new.board))
+    let taken = subst (IsTakenStep c.args.self.now.task.now c.args.self.now.facts.now.known
+    (g.B.Board.atoms c.loop-place.board) call (g.B.Board.atoms c.take.new.board))
     c.in-Fails.is c.in_ok-more.ensures.taken in
     record {
       place = c.loop-place.place;
@@ -62,9 +66,11 @@ returns-then-holds_once g c =
     subst (λ state. CallsLeadTo task known c.args.calls.now state c.loop-place.cost) (sym c.in_ok-state.ensures)
     (subst (λ calls. CallsLeadTo task known calls (g.B.Board.atoms c.loop-place.board) c.loop-place.cost) all
     c.loop-place.invariant.leads) in
-    is_plan task c.requires.fit known c.args.self.now.facts.now.coherent c.args.calls.now c.in_ok-state.state c.loop-place.cost
+    is_plan task c.requires.fit known c.args.self.now.facts.now.coherent c.args.calls.now c.in_ok-state.state
+    c.loop-place.cost
     leads
-    (ap (is_true task.domain known c.in_ok-state.state task.problem.goal) (sym c.new-env.ensures) ∙ sym c.holds_once.ensures.value
+    (ap (is_true task.domain known c.in_ok-state.state task.problem.goal) (sym c.new-env.ensures)
+    ∙ sym c.holds_once.ensures.value
     ∙ c.if-holds_once.true)
 
 pub returns : goal.returns

@@ -21,7 +21,8 @@ take_counted-requires-clause-counted g c = (
 pub returns-else-has_count-clause-taken : goal.returns-else-has_count-clause-taken
 returns-else-has_count-clause-taken g c =
     let task = c.args.self.now.task.now in (
-      other_count task c.args.self.now.facts.now.known (g.B.Board.atoms c.args.board.now) c.args.call.now c.in-Some.action.now
+      other_count task c.args.self.now.facts.now.known
+          (g.B.Board.atoms c.args.board.now) c.args.call.now c.in-Some.action.now
           (ap (action_called task) (sym c.bytes.ensures) ∙ sym c.in-Some.ensures)
           (λ same. let yes : c.has_count.result ≡ true = c.has_count.ensures.1 same in
           let no : c.has_count.result ≡ false = c.if-has_count.false in absurd (cc)),

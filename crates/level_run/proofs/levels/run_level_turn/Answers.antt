@@ -9,7 +9,7 @@ use Rattle.level_run.specs.Turns.{IsSomeLevel, RanLevel}
 use Rattle.level_run.specs.declared.turns.Turned.TheVariants as turned
 use Rattle.mode_turns.specs.Modes.{nothing_kept}
 use Rattle.round_run.specs.Rolling.{IsFrontPart}
-use Rattle.level_run.proofs.incremental_mode.LevelsTurns.turn.Goals as goal
+use Rattle.level_run.proofs.levels.run_level_turn.Goals as goal
 
 pub returns-in_err-run_level : goal.returns-in_err-run_level
 returns-in_err-run_level g c =
