@@ -45,6 +45,8 @@ pub(crate) struct Draft {
     pieces: Vec<usize>,
     /// The children are real ones.
     pub(crate) is_real: bool,
+    /// How many failures of the children are made good by starting them again.
+    pub(crate) restarts: u32,
     /// The calls on the children are printed.
     pub(crate) is_logged: bool,
     /// What is written is printed up to the first line that begins with this word.
@@ -66,6 +68,7 @@ impl Draft {
             series: Series::Once,
             pieces: Vec::new(alloc),
             is_real: false,
+            restarts: 0,
             is_logged: false,
             until: String::new(alloc),
             mute: 0,
@@ -151,9 +154,11 @@ impl Draft {
                 self.part = Part::Child;
                 self.talk.begin_child(number(rest))?;
             }
+            b"life" => return self.talk.begin_life(),
             b"needs" => return self.talk.add_need(rest),
             b"host" => self.talk.fail(number(rest))?,
             b"real" => self.is_real = true,
+            b"restarts" => self.restarts = u32::try_from(number(rest)).unwrap_or(u32::MAX),
             _ => return Ok(false),
         }
         Ok(true)

@@ -21,7 +21,7 @@ use std::process::ExitCode;
 use std::{env, io};
 
 /// The files of rows, in the order in which they are run.
-const SUBJECTS: [&str; 31] = [
+const SUBJECTS: [&str; 32] = [
     "outcomes.rows",
     "limits.rows",
     "faults.rows",
@@ -53,6 +53,7 @@ const SUBJECTS: [&str; 31] = [
     "costs.rows",
     "tuples.rows",
     "migrations.rows",
+    "restarts.rows",
 ];
 
 /// The most bytes of a file of rows.
