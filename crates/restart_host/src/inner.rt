@@ -2,7 +2,7 @@
 ghost use Rattle.std.specs.Prelude.{◌≡◌, ◌<◌, ℕ, List, true, false, length, map, string_bytes, is_ok, OnOk, OnErr};
 ghost use Rattle.io_world.specs.Leads.{wants_memory};
 ghost use Rattle.io_world.specs.declared.host.TheConstants.{CHILDREN};
-ghost use Rattle.restart_host.specs.Kept.{IsFallen, OnlyLives};
+ghost use Rattle.restart_host.specs.Kept.{IsFallen, IsKeptChild, OnlyLives};
 ghost use Rattle.restart_host.specs.Tries.{CalledInner, Spends, Tried, refusals, seen_by_host};
 
 use crate::kept::{Kept, Life};
@@ -134,9 +134,7 @@ pub(crate) fn bring<H: Host>(
     child: u8,
     bytes: &[u8],
 ) -> Result<(), HostFault>
-    requires number { child < CHILDREN }
-    requires runs { kept.old.running ≡ true }
-    requires ties { H.running host.old child ≡ kept.old.life.alive }
+    requires runs { IsKeptChild child (H.running host.old) kept.old true }
     ensures up { (kept.new.life.alive ≡ is_ok result) × (H.running host.new child ≡ is_ok result) }
     ensures kept { OnlyLives kept.old kept.new }
     ensures tried { Tried child (map string_bytes kept.old.words.items) H.last left.old left.new
@@ -194,9 +192,7 @@ fn hear<H: Host>(host: &mut H, life: &mut Life, child: u8) -> Result<(), HostFau
 /// # Errors
 /// As `revive`.
 fn wake<H: Host>(host: &mut H, left: &mut u32, kept: &mut Kept, child: u8) -> Result<(), HostFault>
-    requires number { child < CHILDREN }
-    requires runs { kept.old.running ≡ true }
-    requires ties { H.running host.old child ≡ kept.old.life.alive }
+    requires runs { IsKeptChild child (H.running host.old) kept.old true }
     ensures up { (kept.new.life.alive ≡ is_ok result) × (H.running host.new child ≡ is_ok result) }
     ensures kept { OnlyLives kept.old kept.new }
     ensures tried { Tried child (map string_bytes kept.old.words.items) H.last left.old left.new
@@ -220,10 +216,8 @@ pub(crate) fn fetch<H: Host>(
     kept: &mut Kept,
     child: u8,
 ) -> Result<(), HostFault>
-    requires number { child < CHILDREN }
-    requires runs { kept.old.running ≡ true }
-    requires ties { H.running host.old child ≡ kept.old.life.alive }
-    ensures ties { H.running host.new child ≡ kept.new.life.alive }
+    requires runs { IsKeptChild child (H.running host.old) kept.old true }
+    ensures runs { IsKeptChild child (H.running host.new) kept.new true }
     ensures due { OnOk result (0 < kept.new.life.due) }
     ensures kept { OnlyLives kept.old kept.new }
     ensures tried { Tried child (map string_bytes kept.old.words.items) H.last left.old left.new
