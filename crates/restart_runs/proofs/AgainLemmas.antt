@@ -1,5 +1,5 @@
 -- Where each child speaks by some answers in each of its lives, the answers of a transcript are these.
-use Rattle.std.proofs.Common.{◌≡◌, ℕ, zero, suc, ◌<◌, ◌≤◌, true, List, [], ◌∷◌, ◌++◌, length, take, Some, slice_get, refl, sym, ap, subst, ◌∙◌, arith, append_assoc}
+use Rattle.std.proofs.Common.{◌≡◌, ℕ, zero, suc, ◌<◌, ◌≤◌, true, List, [], ◌∷◌, ◌++◌, length, take, Some, slice_get, refl, sym, ap, subst, ◌∙◌, arith, append_assoc, eqb-true}
 use Rattle.std.proofs.lemmas.List.{append-nil, append_cancel_right}
 use Rattle.gen_lines.specs.Lines.{lines_of}
 use Rattle.gen_lines.specs.Reply as reply
@@ -12,7 +12,7 @@ use Rattle.restart_runs.specs.Lives.{lines_from, lines_to}
 use Rattle.restart_runs.specs.Tabled.{SpeakAgain}
 use Rattle.round_run.specs.Dialogue.{Request, replies_of, requests_of, wanted_by, workers_in}
 use Rattle.session_core.specs.Slots.{replied_entry}
-use Rattle.table_runs.proofs.AgreeLemmas.{answer_is, asks_front, reads, reply_number}
+use Rattle.table_runs.proofs.AgreeLemmas.{answer_is, asks_front, reads}
 use Rattle.table_runs.proofs.AskingLemmas.{line_of_request}
 use Rattle.table_runs.proofs.AskingPlaceLemmas.{request_at}
 use Rattle.table_runs.specs.Asking.{asking_by}
@@ -28,12 +28,18 @@ use Rattle.transcript_model.specs.declared.entry.Entry.TheVariants as entry
 use Rattle.transcript_model.specs.declared.head.Head.{Head}
 use Rattle.transcript_model.specs.declared.limits.TheConstants.{MOST_CALLS}
 
--- what is told alone of a reply that makes this entry
-reply_alone : (n : ℕ) (r : Reply) (e : Entry) → replied_entry n r ≡ Some e → entry_of_reply n r ≡ e ∷ []
-reply_alone n (reply.yields tuples values) e is = let same : entry.Got n tuples values ≡ e = cc in ap (λ x. x ∷ []) same
-reply_alone n (reply.number value) e is = let same : entry.Value n value ≡ e = cc in ap (λ x. x ∷ []) same
-reply_alone n reply.ends e is = let same : entry.End n ≡ e = cc in ap (λ x. x ∷ []) same
-reply_alone n (reply.bad why) e is = absurd (cc)
+-- a reply that makes an answer to a number makes this one alone, and is to the request of that number
+reply_tells : (m n : ℕ) (r : Reply) (e : Entry) → replied_entry m r ≡ Some e → is_answer_to n e ≡ true
+    → (n ≡ m) × (entry_of_reply m r ≡ e ∷ [])
+reply_tells m n (reply.yields tuples values) e is to =
+    let same : entry.Got m tuples values ≡ e = cc in
+    (eqb-true n m (ap (is_answer_to n) same ∙ to), ap (λ x. x ∷ []) same)
+reply_tells m n (reply.number value) e is to =
+    let same : entry.Value m value ≡ e = cc in
+    (eqb-true n m (ap (is_answer_to n) same ∙ to), ap (λ x. x ∷ []) same)
+reply_tells m n reply.ends e is to =
+    let same : entry.End m ≡ e = cc in (eqb-true n m (ap (is_answer_to n) same ∙ to), ap (λ x. x ∷ []) same)
+reply_tells m n (reply.bad why) e is to = absurd (cc)
 
 -- the lines of a child at a moment that is told otherwise
 asked_there : (was now past front : List Event) (r : Request) (place : ℕ) (request : List ℕ) → was ++ now ≡ past ++ front
@@ -150,7 +156,8 @@ module _ (task : Task) (head : Head) where
     agree_at n turn call e i j asked said to =
         let a = answer_at j e said (answer_is n e to) in
         let r = a.request in
-        let number : n ≡ r.number = reply_number r.number n (answers r.call r.turn) e a.is to in
+        let tells = reply_tells r.number n (answers r.call r.turn) e a.is to in
+        let number : n ≡ r.number = tells.0 in
         let own_ask : slice_get entries a.place ≡ Some (entry.Ask n r.turn r.call) =
         a.at ∙ ap (λ m. Some (entry.Ask m r.turn r.call)) (sym number) in
         let place : i ≡ a.place = numbers_own head.version task entries i a.place n turn r.turn call r.call legal asked own_ask in
@@ -158,7 +165,7 @@ module _ (task : Task) (head : Head) where
         let turns : turn ≡ r.turn = cc in
         let calls : call ≡ r.call = cc in
         ap (λ m. entry_of_reply m (answers call turn)) number ∙ (λ q. entry_of_reply r.number (answers (calls q) (turns q)))
-        ∙ reply_alone r.number (answers r.call r.turn) e a.is
+        ∙ tells.1
 
     pub again_agrees : AgreesWith head.version task answers entries
     again_agrees = record {

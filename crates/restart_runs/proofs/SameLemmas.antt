@@ -74,23 +74,23 @@ module _ (limits : Limits) (task : Task) (answers : Answers) (all others : List 
       → AreRoundsRun task before rounds es → AreRoundsRun task before rounds fs → es ≡ fs
   same_rounds before [] es fs said told first second = first ∙ sym second
   same_rounds before (round ∷ rounds) es fs said told (now, rest, is, (replies, now_is, are), more)
-      (then, behind, parts, (answered, then_is, were), further) =
+      (twin, behind, parts, (answered, twin_is, were), further) =
       let asks = requests task before round in
       let in_es : AreIn all (now ++ rest) = λ e m. said e (subst (λ xs. Contains xs e) (sym is) m) in
-      let in_fs : AreIn others (then ++ behind) = λ e m. told e (subst (λ xs. Contains xs e) (sym parts) m) in
+      let in_fs : AreIn others (twin ++ behind) = λ e m. told e (subst (λ xs. Contains xs e) (sym parts) m) in
       let in_now : AreIn all (asks ++ replies) =
       λ e m. in_es e (Contains-append_left now rest e (subst (λ xs. Contains xs e) (sym now_is) m)) in
-      let in_then : AreIn others (asks ++ answered) =
-      λ e m. in_fs e (Contains-append_left then behind e (subst (λ xs. Contains xs e) (sym then_is) m)) in
+      let in_twin : AreIn others (asks ++ answered) =
+      λ e m. in_fs e (Contains-append_left twin behind e (subst (λ xs. Contains xs e) (sym twin_is) m)) in
       let same : replies ≡ answered =
       same_answers before (asks_of before + 1) round replies answered
-      (λ e m. in_now e (Contains-append_left asks replies e m)) (λ e m. in_then e (Contains-append_left asks answered e m))
-      (λ e m. in_now e (Contains-append_right asks replies e m)) (λ e m. in_then e (Contains-append_right asks answered e m))
+      (λ e m. in_now e (Contains-append_left asks replies e m)) (λ e m. in_twin e (Contains-append_left asks answered e m))
+      (λ e m. in_now e (Contains-append_right asks replies e m)) (λ e m. in_twin e (Contains-append_right asks answered e m))
       are were in
-      let both : now ≡ then = now_is ∙ ap (λ xs. asks ++ xs) same ∙ sym then_is in
+      let both : now ≡ twin = now_is ∙ ap (λ xs. asks ++ xs) same ∙ sym twin_is in
       let later : rest ≡ behind =
-      same_rounds (before ++ then) rounds rest behind (λ e m. in_es e (Contains-append_right now rest e m))
-      (λ e m. in_fs e (Contains-append_right then behind e m))
+      same_rounds (before ++ twin) rounds rest behind (λ e m. in_es e (Contains-append_right now rest e m))
+      (λ e m. in_fs e (Contains-append_right twin behind e m))
       (subst (λ xs. AreRoundsRun task (before ++ xs) rounds rest) both more) further in
       is ∙ (λ k. both k ++ later k) ∙ sym parts
 
@@ -130,14 +130,14 @@ module _ (limits : Limits) (task : Task) (answers : Answers) (all others : List 
   same_turns before es fs s t not nor said told levels (whole next {now = now} {rest = rest} may this more) none_left =
       absurd (omega (arith, levels, some_level before now rest false this))
   same_turns before es fs s t not nor said told levels (whole next {now = now} {rest = rest} may this more)
-      (whole later {now = then} {rest = behind} might that further) =
-      let one = same_level before now then false false this that (λ e m. said e (Contains-append_left now rest e m))
-      (λ e m. told e (Contains-append_left then behind e m)) in
+      (whole later {now = twin} {rest = behind} might that further) =
+      let one = same_level before now twin false false this that (λ e m. said e (Contains-append_left now rest e m))
+      (λ e m. told e (Contains-append_left twin behind e m)) in
       let fewer : count_by is_level rest ≡ count_by is_level behind =
-      omega (arith, levels, levels_more now rest, levels_more then behind, ap (count_by is_level) one.0) in
+      omega (arith, levels, levels_more now rest, levels_more twin behind, ap (count_by is_level) one.0) in
       let others_same : rest ≡ behind =
-      same_turns (before ++ then) rest behind s t not nor (λ e m. said e (Contains-append_right now rest e m))
-      (λ e m. told e (Contains-append_right then behind e m)) fewer
+      same_turns (before ++ twin) rest behind s t not nor (λ e m. said e (Contains-append_right now rest e m))
+      (λ e m. told e (Contains-append_right twin behind e m)) fewer
       (subst (λ xs. AreTurns limits task (IncrementalTurn limits task) tt (before ++ xs) rest s) one.0 more) further in
       λ k. one.0 k ++ others_same k
   same_turns before es fs s t not nor said told levels (whole next {now = now} {rest = rest} may this more)
@@ -149,8 +149,8 @@ module _ (limits : Limits) (task : Task) (answers : Answers) (all others : List 
   same_turns before es fs s t not nor said told levels (cut_off next may this) none_left =
       absurd (omega (arith, levels, some_level before es [] true this, levels_more es []))
   same_turns before es fs s t not nor said told levels (cut_off next may this)
-      (whole later {now = then} {rest = behind} might that further) =
-      let one = same_level before es then true false this that said (λ e m. told e (Contains-append_left then behind e m)) in
+      (whole later {now = twin} {rest = behind} might that further) =
+      let one = same_level before es twin true false this that said (λ e m. told e (Contains-append_left twin behind e m)) in
       absurd (cc (one.1))
   same_turns before es fs s t not nor said told levels (cut_off next may this) (cut_off later might that) =
       (same_level before es fs true true this that said told).0
@@ -160,8 +160,8 @@ module _ (limits : Limits) (task : Task) (answers : Answers) (all others : List 
 
 -- a run that has an outcome stops inside no turn
 not_inside : (s : Stage) (o : Outcome) → MayStand s o → ¬ (s ≡ inside)
-not_inside s o (inl at) is = let no : between ≡ inside = sym at ∙ is in absurd (cc)
-not_inside s o (inr both) is = let no : after_cut ≡ inside = sym both.0 ∙ is in absurd (cc)
+not_inside s o (inl at) is = absurd (let no : between ≡ inside = sym at ∙ is in cc)
+not_inside s o (inr both) is = absurd (let no : after_cut ≡ inside = sym both.0 ∙ is in cc)
 
 pub same_runs : (limits : Limits) (task : Task) (answers : Answers) (xs ys : List Entry) (s t : Stage) (o p : Outcome)
     → IsFit task → IsAnsweredRun limits task answers xs s o → IsAnsweredRun limits task answers ys t p

@@ -52,15 +52,12 @@ agreed task head answers entries old (Some after) fit legal few ran by =
     let cut : by.1 ≡ starts ++ (events ++ stops) = append_cancel_left past by.1 (starts ++ (events ++ stops)) both in
     let speak : SpeakAgain head.version task answers (past ++ starts) events =
     λ child front later is.
-        subst (λ list. Spoken child list)
-        (ap (λ list. list ++ (starts ++ front)) (sym same) ∙ sym (append_assoc past starts front))
-        (by.4 child (starts ++ front) (later ++ stops)
-        (cut ∙ ap (λ list. starts ++ (list ++ stops)) is ∙ ap (λ list. starts ++ list) (append_assoc front later stops)
-        ∙ sym (append_assoc starts front (later ++ stops)))) in
+    subst (λ list. SpeaksBy head.version task answers (spelled child silence list))
+    (ap (λ list. list ++ (starts ++ front)) (sym same) ∙ sym (append_assoc past starts front))
+    (by.4 child (starts ++ front) (later ++ stops)
+    (cut ∙ ap (λ list. starts ++ (list ++ stops)) is ∙ ap (λ list. starts ++ list) (append_assoc front later stops)
+    ∙ sym (append_assoc starts front (later ++ stops)))) in
     again_agrees task head answers entries (past ++ starts) events fit legal few ran.7 speak
-  where
-    abbrev Spoken : ℕ → List Event → Type 0
-    Spoken child list = SpeaksBy head.version task answers (spelled child silence list)
 
 module _ (task : Task) (head : Head) (entries : List Entry) (stage : Stage) (o : Outcome) (old new : Option (List Event))
     (fit : IsFit task) (few : head.calls ≤ MOST_CALLS) (run : IsAgainRun task head entries stage o old new) where
@@ -130,6 +127,7 @@ restarts_change task head answers xs ys s t old new spoken o p fit few mode firs
     kept =
         turns_keep (limits_of head) task (TurnOf head.mode (limits_of head) task) (turn_keeps (limits_of head) task head.mode)
         nothing_kept [] ys t (as_family head.mode (limits_of head) task ys t second.turns) (omega arith)
+
     talked : AgreesWith head.version task answers ys
     talked =
         dialogue_agrees head.version task (workers_in head) ys fit second.legal (omega (arith, kept, few)) answers spoken
