@@ -1,5 +1,5 @@
 -- What a run comes to whose children are started again, and speak by some answers in each of their lives.
-use Rattle.std.proofs.Common.{◌≡◌, ℕ, ◌≤◌, List, [], ◌++◌, Option, Some, None, arith, ap, subst, sym, ◌∙◌, refl, append_assoc}
+use Rattle.std.proofs.Common.{◌≡◌, ◌≤◌, List, [], ◌++◌, Option, Some, None, arith, ap, subst, sym, ◌∙◌, append_assoc}
 use Rattle.std.proofs.lemmas.List.{append_cancel_left}
 use Rattle.io_world.specs.Talks.{Event, silence, spelled}
 use Rattle.mode_turns.proofs.CountsLemmas.{turn_keeps, turns_keep}

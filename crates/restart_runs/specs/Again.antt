@@ -1,13 +1,13 @@
 -- The calls of a run whose children are started again where they fail.
-use Rattle.std.specs.Prelude.{◌≡◌, ℕ, ◌≤◌, List, [], ◌∷◌, ◌++◌, length, map, replicate, slice_get, string_bytes, Option, None, Some, Ok, Err, ⊤}
+use Rattle.std.specs.Prelude.{◌≡◌, ℕ, List, [], ◌∷◌, ◌++◌, length, map, replicate, slice_get, string_bytes, Option, None, Some, Err, ⊤}
 use Rattle.std.specs.List.{All, find}
 use Rattle.gen_lines.specs.Reply.{reply_of}
-use Rattle.io_world.specs.Talks.{Event, started}
+use Rattle.io_world.specs.Talks.{Event, started, silence, spelled}
 use Rattle.io_world.specs.declared.host.HostFault.TheVariants.{Failed}
 use Rattle.pools.specs.Pools.{child_for}
 use Rattle.restart_runs.specs.Lives.{Brings, Fetches}
 use Rattle.round_run.specs.Calls.{IsStop, has_child, next_request, starts_before}
-use Rattle.round_run.specs.Dialogue.{Request, called_stream, last_round, replies_of, requests_of, text_of_request, wanted_by, workers_in}
+use Rattle.round_run.specs.Dialogue.{IsShortAt, Request, called_stream, last_round, replies_of, requests_of, text_of_request, wanted_by, workers_in}
 use Rattle.session_core.specs.Slots.{replied_entry}
 use Rattle.task_model.specs.declared.task.Task.{Task}
 use Rattle.transcript_model.specs.Legal.{asks_of}
@@ -26,14 +26,14 @@ abbrev pub words_for : List Pool → ℕ → List (List ℕ)
 words_for pools child = words_in (find (has_child child) pools)
 
 -- The answer that comes next is what a line says that was fetched by these tries: it stands at the place of its request
--- in one life of the child.
+-- in one life of the child, with at most 1,024 bytes as it came.
 pub record Answered (task : Task) (head : Head) (past : List Event) (before : List Entry) (e : Entry)
     (tries : List Event) : Type 0 where
   pub request : Request
   pub next : slice_get (requests_of task (workers_in head) before) (length (replies_of before)) ≡ Some request
   pub line : List ℕ
   pub fetches : Fetches request.child (words_for head.pools request.child) (text_of_request request) line past tries
-  pub short : length line ≤ 1024
+  pub short : IsShortAt (spelled request.child silence (past ++ tries)).heard fetches.place
   pub says : replied_entry request.number (reply_of line (wanted_by task head.version request)) ≡ Some e
 
 module _ (task : Task) (head : Head) where

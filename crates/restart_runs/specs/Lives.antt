@@ -52,7 +52,7 @@ IsWritten child text past tries n =
 -- Tries to bring a request: nothing is read, and at each moment the first bytes of its text are written, last of what was
 -- written to the child since its start.
 pub record AreBringing (child : ℕ) (words : List (List ℕ)) (text : List ℕ) (past tries : List Event) : Type 0 where
-  pub tries : AreTries child words past tries
+  pub calls : AreTries child words past tries
   pub unread : All IsNoRead tries
   pub writes : (k : ℕ) → k ≤ length tries → (n : ℕ) × IsWritten child text past (take k tries) n
 
@@ -63,7 +63,7 @@ pub record Brings (child : ℕ) (words : List (List ℕ)) (text : List ℕ) (pas
 
 -- Tries to fetch what is said to a request: nothing but its text is written anew.
 pub record AreFetching (child : ℕ) (words : List (List ℕ)) (text : List ℕ) (past tries : List Event) : Type 0 where
-  pub tries : AreTries child words past tries
+  pub calls : AreTries child words past tries
   pub writes : (k : ℕ) → k ≤ length tries
       → ((spelled child silence (past ++ take k tries)).written ≡ (spelled child silence past).written)
       ⊎ ((n : ℕ) × ((spelled child silence (past ++ take k tries)).written ≡ take n text))
