@@ -19,8 +19,8 @@ is_alive children child = unwrap_or (option_map (λ (kept : Kept). kept.life.ali
 abbrev pub OnlyLives : Kept → Kept → Type 0
 OnlyLives old new = (new.running ≡ old.running) × (new.words ≡ old.words) × (new.asked ≡ old.asked)
 
--- What is kept of a child of this number: it runs here or doesn't, as is said, and it runs in the host below where that is
--- kept.
+-- What is kept of a child of this number: it runs here or doesn't, as is said, and it runs in the host below where that
+-- is kept.
 pub record IsKeptChild (child : ℕ) (below : ℕ → Bool) (kept : Kept) (on : Bool) : Type 0 where
   pub number : child < CHILDREN
   pub running : kept.running ≡ on

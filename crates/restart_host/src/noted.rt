@@ -52,10 +52,11 @@ pub(crate) fn start_child<H: Host>(
     requires idle { IsKeptChild child (H.running host.old) kept.old false }
     ensures runs { IsKeptChild child (H.running host.new) kept.new (is_ok result) }
     ensures room { (log.old.kept ≤ log.new.kept) × OnOk result (log.new.kept ≡ log.old.kept + 1) }
-    ensures noted { IsCallNoted log.old log.new (started child (map string_bytes words.items) result)
-        result }
+    ensures noted { IsCallNoted log.old log.new
+        (started child (map string_bytes words.items) result) result }
     ensures tried { Tried child (map string_bytes words.items) H.last left.old left.new
-        (seen_by_host H.running H.faults H.log host.old) (seen_by_host H.running H.faults H.log host.new)
+        (seen_by_host H.running H.faults H.log host.old)
+        (seen_by_host H.running H.faults H.log host.new)
         result }
     ensures leads { IsLed (H.leads host.old host.new) (wants_memory result) }
 {
@@ -94,7 +95,8 @@ pub(crate) fn write_child<H: Host>(
     ensures noted { (log.new.kept ≡ log.old.kept)
         × IsCallNoted log.old log.new (wrote child bytes.now result) result }
     ensures tried { Tried child (map string_bytes kept.old.words.items) H.last left.old left.new
-        (seen_by_host H.running H.faults H.log host.old) (seen_by_host H.running H.faults H.log host.new)
+        (seen_by_host H.running H.faults H.log host.old)
+        (seen_by_host H.running H.faults H.log host.new)
         result }
     ensures leads { IsLed (H.leads host.old host.new) (wants_memory result) }
 {
@@ -132,9 +134,11 @@ pub(crate) fn read_child<H: Host>(
     ensures runs { IsKeptChild child (H.running host.new) kept.new true }
     ensures count { IfOk result (λ n. (0 < n) × (n ≤ length room.new)) }
     ensures noted { (log.new.kept ≡ log.old.kept)
-        × IsCallNoted log.old log.new (heard child (length room.old) (given result room.new)) result }
+        × IsCallNoted log.old log.new
+        (heard child (length room.old) (given result room.new)) result }
     ensures tried { Tried child (map string_bytes kept.old.words.items) H.last left.old left.new
-        (seen_by_host H.running H.faults H.log host.old) (seen_by_host H.running H.faults H.log host.new)
+        (seen_by_host H.running H.faults H.log host.old)
+        (seen_by_host H.running H.faults H.log host.new)
         result }
     ensures leads { IsLed (H.leads host.old host.new) (wants_memory result) }
 {
@@ -158,7 +162,8 @@ fn give(log: &mut CallLog, kept: &mut Kept, child: u8, room: &mut [u8]) -> Resul
         × (kept.new.life.alive ≡ kept.old.life.alive) }
     ensures quiet { refusals result ≡ 0 }
     ensures noted { (log.new.kept ≡ log.old.kept)
-        × IsCallNoted log.old log.new (heard child (length room.old) (given result room.new)) result }
+        × IsCallNoted log.old log.new
+        (heard child (length room.old) (given result room.new)) result }
 {
     let size = room.len();
     let count = kept.life.due.min(size);
@@ -177,9 +182,11 @@ pub(crate) fn stop_child<H: Host>(host: &mut H, log: &mut CallLog, kept: &mut Ke
     requires room { 0 < log.old.kept }
     requires runs { IsKeptChild child (H.running host.old) kept.old true }
     ensures idle { IsKeptChild child (H.running host.new) kept.new false }
-    ensures noted { (log.old.kept ≡ log.new.kept + 1) × Notes log.old log.new (stopped child (Ok tt)) }
+    ensures noted { (log.old.kept ≡ log.new.kept + 1)
+        × Notes log.old log.new (stopped child (Ok tt)) }
     ensures called { (words : List (List ℕ)) → CalledInner child words H.last
-        (seen_by_host H.running H.faults H.log host.old) (seen_by_host H.running H.faults H.log host.new) 0 }
+        (seen_by_host H.running H.faults H.log host.old)
+        (seen_by_host H.running H.faults H.log host.new) 0 }
     ensures leads { H.leads host.old host.new false }
 {
     end(host, &mut kept.life, child);

@@ -48,7 +48,8 @@ agreed task head answers entries old (Some after) fit legal few ran by =
     let same : past ≡ by.0 = cc (ran.4, by.2) in
     let told : after ≡ by.0 ++ by.1 = cc (by.3) in
     let both : past ++ by.1 ≡ past ++ (starts ++ (events ++ stops)) =
-    ap (λ list. list ++ by.1) same ∙ sym told ∙ ran.6 ∙ append_assoc past starts (events ++ stops) in
+    ap (λ list. list ++ by.1) same ∙ sym told ∙ ran.6 ∙ append_assoc (past ++ starts) events stops
+    ∙ append_assoc past starts (events ++ stops) in
     let cut : by.1 ≡ starts ++ (events ++ stops) = append_cancel_left past by.1 (starts ++ (events ++ stops)) both in
     let speak : SpeakAgain head.version task answers (past ++ starts) events =
     λ child front later is.

@@ -51,8 +51,8 @@ module _ (task : Task) (head : Head) (past : List Event) (before : List Entry) (
     pub bad : IsBadLine (spelled fetches.request.child silence (past ++ calls)).heard place
         (wanted_by task head.version fetches.request) why
 
-  -- The calls, behind those of the entries, of one entry that doesn't stand in the transcript: none where the sink failed.
-  -- Where memory was wanting nothing is said of them.
+  -- The calls, behind those of the entries, of one entry that doesn't stand in the transcript: none where the sink
+  -- failed. Where memory was wanting nothing is said of them.
   abbrev pub IsBegunAgain : RunFault → (List Entry → Type 0) → Type 0
   IsBegunAgain Write Front = calls ≡ []
   IsBegunAgain Generator Front = BringsNext Front ⊎ FetchesNext

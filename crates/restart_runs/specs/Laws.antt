@@ -51,8 +51,8 @@ RestartsDoNotMatter =
     → AnsweredBy other.version task (workers_in other) answers ys spoken → ¬ (o ≡ outcome.Limit States)
     → ¬ (p ≡ outcome.Limit States) → SaysSame xs ys × (known_of task xs ≡ known_of task ys) × (end_of o ≡ end_of p)
 
--- Two such runs of one head are one, entry by entry: what is asked, in which order, and what is answered, is that of the
--- run without faults.
+-- Two such runs of one head are one, entry by entry: what is asked, in which order, and what is answered, is that of
+-- the run without faults.
 abbrev pub RestartsChangeNothing : Type 0
 RestartsChangeNothing =
     (task : Task) (head : Head) (answers : Answers) (xs ys : List Entry) (s t : Stage) (old new : Option (List Event))

@@ -49,8 +49,8 @@ IsWritten child text past tries n =
     (front : List ℕ) × ((front ≡ (spelled child silence past).written) ⊎ (front ≡ []))
     × ((spelled child silence (past ++ tries)).written ≡ front ++ take n text)
 
--- Tries to bring a request: nothing is read, and at each moment the first bytes of its text are written, last of what was
--- written to the child since its start.
+-- Tries to bring a request: nothing is read, and at each moment the first bytes of its text are written, last of what
+-- was written to the child since its start.
 pub record AreBringing (child : ℕ) (words : List (List ℕ)) (text : List ℕ) (past tries : List Event) : Type 0 where
   pub calls : AreTries child words past tries
   pub unread : All IsNoRead tries

@@ -1,4 +1,4 @@
-use Rattle.std.proofs.Common.{◌≡◌, ◌∙◌, ◌<◌, [], arith, length, refl, sym, true}
+use Rattle.std.proofs.Common.{◌∙◌, ◌<◌, [], arith, length, refl, sym, true}
 use Rattle.restart_host.proofs.ChildrenLemmas.{becomes_off, flags_alive, kept_at, on_at, one_less, some_on}
 use Rattle.restart_host.proofs.HostLemmas.{carries_called, led_by}
 use Rattle.restart_host.proofs.restart_host.RestartHostHost.stop.Goals as goal
