@@ -5,7 +5,8 @@ use Rattle.std.proofs.lemmas.List.Sums.{sum_by-set}
 use Rattle.lemmas.proofs.Counts.{count_head, count_last}
 use Rattle.io_world.specs.Talks.{Becomes, Same}
 use Rattle.io_world.specs.declared.host.HostFault.{HostFault}
-use Rattle.restart_host.specs.Kept.{AreIdle, is_alive, is_on, runs_outside}
+use Rattle.io_world.specs.declared.host.TheConstants.{CHILDREN}
+use Rattle.restart_host.specs.Kept.{AreIdle, IsKeptChild, is_alive, is_on, runs_outside}
 use Rattle.restart_host.specs.declared.kept.Kept.{Kept}
 
 -- the flag of a member
@@ -78,6 +79,15 @@ on_at xs i x within is = flag_at is_on xs i x within is
 
 pub alive_at : (xs : List Kept) (i : ℕ) (x : Kept) → i < length xs → x ≡ get_or xs i x → is_alive xs i ≡ x.life.alive
 alive_at xs i x within is = flag_at (λ (kept : Kept). kept.life.alive) xs i x within is
+
+-- what is kept of one
+pub kept_at : (xs : List Kept) (i : ℕ) (x : Kept) (below : ℕ → Bool) (on : Bool) → i < CHILDREN → i < length xs
+    → x ≡ get_or xs i x → ((k : ℕ) → below k ≡ is_alive xs k) → runs_outside xs i ≡ on → IsKeptChild i below x on
+kept_at xs i x below on number within is ties runs = record {
+  number = number;
+  running = sym (on_at xs i x within is) ∙ runs;
+  ties = ties i ∙ alive_at xs i x within is;
+}
 
 -- where one runs, one at least is counted
 pub some_on : (xs : List Kept) (i : ℕ) (x : Kept) → i < length xs → x ≡ get_or xs i x → x.running ≡ true

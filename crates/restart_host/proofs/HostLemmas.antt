@@ -1,15 +1,12 @@
 -- What a call makes of a host that starts its children again.
-use Rattle.std.proofs.Common.{◌≡◌, ◌≢◌, ℕ, ◌+◌, ◌<◌, ◌≤◌, Bool, true, false, List, Option, Result, Ok, Err, IfOk, OnOk, is_ok, IsErrOf, min, refl, sym, ap, subst, ◌∙◌, arith}
-use Rattle.io_world.specs.Faults.{Counts, HasCause, last_count}
+use Rattle.std.proofs.Common.{◌≡◌, ℕ, ◌+◌, ◌<◌, ◌≤◌, Bool, true, false, List, Result, Ok, Err, IfOk, OnOk, is_ok, IsErrOf, min, refl, sym, ap, subst, ◌∙◌, arith}
+use Rattle.io_world.specs.Faults.{Counts, HasCause}
 use Rattle.io_world.specs.Leads.{wants_memory}
-use Rattle.io_world.specs.Logs.{Calls}
-use Rattle.io_world.specs.Talks.{Event}
 use Rattle.io_world.specs.declared.host.HostFault.{HostFault}
 use Rattle.io_world.specs.declared.host.HostFault.TheVariants.{Failed, Memory}
-use Rattle.io_world.proofs.TalksLemmas.{extends_none}
 use Rattle.restart_host.specs.Leads.{Carries, Parts}
 use Rattle.restart_host.specs.Noted.{IsLed}
-use Rattle.restart_host.specs.Tries.{CalledInner, Seen, Tried, refusals}
+use Rattle.restart_host.specs.Tries.{CalledInner, Tried, refusals}
 
 -- calls that led there, of which none wanted memory but the last
 pub led_by : {m : Bool} (Leads : Bool → Type 0) → Leads m → IsLed Leads m

@@ -1,12 +1,12 @@
 -- Calls that are noted.
-use Rattle.std.proofs.Common.{◌≡◌, ◌≢◌, ℕ, Bool, true, false, List, [], ◌∷◌, ◌++◌, take, Option, Some, None, option_map, Result, Ok, Err, MatchResult, refl, sym, ap, ◌∙◌, inl, inr, if◌then◌else◌, ◌==◌}
+use Rattle.std.proofs.Common.{◌≡◌, ◌≢◌, ℕ, Bool, true, false, List, [], ◌∷◌, ◌++◌, take, Some, None, Result, Ok, Err, MatchResult, refl, sym, ap, ◌∙◌, inl, inr, if◌then◌else◌, ◌==◌}
 use Rattle.std.proofs.lemmas.Bool.{eq-eqb}
 use Rattle.std.proofs.lemmas.Bool.Decides.{eqb_tells}
 use Rattle.io_world.specs.Leads.{wants_memory}
 use Rattle.io_world.specs.Logs.{Calls, Notes, said_of, told_of}
-use Rattle.io_world.specs.Talks.{Event, Talk, started, wrote, heard, stopped, given, silence, said_after, spelled, wrote_more, heard_more, LogGrows, Logs, Same, Becomes, Empties, Writes, Hears}
+use Rattle.io_world.specs.Talks.{Event, Talk, started, wrote, heard, stopped, given, silence, said_after, spelled, LogGrows, Logs, Same, Empties, Writes, Hears}
 use Rattle.io_world.specs.declared.host.HostFault.{HostFault}
-use Rattle.io_world.specs.declared.host.HostFault.TheVariants.{Failed, Memory}
+use Rattle.io_world.specs.declared.host.HostFault.TheVariants.{Memory}
 use Rattle.restart_host.specs.Noted.{IsCallNoted, Lost}
 
 told_more : (was now : Bool) (old new : List Event) (event : Event) → now ≡ was → new ≡ old ++ event ∷ []

@@ -1,5 +1,5 @@
 -- Calls on one child of the host below.
-use Rattle.std.proofs.Common.{◌≡◌, ◌≢◌, ℕ, ◌+◌, ◌<◌, ◌≤◌, Bool, true, false, cond, List, [], ◌∷◌, ◌++◌, take, drop, Option, Result, Ok, Err, OnOk, IfOk, IfErr, MatchResult, IsErrOf, refl, sym, ap, subst, ◌∙◌, arith, All, min, zero-add}
+use Rattle.std.proofs.Common.{◌≡◌, ◌≢◌, ℕ, ◌+◌, ◌<◌, ◌≤◌, Bool, true, false, cond, List, [], ◌∷◌, ◌++◌, drop, Result, Ok, Err, MatchResult, refl, sym, ap, subst, ◌∙◌, arith, All, min, zero-add}
 use Rattle.std.proofs.lemmas.List.Elements.{All-nil, All-head, All-tail, All-append, All-weaker}
 use Rattle.lemmas.proofs.Counts.{count_joined, count_one, count_head}
 use Rattle.lemmas.proofs.ListTests.{all_one}
@@ -8,7 +8,7 @@ use Rattle.io_world.specs.Talks.{Event, started, wrote, heard, stopped, LogGrows
 use Rattle.io_world.specs.declared.host.HostFault.{HostFault}
 use Rattle.io_world.specs.declared.host.HostFault.TheVariants.{Failed, Memory}
 use Rattle.io_world.proofs.TalksLemmas.{extends_none, extends_more}
-use Rattle.restart_host.specs.Tries.{Seen, is_failed, refusals, has_failed, failures, IsOn, CalledInner, Tried, Spends}
+use Rattle.restart_host.specs.Tries.{Seen, is_failed, refusals, has_failed, failures, IsOn, CalledInner, Tried}
 
 pub called_none : (child : ℕ) (words : List (List ℕ)) (last : ℕ) (seen : Seen) → CalledInner child words last seen seen 0
 called_none child words last seen = record {
@@ -185,8 +185,8 @@ done_all P child words last old new value events on done running cause each log 
 }
 
 -- the same, and one more that was refused
-done_part : {T : Type 0} (U : Type 0) (P : Event → Type 0) (child : ℕ) (words : List (List ℕ)) (last : ℕ) (old new : Seen) (fault : HostFault)
-    (events : List Event) (event : Event) → ((event : Event) → P event → IsOn child words event)
+done_part : {T : Type 0} (U : Type 0) (P : Event → Type 0) (child : ℕ) (words : List (List ℕ)) (last : ℕ)
+    (old new : Seen) (fault : HostFault) (events : List Event) (event : Event) → ((event : Event) → P event → IsOn child words event)
     → ((event : Event) → P event → has_failed event ≡ false)
     → Same old.running new.running
     → HasCause Failed last old.faults new.faults (let r : Result T HostFault = Err fault in r) → All P events

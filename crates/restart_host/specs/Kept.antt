@@ -1,5 +1,6 @@
 -- What is kept of children.
-use Rattle.std.specs.Prelude.{◌≡◌, ℕ, Bool, false, List, [], count_by, option_map, slice_get, unwrap_or}
+use Rattle.std.specs.Prelude.{◌≡◌, ◌<◌, ℕ, Bool, false, List, [], count_by, option_map, slice_get, unwrap_or}
+use Rattle.io_world.specs.declared.host.TheConstants.{CHILDREN}
 use Rattle.restart_host.specs.declared.kept.Kept.{Kept}
 use Rattle.restart_host.specs.declared.kept.Life.{Life}
 
@@ -17,6 +18,13 @@ is_alive children child = unwrap_or (option_map (λ (kept : Kept). kept.life.ali
 -- a call changed a child's life alone
 abbrev pub OnlyLives : Kept → Kept → Type 0
 OnlyLives old new = (new.running ≡ old.running) × (new.words ≡ old.words) × (new.asked ≡ old.asked)
+
+-- What is kept of a child of this number: it runs here or doesn't, as is said, and it runs in the host below where that
+-- is kept.
+pub record IsKeptChild (child : ℕ) (below : ℕ → Bool) (kept : Kept) (on : Bool) : Type 0 where
+  pub number : child < CHILDREN
+  pub running : kept.running ≡ on
+  pub ties : below child ≡ kept.life.alive
 
 -- The child doesn't run in the host below, and nothing is held of it.
 pub record IsFallen (life : Life) : Type 0 where

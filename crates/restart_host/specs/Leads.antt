@@ -1,5 +1,5 @@
 -- What calls make of a host that starts its children again, in its own terms and in those of the host below.
-use Rattle.std.specs.Prelude.{◌≡◌, ℕ, ◌+◌, ◌<◌, ◌≤◌, Bool, true, false, List, [], ◌++◌}
+use Rattle.std.specs.Prelude.{◌≡◌, ℕ, ◌+◌, ◌<◌, ◌≤◌, Bool, true, false, min, List, [], ◌++◌}
 use Rattle.std.proofs.Common.{arith, refl, subst, ◌∙◌, ap}
 use Rattle.lemmas.proofs.Counts.{count_joined}
 use Rattle.io_world.specs.Logs.{Calls}
@@ -27,6 +27,10 @@ pub record Carries (last : ℕ) (old new : Parts) (memory : Bool) : Type 0 where
   pub events : List Event
   pub failed : failures events ≡ count
   pub log : LogGrows old.below.log new.below.log events
+
+-- The count rose by so many, or stands at its last value.
+abbrev pub RoseBy : (count last before now : ℕ) → Type 0
+RoseBy count last before now = min (before + count) last ≤ now
 
 -- ---- laws of both
 

@@ -88,7 +88,8 @@ impl Held {
         ensures kept { OnErr result (self.new ≡ self.old) }
         ensures running { Same (H.running host.old) (H.running host.new) }
         ensures called { (words : List (List ℕ)) → CalledInner child words H.last
-            (seen_by_host H.running H.faults H.log host.old) (seen_by_host H.running H.faults H.log host.new)
+            (seen_by_host H.running H.faults H.log host.old)
+            (seen_by_host H.running H.faults H.log host.new)
             (refusals result) }
         ensures leads { H.leads host.old host.new (wants_memory result) }
     {

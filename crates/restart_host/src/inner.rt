@@ -2,7 +2,7 @@
 ghost use Rattle.std.specs.Prelude.{◌≡◌, ◌<◌, ℕ, List, true, false, length, map, string_bytes, is_ok, OnOk, OnErr};
 ghost use Rattle.io_world.specs.Leads.{wants_memory};
 ghost use Rattle.io_world.specs.declared.host.TheConstants.{CHILDREN};
-ghost use Rattle.restart_host.specs.Kept.{IsFallen, OnlyLives};
+ghost use Rattle.restart_host.specs.Kept.{IsFallen, IsKeptChild, OnlyLives};
 ghost use Rattle.restart_host.specs.Tries.{CalledInner, Spends, Tried, refusals, seen_by_host};
 
 use crate::kept::{Kept, Life};
@@ -35,7 +35,8 @@ pub(crate) fn end<H: Host>(host: &mut H, life: &mut Life, child: u8)
     ensures down { H.running host.new child ≡ false }
     ensures fallen { IsFallen life.new }
     ensures called { (words : List (List ℕ)) → CalledInner child words H.last
-        (seen_by_host H.running H.faults H.log host.old) (seen_by_host H.running H.faults H.log host.new) 0 }
+        (seen_by_host H.running H.faults H.log host.old)
+        (seen_by_host H.running H.faults H.log host.new) 0 }
     ensures leads { H.leads host.old host.new false }
 {
     let alive = life.alive;
@@ -54,7 +55,8 @@ fn send<H: Host>(host: &mut H, child: u8, bytes: &[u8]) -> Result<(), HostFault>
     requires runs { H.running host.old child ≡ true }
     ensures running { H.running host.new child ≡ is_ok result }
     ensures called { (words : List (List ℕ)) → CalledInner child words H.last
-        (seen_by_host H.running H.faults H.log host.old) (seen_by_host H.running H.faults H.log host.new)
+        (seen_by_host H.running H.faults H.log host.old)
+        (seen_by_host H.running H.faults H.log host.new)
         (refusals result) }
     ensures leads { H.leads host.old host.new (wants_memory result) }
 {
@@ -77,7 +79,8 @@ fn open<H: Host>(host: &mut H, child: u8, words: &[String], asked: &[u8]) -> Res
     requires idle { H.running host.old child ≡ false }
     ensures running { H.running host.new child ≡ is_ok result }
     ensures called { CalledInner child (map string_bytes words.now) H.last
-        (seen_by_host H.running H.faults H.log host.old) (seen_by_host H.running H.faults H.log host.new)
+        (seen_by_host H.running H.faults H.log host.old)
+        (seen_by_host H.running H.faults H.log host.new)
         (refusals result) }
     ensures leads { H.leads host.old host.new (wants_memory result) }
 {
@@ -106,7 +109,8 @@ pub(crate) fn revive<H: Host>(
     requires down { (life.old.alive ≡ false) × (H.running host.old child ≡ false) }
     ensures up { (life.new.alive ≡ is_ok result) × (H.running host.new child ≡ is_ok result) }
     ensures tried { Tried child (map string_bytes words.now) H.last left.old left.new
-        (seen_by_host H.running H.faults H.log host.old) (seen_by_host H.running H.faults H.log host.new)
+        (seen_by_host H.running H.faults H.log host.old)
+        (seen_by_host H.running H.faults H.log host.new)
         result }
     ensures leads { H.leads host.old host.new (wants_memory result) }
 {
@@ -134,13 +138,12 @@ pub(crate) fn bring<H: Host>(
     child: u8,
     bytes: &[u8],
 ) -> Result<(), HostFault>
-    requires number { child < CHILDREN }
-    requires runs { kept.old.running ≡ true }
-    requires ties { H.running host.old child ≡ kept.old.life.alive }
+    requires runs { IsKeptChild child (H.running host.old) kept.old true }
     ensures up { (kept.new.life.alive ≡ is_ok result) × (H.running host.new child ≡ is_ok result) }
     ensures kept { OnlyLives kept.old kept.new }
     ensures tried { Tried child (map string_bytes kept.old.words.items) H.last left.old left.new
-        (seen_by_host H.running H.faults H.log host.old) (seen_by_host H.running H.faults H.log host.new)
+        (seen_by_host H.running H.faults H.log host.old)
+        (seen_by_host H.running H.faults H.log host.new)
         result }
     ensures leads { H.leads host.old host.new (wants_memory result) }
 {
@@ -171,7 +174,8 @@ fn hear<H: Host>(host: &mut H, life: &mut Life, child: u8) -> Result<(), HostFau
     ensures due { OnOk result (0 < life.new.due) }
     ensures fallen { OnErr result (IsFallen life.new) }
     ensures called { (words : List (List ℕ)) → CalledInner child words H.last
-        (seen_by_host H.running H.faults H.log host.old) (seen_by_host H.running H.faults H.log host.new)
+        (seen_by_host H.running H.faults H.log host.old)
+        (seen_by_host H.running H.faults H.log host.new)
         (refusals result) }
     ensures leads { H.leads host.old host.new (wants_memory result) }
 {
@@ -194,13 +198,12 @@ fn hear<H: Host>(host: &mut H, life: &mut Life, child: u8) -> Result<(), HostFau
 /// # Errors
 /// As `revive`.
 fn wake<H: Host>(host: &mut H, left: &mut u32, kept: &mut Kept, child: u8) -> Result<(), HostFault>
-    requires number { child < CHILDREN }
-    requires runs { kept.old.running ≡ true }
-    requires ties { H.running host.old child ≡ kept.old.life.alive }
+    requires runs { IsKeptChild child (H.running host.old) kept.old true }
     ensures up { (kept.new.life.alive ≡ is_ok result) × (H.running host.new child ≡ is_ok result) }
     ensures kept { OnlyLives kept.old kept.new }
     ensures tried { Tried child (map string_bytes kept.old.words.items) H.last left.old left.new
-        (seen_by_host H.running H.faults H.log host.old) (seen_by_host H.running H.faults H.log host.new)
+        (seen_by_host H.running H.faults H.log host.old)
+        (seen_by_host H.running H.faults H.log host.new)
         result }
     ensures leads { H.leads host.old host.new (wants_memory result) }
 {
@@ -220,14 +223,13 @@ pub(crate) fn fetch<H: Host>(
     kept: &mut Kept,
     child: u8,
 ) -> Result<(), HostFault>
-    requires number { child < CHILDREN }
-    requires runs { kept.old.running ≡ true }
-    requires ties { H.running host.old child ≡ kept.old.life.alive }
-    ensures ties { H.running host.new child ≡ kept.new.life.alive }
+    requires runs { IsKeptChild child (H.running host.old) kept.old true }
+    ensures runs { IsKeptChild child (H.running host.new) kept.new true }
     ensures due { OnOk result (0 < kept.new.life.due) }
     ensures kept { OnlyLives kept.old kept.new }
     ensures tried { Tried child (map string_bytes kept.old.words.items) H.last left.old left.new
-        (seen_by_host H.running H.faults H.log host.old) (seen_by_host H.running H.faults H.log host.new)
+        (seen_by_host H.running H.faults H.log host.old)
+        (seen_by_host H.running H.faults H.log host.new)
         result }
     ensures leads { H.leads host.old host.new (wants_memory result) }
 {

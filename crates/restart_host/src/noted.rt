@@ -5,7 +5,7 @@ ghost use Rattle.io_world.specs.Leads.{wants_memory};
 ghost use Rattle.io_world.specs.Logs.{Notes};
 ghost use Rattle.io_world.specs.Talks.{given, heard, started, stopped, wrote};
 ghost use Rattle.io_world.specs.declared.host.HostFault.TheVariants.{Failed};
-ghost use Rattle.io_world.specs.declared.host.TheConstants.{CHILDREN};
+ghost use Rattle.restart_host.specs.Kept.{IsKeptChild};
 ghost use Rattle.restart_host.specs.Noted.{IsLed, IsCallNoted, counted};
 ghost use Rattle.restart_host.specs.Tries.{CalledInner, Tried, refusals, seen_by_host};
 
@@ -48,17 +48,15 @@ pub(crate) fn start_child<H: Host>(
     child: u8,
     words: Vec<String>,
 ) -> Result<(), HostFault>
-    requires number { child < CHILDREN }
     requires words { 0 < vec_len words }
-    requires idle { kept.old.running ≡ false }
-    requires ties { H.running host.old child ≡ kept.old.life.alive }
-    ensures ties { H.running host.new child ≡ kept.new.life.alive }
-    ensures running { kept.new.running ≡ is_ok result }
+    requires idle { IsKeptChild child (H.running host.old) kept.old false }
+    ensures runs { IsKeptChild child (H.running host.new) kept.new (is_ok result) }
     ensures room { (log.old.kept ≤ log.new.kept) × OnOk result (log.new.kept ≡ log.old.kept + 1) }
-    ensures noted { IsCallNoted log.old log.new (started child (map string_bytes words.items) result)
-        result }
+    ensures noted { IsCallNoted log.old log.new
+        (started child (map string_bytes words.items) result) result }
     ensures tried { Tried child (map string_bytes words.items) H.last left.old left.new
-        (seen_by_host H.running H.faults H.log host.old) (seen_by_host H.running H.faults H.log host.new)
+        (seen_by_host H.running H.faults H.log host.old)
+        (seen_by_host H.running H.faults H.log host.new)
         result }
     ensures leads { IsLed (H.leads host.old host.new) (wants_memory result) }
 {
@@ -91,15 +89,14 @@ pub(crate) fn write_child<H: Host>(
     child: u8,
     bytes: &[u8],
 ) -> Result<usize, HostFault>
-    requires number { child < CHILDREN }
-    requires runs { kept.old.running ≡ true }
-    requires ties { H.running host.old child ≡ kept.old.life.alive }
+    requires runs { IsKeptChild child (H.running host.old) kept.old true }
+    ensures runs { IsKeptChild child (H.running host.new) kept.new true }
     ensures all { IfOk result (λ n. n ≡ length bytes.now) }
-    ensures ties { H.running host.new child ≡ kept.new.life.alive }
-    ensures noted { (kept.new.running ≡ true) × (log.new.kept ≡ log.old.kept)
+    ensures noted { (log.new.kept ≡ log.old.kept)
         × IsCallNoted log.old log.new (wrote child bytes.now result) result }
     ensures tried { Tried child (map string_bytes kept.old.words.items) H.last left.old left.new
-        (seen_by_host H.running H.faults H.log host.old) (seen_by_host H.running H.faults H.log host.new)
+        (seen_by_host H.running H.faults H.log host.old)
+        (seen_by_host H.running H.faults H.log host.new)
         result }
     ensures leads { IsLed (H.leads host.old host.new) (wants_memory result) }
 {
@@ -132,15 +129,16 @@ pub(crate) fn read_child<H: Host>(
     child: u8,
     room: &mut [u8],
 ) -> Result<usize, HostFault>
-    requires number { (child < CHILDREN) × (0 < length room.old) }
-    requires runs { kept.old.running ≡ true }
-    requires ties { H.running host.old child ≡ kept.old.life.alive }
+    requires some { 0 < length room.old }
+    requires runs { IsKeptChild child (H.running host.old) kept.old true }
+    ensures runs { IsKeptChild child (H.running host.new) kept.new true }
     ensures count { IfOk result (λ n. (0 < n) × (n ≤ length room.new)) }
-    ensures ties { H.running host.new child ≡ kept.new.life.alive }
-    ensures noted { (kept.new.running ≡ true) × (log.new.kept ≡ log.old.kept)
-        × IsCallNoted log.old log.new (heard child (length room.old) (given result room.new)) result }
+    ensures noted { (log.new.kept ≡ log.old.kept)
+        × IsCallNoted log.old log.new
+        (heard child (length room.old) (given result room.new)) result }
     ensures tried { Tried child (map string_bytes kept.old.words.items) H.last left.old left.new
-        (seen_by_host H.running H.faults H.log host.old) (seen_by_host H.running H.faults H.log host.new)
+        (seen_by_host H.running H.faults H.log host.old)
+        (seen_by_host H.running H.faults H.log host.new)
         result }
     ensures leads { IsLed (H.leads host.old host.new) (wants_memory result) }
 {
@@ -164,7 +162,8 @@ fn give(log: &mut CallLog, kept: &mut Kept, child: u8, room: &mut [u8]) -> Resul
         × (kept.new.life.alive ≡ kept.old.life.alive) }
     ensures quiet { refusals result ≡ 0 }
     ensures noted { (log.new.kept ≡ log.old.kept)
-        × IsCallNoted log.old log.new (heard child (length room.old) (given result room.new)) result }
+        × IsCallNoted log.old log.new
+        (heard child (length room.old) (given result room.new)) result }
 {
     let size = room.len();
     let count = kept.life.due.min(size);
@@ -180,15 +179,14 @@ fn give(log: &mut CallLog, kept: &mut Kept, child: u8, room: &mut [u8]) -> Resul
 
 /// Ends a child, and notes it in room that was kept.
 pub(crate) fn stop_child<H: Host>(host: &mut H, log: &mut CallLog, kept: &mut Kept, child: u8)
-    requires number { child < CHILDREN }
     requires room { 0 < log.old.kept }
-    requires ties { H.running host.old child ≡ kept.old.life.alive }
-    ensures ties { H.running host.new child ≡ kept.new.life.alive }
-    ensures running { kept.new.running ≡ false }
-    ensures noted { Notes log.old log.new (stopped child (Ok tt)) }
-    ensures room { log.old.kept ≡ log.new.kept + 1 }
+    requires runs { IsKeptChild child (H.running host.old) kept.old true }
+    ensures idle { IsKeptChild child (H.running host.new) kept.new false }
+    ensures noted { (log.old.kept ≡ log.new.kept + 1)
+        × Notes log.old log.new (stopped child (Ok tt)) }
     ensures called { (words : List (List ℕ)) → CalledInner child words H.last
-        (seen_by_host H.running H.faults H.log host.old) (seen_by_host H.running H.faults H.log host.new) 0 }
+        (seen_by_host H.running H.faults H.log host.old)
+        (seen_by_host H.running H.faults H.log host.new) 0 }
     ensures leads { H.leads host.old host.new false }
 {
     end(host, &mut kept.life, child);

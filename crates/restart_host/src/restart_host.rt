@@ -1,6 +1,6 @@
 // Children that are started again where they fail.
 ghost use Rattle.std.proofs.Common.{lit≤};
-ghost use Rattle.std.specs.Prelude.{◌≡◌, ◌<◌, ◌≤◌, ℕ, true, false, count_by, vec_len, IfOk};
+ghost use Rattle.std.specs.Prelude.{◌≡◌, ◌<◌, ◌≤◌, ℕ, false, count_by, vec_len, IfOk};
 ghost use Rattle.io_world.specs.Faults.{last_count};
 ghost use Rattle.io_world.specs.Logs.{calls_spell, said_of, told_of};
 ghost use Rattle.restart_host.specs.Kept.{AreIdle, is_alive, is_on, runs_outside};

@@ -62,6 +62,8 @@ pub(crate) struct Draft {
     pub(crate) is_beside_whole: bool,
     /// The children are real ones.
     pub(crate) is_real: bool,
+    /// How many failures of the children are made good by starting them again.
+    pub(crate) restarts: u32,
     /// The calls on the children are printed.
     pub(crate) is_logged: bool,
     /// What is written is printed up to the first line that begins with this word.
@@ -85,6 +87,7 @@ impl Draft {
             numbers: Vec::new(alloc),
             is_beside_whole: false,
             is_real: false,
+            restarts: 0,
             is_logged: false,
             until: String::new(alloc),
             mute: 0,
@@ -186,6 +189,7 @@ impl Draft {
                 self.part = Part::Child;
                 self.talk.begin_child(number(rest))?;
             }
+            b"life" => return self.talk.begin_life(),
             b"needs" => return self.talk.add_need(rest),
             b"reply" => {
                 self.part = Part::Reply;
@@ -193,6 +197,7 @@ impl Draft {
             }
             b"host" => self.fail(Callee::Children, number(rest))?,
             b"real" => self.is_real = true,
+            b"restarts" => self.restarts = u32::try_from(number(rest)).unwrap_or(u32::MAX),
             _ => return Ok(false),
         }
         Ok(true)

@@ -10,6 +10,7 @@ use gen_host::{BoxHost, ChildGen, Generator, add_idle};
 use grid_world::GridGen;
 use io_world::{CHILDREN, Host, MemSink, SureHost};
 use pddlstream_app::{Status, run};
+use restart_host::RestartHost;
 use std::alloc::AllocError;
 use std::{io, mem};
 
@@ -39,13 +40,29 @@ fn status_over<H: Host>(
     Ok(run(draft.alloc, draft.words.as_slice(), &mut *files, host, sink))
 }
 
+/// The same over these children, who are started again where they fail.
+fn status_again<H: Host>(
+    draft: &mut Draft,
+    host: &mut H,
+    sink: &mut MemSink,
+) -> Result<Status, AllocError>
+    requires { (k : ℕ) → H.running host.old k ≡ false }
+{
+    let mut outer = RestartHost::new(draft.alloc, host, draft.restarts)?;
+    status_over(draft, &mut outer, sink)
+}
+
 /// What the row's command writes over these children, how it ends, and what was called.
 fn run_over<H: Host>(draft: &mut Draft, host: &mut NotingHost<H>) -> io::Result<Box<Ran>>
     requires { (k : ℕ) → ⟦<NotingHost<H> as Host>⟧.running host.old k ≡ false }
 {
     let alloc = draft.alloc;
     let mut sink = sink_of(draft)?;
-    let status = status_over(draft, host, &mut sink)?;
+    let status = if draft.restarts > 0 {
+        status_again(draft, host, &mut sink)?
+    } else {
+        status_over(draft, host, &mut sink)?
+    };
     let mut ran = Box::new(alloc, Ran::new(alloc, status))?;
     ran.text = front_of(alloc, sink.taken(), draft.until.as_str())?;
     if draft.is_logged {

@@ -22,7 +22,7 @@ use std::process::ExitCode;
 use std::{env, io};
 
 /// The files of rows, in the order in which they are run.
-const SUBJECTS: [&str; 34] = [
+const SUBJECTS: [&str; 35] = [
     "outcomes.rows",
     "limits.rows",
     "faults.rows",
@@ -57,6 +57,7 @@ const SUBJECTS: [&str; 34] = [
     "cheapest.rows",
     "tuples.rows",
     "migrations.rows",
+    "restarts.rows",
 ];
 
 /// The most bytes of a file of rows.

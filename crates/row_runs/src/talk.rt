@@ -7,11 +7,12 @@ use io_world::{CHILDREN, Script, ScriptHost};
 use std::alloc::{AllocError, Global};
 use std::mem;
 
-/// What the children say, of whom one was named last, and which calls on them fail.
+/// What the children say, of whom one was named last, at each of their starts, and which calls on
+/// them fail.
 #[derive(Drop)]
 pub(crate) struct Talk {
     alloc: Global,
-    scripts: Vec<Script>,
+    scripts: Vec<Vec<Script>>,
     open: usize,
     fails: Vec<u64>,
 }
@@ -27,23 +28,38 @@ impl Talk {
         }
     }
 
-    /// There are children up to this one.
+    /// There are children up to this one, each with what it says at its first start.
     fn grow(&mut self, child: usize) -> Result<(), AllocError> {
         for _ in self.scripts.len()..child.saturating_add(1) {
-            self.scripts.push(Script {
-                bytes: Vec::new(self.alloc),
-                cuts: Vec::new(self.alloc),
-                needs: Vec::new(self.alloc),
-            })?;
+            let mut lives = Vec::new(self.alloc);
+            lives.push(silent(self.alloc))?;
+            self.scripts.push(lives)?;
         }
         Ok(())
+    }
+
+    /// What that child says at its next start begins: nothing so far. Answers whether there is one.
+    pub(crate) fn begin_life(&mut self) -> Result<bool, AllocError> {
+        match self.scripts.get_mut(self.open) {
+            Some(lives) => lives.push(silent(self.alloc))?,
+            None => return Ok(false),
+        }
+        Ok(true)
+    }
+
+    /// What that child says at the start that was named last.
+    fn script(&mut self) -> Option<&mut Script> {
+        self.scripts.get_mut(self.open)?.last_mut()
     }
 
     /// What this child says begins: nothing so far. There are children up to it.
     pub(crate) fn begin_child(&mut self, child: usize) -> Result<(), AllocError> {
         self.open = child.min(CHILDREN - 1);
         self.grow(self.open)?;
-        if let Some(script) = self.scripts.get_mut(self.open) {
+        if let Some(lives) = self.scripts.get_mut(self.open) {
+            lives.truncate(1);
+        }
+        if let Some(script) = self.script() {
             script.bytes.clear();
             script.needs.clear();
         }
@@ -52,7 +68,7 @@ impl Talk {
 
     /// Puts bytes behind what that child says, and answers whether there is one.
     pub(crate) fn add(&mut self, bytes: &[u8]) -> Result<bool, AllocError> {
-        match self.scripts.get_mut(self.open) {
+        match self.script() {
             Some(script) => script.bytes.extend_from_slice(bytes)?,
             None => return Ok(false),
         }
@@ -67,7 +83,7 @@ impl Talk {
         let Ok(child) = u8::try_from(number(child)) else {
             return Ok(false);
         };
-        match self.scripts.get_mut(self.open) {
+        match self.script() {
             Some(script) => {
                 let need = (number(place), child, number(lines) as u64);
                 script.needs.push(need)?;
@@ -86,8 +102,10 @@ impl Talk {
     /// A read gives at most so many bytes.
     pub(crate) fn cut(&mut self, piece: usize) -> Result<(), AllocError> {
         let alloc = self.alloc;
-        for script in &mut self.scripts {
-            script.cuts = vec![in alloc; piece; script.bytes.len()]?;
+        for lives in &mut self.scripts {
+            for script in lives.as_mut_slice() {
+                script.cuts = vec![in alloc; piece; script.bytes.len()]?;
+            }
         }
         Ok(())
     }
@@ -98,6 +116,15 @@ impl Talk {
     {
         let scripts = mem::replace(&mut self.scripts, Vec::new(self.alloc));
         let fails = mem::replace(&mut self.fails, Vec::new(self.alloc));
-        ScriptHost::new(self.alloc, scripts, fails)
+        ScriptHost::again(self.alloc, scripts, fails)
+    }
+}
+
+/// A child that says nothing.
+fn silent(alloc: Global) -> Script {
+    Script {
+        bytes: Vec::new(alloc),
+        cuts: Vec::new(alloc),
+        needs: Vec::new(alloc),
     }
 }

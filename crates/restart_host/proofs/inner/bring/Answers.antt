@@ -10,12 +10,16 @@ returns-in-Ok-clause-tried g c =
 
 pub returns-in-Ok-spend-clause-tried : goal.returns-in-Ok-spend-clause-tried
 returns-in-Ok-spend-clause-tried g c =
-    tried_again c.args.child (map string_bytes c.args.kept.now.words.items) g.H.Host.last c.args.left.now c.spend.new.left
-    c.revive-in-Ok-spend.new.left _ (seen_by_host g.H.Host.running g.H.Host.faults g.H.Host.log c.send.new.host) _ c.in-Err.fault c.revive-in-Ok-spend.result
+    tried_again c.args.child (map string_bytes c.args.kept.now.words.items) g.H.Host.last c.args.left.now
+    c.spend.new.left
+    c.revive-in-Ok-spend.new.left _ (seen_by_host g.H.Host.running g.H.Host.faults g.H.Host.log c.send.new.host) _
+    c.in-Err.fault c.revive-in-Ok-spend.result
     (c.in-Err.ensures.called (map string_bytes c.args.kept.now.words.items)) c.in-Ok-spend.ensures
     (rw c.deref-in-Ok-spend.ensures.value at c.revive-in-Ok-spend.ensures.tried)
 
 pub returns-in-Err-spend-clause-tried : goal.returns-in-Err-spend-clause-tried
 returns-in-Err-spend-clause-tried g c =
-    tried_spent c.args.child (map string_bytes c.args.kept.now.words.items) g.H.Host.last c.args.left.now c.spend.new.left _ _ c.in-Err.fault
-    c.in-Err-spend.refused (c.in-Err.ensures.called (map string_bytes c.args.kept.now.words.items)) c.in-Err-spend.ensures
+    tried_spent c.args.child (map string_bytes c.args.kept.now.words.items) g.H.Host.last c.args.left.now
+    c.spend.new.left _ _ c.in-Err.fault
+    c.in-Err-spend.refused (c.in-Err.ensures.called (map string_bytes c.args.kept.now.words.items))
+    c.in-Err-spend.ensures

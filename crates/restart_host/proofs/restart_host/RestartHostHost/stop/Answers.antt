@@ -1,5 +1,5 @@
-use Rattle.std.proofs.Common.{◌≡◌, ◌∙◌, ◌<◌, [], arith, length, refl, sym}
-use Rattle.restart_host.proofs.ChildrenLemmas.{alive_at, becomes_off, flags_alive, on_at, one_less, some_on}
+use Rattle.std.proofs.Common.{◌∙◌, ◌<◌, [], arith, length, refl, sym, true}
+use Rattle.restart_host.proofs.ChildrenLemmas.{becomes_off, flags_alive, kept_at, on_at, one_less, some_on}
 use Rattle.restart_host.proofs.HostLemmas.{carries_called, led_by}
 use Rattle.restart_host.proofs.restart_host.RestartHostHost.stop.Goals as goal
 
@@ -11,12 +11,12 @@ stop_child-requires-clause-room g c =
     (sym (on_at c.args.self.now.children.items c.args.child c.index_mut.result.now within c.index_mut.ensures.value) ∙ c.requires.runs) in
     omega (arith, some, c.args.self.now.room)
 
-pub stop_child-requires-clause-ties : goal.stop_child-requires-clause-ties
-stop_child-requires-clause-ties g c =
+pub stop_child-requires-clause-runs : goal.stop_child-requires-clause-runs
+stop_child-requires-clause-runs g c =
     let within : c.args.child < length c.args.self.now.children.items =
     omega (arith, c.args.self.now.children.ok.0, c.args.self.now.all, c.requires.number) in
-    c.args.self.now.ties c.args.child
-    ∙ alive_at c.args.self.now.children.items c.args.child c.index_mut.result.now within c.index_mut.ensures.value
+    kept_at c.args.self.now.children.items c.args.child c.index_mut.result.now (g.H.Host.running c.args.self.now.host.now) true
+    c.requires.number within c.index_mut.ensures.value c.args.self.now.ties c.requires.runs
 
 pub invariant_of-self : goal.invariant_of-self
 invariant_of-self g c =
@@ -28,10 +28,10 @@ invariant_of-self g c =
       all = c.args.self.now.all;
       ties = flags_alive c.args.self.now.children.items c.args.child c.stop_child.new.kept (g.H.Host.running c.args.self.now.host.now)
           (g.H.Host.running c.stop_child.new.host) within c.args.self.now.ties (c.stop_child.ensures.called []).others
-          c.stop_child.ensures.ties;
+          c.stop_child.ensures.idle.ties;
       room = one_less c.args.self.now.children.items c.args.child c.index_mut.result.now c.stop_child.new.kept
-          c.args.self.now.log.kept c.stop_child.new.log.kept within c.index_mut.ensures.value runs c.stop_child.ensures.running
-          c.args.self.now.room c.stop_child.ensures.room;
+          c.args.self.now.log.kept c.stop_child.new.log.kept within c.index_mut.ensures.value runs c.stop_child.ensures.idle.running
+          c.args.self.now.room c.stop_child.ensures.noted.0;
       over = c.args.self.now.over;
     }
 
@@ -39,11 +39,11 @@ pub returns-clause-running : goal.returns-clause-running
 returns-clause-running g c =
     let within : c.args.child < length c.args.self.now.children.items =
     omega (arith, c.args.self.now.children.ok.0, c.args.self.now.all, c.requires.number) in
-    becomes_off c.args.self.now.children.items c.args.child c.stop_child.new.kept within c.stop_child.ensures.running
+    becomes_off c.args.self.now.children.items c.args.child c.stop_child.new.kept within c.stop_child.ensures.idle.running
 
 pub returns-clause-leads : goal.returns-clause-leads
 returns-clause-leads g c = (
   refl,
   led_by _ c.stop_child.ensures.leads,
-  carries_called c.args.child g.H.Host.last _ _ (c.stop_child.ensures.called []) refl refl c.stop_child.ensures.noted.whole,
+  carries_called c.args.child g.H.Host.last _ _ (c.stop_child.ensures.called []) refl refl c.stop_child.ensures.noted.1.whole,
 )

@@ -1,0 +1,63 @@
+-- Laws of runs whose children are started again. Each is the contract of a public function of `laws.rt`, and so is
+-- proved.
+use Rattle.std.specs.Prelude.{◌≡◌, ℕ, ◌≤◌, List, [], Option}
+use Rattle.io_world.specs.Talks.{Event, Talk}
+use Rattle.restart_runs.specs.Again.{FollowsAgain}
+use Rattle.restart_runs.specs.Tabled.{AnsweredAgain, IsAgainRun, IsTabledAgain, SpeakAgain}
+use Rattle.round_run.specs.Dialogue.{workers_in}
+use Rattle.table_runs.specs.Asking.{AnsweredBy}
+use Rattle.table_runs.specs.Tabled.{IsTabled, IsTalkedRun}
+use Rattle.task_model.specs.Fit.{IsFit}
+use Rattle.task_model.specs.declared.task.Task.{Task}
+use Rattle.transcript_model.specs.Legal.{IsLegal, asks_of}
+use Rattle.transcript_model.specs.Plain.{SaysSame, end_of}
+use Rattle.transcript_model.specs.Tables.{AgreesWith, Answers}
+use Rattle.transcript_model.specs.Transcript.{known_of}
+use Rattle.transcript_model.specs.Turns.{Stage}
+use Rattle.transcript_model.specs.declared.entry.Entry.{Entry}
+use Rattle.transcript_model.specs.declared.head.Head.{Head}
+use Rattle.transcript_model.specs.declared.head.Mode.TheVariants.{Incremental}
+use Rattle.transcript_model.specs.declared.limits.TheConstants.{MOST_CALLS}
+use Rattle.transcript_model.specs.declared.outcome.LimitKind.TheVariants.{States}
+use Rattle.transcript_model.specs.declared.outcome.Outcome.{Outcome}
+use Rattle.transcript_model.specs.declared.outcome.Outcome.TheVariants as outcome
+
+-- Where each child speaks by some answers in each of its lives, as those of a table, the answers of the transcript are
+-- these, in any mode.
+abbrev pub AgainDialoguesAgree : Type 0
+AgainDialoguesAgree =
+    (task : Task) (head : Head) (answers : Answers) (entries : List Entry) (past events : List Event) → IsFit task
+    → IsLegal head.version task entries → asks_of entries ≤ MOST_CALLS
+    → FollowsAgain task head past [] entries events → SpeakAgain head.version task answers past events
+    → AgreesWith head.version task answers entries
+
+-- A run whose children are started again is as the plain run over the answers by which they speak in each of their
+-- lives, and ends with a plan or with none where all transcripts that agree with them stay within its limits.
+abbrev pub AgainRunsAreTabled : Type 0
+AgainRunsAreTabled =
+    (task : Task) (head : Head) (entries : List Entry) (stage : Stage) (o : Outcome) (old new : Option (List Event))
+    → IsFit task → head.calls ≤ MOST_CALLS → IsAgainRun task head entries stage o old new
+    → IsTabledAgain task head entries old new o
+
+-- A run whose children are started again and one whose children aren't, of one task with the same limit of calls and
+-- the same answers, say the same, know the same in the end and end in the same way, whatever their pools and their
+-- workers, unless one of them ends with the limit of states.
+abbrev pub RestartsDoNotMatter : Type 0
+RestartsDoNotMatter =
+    (task : Task) (head other : Head) (answers : Answers) (xs ys : List Entry) (old new : Option (List Event))
+    (spoken : ℕ → Option Talk) (o p : Outcome) → head.mode ≡ Incremental → other.mode ≡ Incremental
+    → head.calls ≡ other.calls → IsTabledAgain task head xs old new o → IsTabled task other ys spoken p
+    → AnsweredAgain head.version task answers old new
+    → AnsweredBy other.version task (workers_in other) answers ys spoken → ¬ (o ≡ outcome.Limit States)
+    → ¬ (p ≡ outcome.Limit States) → SaysSame xs ys × (known_of task xs ≡ known_of task ys) × (end_of o ≡ end_of p)
+
+-- Two such runs of one head are one, entry by entry: what is asked, in which order, and what is answered, is that of
+-- the run without faults.
+abbrev pub RestartsChangeNothing : Type 0
+RestartsChangeNothing =
+    (task : Task) (head : Head) (answers : Answers) (xs ys : List Entry) (s t : Stage) (old new : Option (List Event))
+    (spoken : ℕ → Option Talk) (o p : Outcome) → IsFit task → head.calls ≤ MOST_CALLS → head.mode ≡ Incremental
+    → IsAgainRun task head xs s o old new → IsTalkedRun task head ys t p spoken
+    → AnsweredAgain head.version task answers old new
+    → AnsweredBy head.version task (workers_in head) answers ys spoken → ¬ (o ≡ outcome.Limit States)
+    → ¬ (p ≡ outcome.Limit States) → xs ≡ ys

@@ -1,0 +1,5 @@
+pub mod Again
+pub mod Broken
+pub mod Laws
+pub mod Lives
+pub mod Tabled

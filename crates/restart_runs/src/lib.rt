@@ -1,0 +1,4 @@
+//! What holds of runs whose generators are started again where they fail.
+#![tactic(auto)]
+
+pub mod laws;
