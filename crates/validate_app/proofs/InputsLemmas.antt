@@ -9,6 +9,7 @@ use Rattle.legal_report.specs.declared.flaw.ReportFlaw.{ReportFlaw}
 use Rattle.plan_reader.specs.Plans.{RefusesPlan}
 use Rattle.stream_reader.specs.Fitness.{AreFitOver}
 use Rattle.task_model.specs.Fit.{leads}
+use Rattle.task_model.specs.Known.{Known}
 use Rattle.task_model.specs.declared.domain.Domain as domains
 use Rattle.task_model.specs.declared.stream.Stream.{Stream}
 use Rattle.task_model.specs.declared.task.Problem as problems
@@ -19,12 +20,29 @@ use Rattle.task_reader.specs.declared.refusal.InputRefusal.{InputRefusal}
 use Rattle.task_reader.specs.declared.refusal.InputRefusal.TheVariants as refusal
 use Rattle.transcript_model.specs.declared.entry.Entry.{Entry}
 use Rattle.validate_app.specs.Files.{EndsAt, TextsSeen, HasTextBytes}
-use Rattle.validate_app.specs.Inputs.{AreAcceptedBefore, AreStreamsBy, AreStreamsByWords, HasProblem, HoldsText, IsDomainOf, IsPlainTaskOf, IsTranscriptBy, IsTranscriptOf, StopsAtText, path_of, text_stop}
+use Rattle.validate_app.specs.Inputs.{AreAcceptedBefore, AreStreamsBy, AreStreamsByWords, HasProblem, HoldsText, IsCertain, IsDomainOf, IsPlainTaskOf, IsProblemOf, IsTranscriptBy, IsTranscriptOf, StopsAtText, path_of, text_stop}
 use Rattle.validate_app.specs.Words.{ReportWords, ValidateWords}
 use Rattle.validate_app.specs.declared.stop.FileRole.{FileRole}
 use Rattle.validate_app.specs.declared.stop.FileRole.TheVariants.{Domain, Problem, Streams, Report, Plan}
 use Rattle.validate_app.specs.declared.stop.Stop.{Stop}
 use Rattle.validate_app.specs.declared.stop.Stop.TheVariants as stop
+
+-- what texts spell is the same of an equal domain, and where later files tell the same
+pub problem_kept : (told later : Option FileMap) (w : ValidateWords) (d e : domains.Domain) (p : problems.Problem)
+    → later ≡ told → d ≡ e → IsProblemOf told w d p → IsProblemOf later w e p
+problem_kept told later w d e p same is so =
+    subst (λ files. IsProblemOf files w e p) (sym same) (subst (λ (x : domains.Domain). IsProblemOf told w x p) is so)
+
+-- and of an equal task
+pub transcript_kept : (told later : Option FileMap) (w : ValidateWords) (t u : Task) (entries : List Entry)
+    → later ≡ told → t ≡ u → IsTranscriptOf told w t entries → IsTranscriptOf later w u entries
+transcript_kept told later w t u entries same is so =
+    subst (λ files. IsTranscriptOf files w u entries) (sym same)
+    (subst (λ (x : Task). IsTranscriptOf told w x entries) is so)
+
+pub certain_kept : (told : Option FileMap) (w : ValidateWords) (t u : Task) (known : Known)
+    → t ≡ u → IsCertain told w t known → IsCertain told w u known
+certain_kept told w t u known is so = subst (λ (x : Task). IsCertain told w x known) is so
 
 -- where a run stops for want of memory alone, it may stop
 pub memory_stops : {T : Type 0} (files : TextsSeen) (w : ValidateWords) (r : Result T Stop)

@@ -3,10 +3,10 @@ use Rattle.learning.specs.declared.ledger.Ledger.{Ledger}
 use Rattle.task_model.specs.Fit.{IsFit}
 use Rattle.task_model.specs.Known.{Known}
 use Rattle.task_model.specs.declared.task.Task.{Task}
-use Rattle.validate_app.proofs.InputsLemmas.{stops_since}
+use Rattle.validate_app.proofs.InputsLemmas.{certain_kept, stops_since, transcript_kept}
 use Rattle.validate_app.proofs.OutcomesLemmas.{is_judged}
 use Rattle.validate_app.specs.Held.{held_paths}
-use Rattle.validate_app.specs.Inputs.{IsCertain, IsPlainTaskOf, IsTranscriptOf}
+use Rattle.validate_app.specs.Inputs.{IsPlainTaskOf}
 use Rattle.validate_app.specs.Verdicts.{IsPlanVerdict}
 use Rattle.validate_app.proofs.command.judge_files.Goals as goal
 
@@ -26,10 +26,7 @@ read_plan-requires g c =
       known.0,
       subst (λ told. IsPlainTaskOf told (held_paths c.args.paths.now) c.in-Ok.task.value)
           (sym (c.read_report.ensures.same ∙ c.read_task.ensures.same)) c.in-Ok.ensures.task,
-      subst (λ told. IsTranscriptOf told (held_paths c.args.paths.now) c.in-Ok.task.value known.0)
-          (sym c.read_report.ensures.same)
-          (subst (λ (task : Task). IsTranscriptOf _ (held_paths c.args.paths.now) task known.0) c.deref.ensures
-          known.1),
+      transcript_kept _ _ (held_paths c.args.paths.now) _ _ known.0 c.read_report.ensures.same c.deref.ensures known.1,
     )
 
 pub returns-in-Err-read_report-clause-stop : goal.returns-in-Err-read_report-clause-stop
@@ -52,8 +49,7 @@ returns-in-Ok-judge-clause-said g c =
     let known = c.in-Ok-read_report.ledger.value.facts.known in
     let calls = c.as_slice.result.now in
     let verdict = c.in-Ok-judge.verdict in
-    let certain = subst (λ (t : Task). IsCertain _ (held_paths c.args.paths.now) t known) c.deref.ensures
-    c.in-Ok-read_report.ensures.known in
+    let certain = certain_kept _ (held_paths c.args.paths.now) _ _ known c.deref.ensures c.in-Ok-read_report.ensures.known in
     let said = subst (λ (t : Task). IsPlanVerdict t known calls verdict) c.deref-2.ensures
     (subst (λ (k : Known). IsPlanVerdict c.deref-2.result.now k calls verdict)
     (ap (λ (l : Ledger). l.facts.known) c.deref-3.ensures) c.in-Ok-judge.ensures) in

@@ -4,7 +4,7 @@ use Rattle.task_model.specs.Fit.{IsFit, IsFitDomain}
 use Rattle.task_model.specs.declared.domain.Domain as domains
 use Rattle.problem_reader.specs.Fitness.{IsFitOver}
 use Rattle.stream_reader.specs.Fitness.{AreFitOver}
-use Rattle.validate_app.proofs.InputsLemmas.{memory_stops, stops_since}
+use Rattle.validate_app.proofs.InputsLemmas.{memory_stops, problem_kept, stops_since}
 use Rattle.validate_app.specs.Held.{held_paths}
 use Rattle.validate_app.specs.Inputs.{AreStreamsByWords, IsDomainOf, IsPlainTaskOf, IsProblemOf}
 use Rattle.validate_app.proofs.texts.read_task.Goals as goal
@@ -32,10 +32,8 @@ read_streams-requires-clause-domain g c =
 pub read_streams-requires-clause-problem : goal.read_streams-requires-clause-problem
 read_streams-requires-clause-problem g c = (
   c.in-Ok-read_problem.problem.value,
-  subst (λ told. IsProblemOf told (held_paths c.args.paths.now) c.deref-2.result.now c.in-Ok-read_problem.problem.value)
-      (sym c.read_problem.ensures.same)
-      (subst (λ (d : domains.Domain). IsProblemOf _ (held_paths c.args.paths.now) d c.in-Ok-read_problem.problem.value)
-      (c.deref.ensures ∙ sym c.deref-2.ensures) c.in-Ok-read_problem.ensures.problem),
+  problem_kept _ _ (held_paths c.args.paths.now) _ _ c.in-Ok-read_problem.problem.value c.read_problem.ensures.same
+      (c.deref.ensures ∙ sym c.deref-2.ensures) c.in-Ok-read_problem.ensures.problem,
 )
 
 pub returns-in-Err-read_streams-clause-stop : goal.returns-in-Err-read_streams-clause-stop
