@@ -10,6 +10,7 @@ mod right_asks;
 mod walk;
 
 pub use flaw::ReportFlaw;
-pub use report::{Certified, certify, line_of};
+pub use lines::lines_of;
+pub use report::{Certified, certify, certify_report, line_of};
 pub use right_answers::may_answer;
 pub use right_asks::asked_by;

@@ -17,7 +17,7 @@ fn line_count(entry: &Entry) -> usize
 }
 
 /// How many lines these entries have, fewer than 2^31.
-pub(crate) fn lines_of(entries: &[Entry]) -> usize
+pub fn lines_of(entries: &[Entry]) -> usize
     requires { length (flat_map entry_lines entries.now) < 2 ^ 31 }
     ensures { result ≡ length (flat_map entry_lines entries.now) }
 {
