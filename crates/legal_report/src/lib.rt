@@ -11,6 +11,6 @@ mod walk;
 
 pub use flaw::ReportFlaw;
 pub use lines::lines_of;
-pub use report::{Certified, certify};
+pub use report::{Certified, certify, certify_report};
 pub use right_answers::may_answer;
 pub use right_asks::asked_by;

@@ -35,8 +35,9 @@ fn line_of(report: &Report, place: usize) -> usize
     report.pools.len() + 3 + lines_of(before)
 }
 
-/// What is found of a report.
-fn certify_report(alloc: Global, task: &Task, report: &Report) -> Result<Certified, AllocError>
+/// What the transcript of a report certifies, of the stated forms and with fewer than 2^31 lines, over a
+/// fit task, as `certify` says it of a text. Fails only where memory is wanting.
+pub fn certify_report(alloc: Global, task: &Task, report: &Report) -> Result<Certified, AllocError>
     requires fit { IsFit task.now }
     requires formed { IsFormed report.now }
     requires lines { length (lines_of_report report.now) < 2 ^ 31 }

@@ -46,7 +46,7 @@ own_number_low : (known : Known) (slots : List ℕ) (term : CostTerm) (n : ℕ) 
 own_number_low known slots (Number m) n e = omega (arith, same_Some m n e)
 own_number_low known slots (Value func args) n e = omega arith
 
-own_cost_low : (known : Known) (slots : List ℕ) (terms : List CostTerm) (n : ℕ) → terms_cost known slots terms ≡ Some n
+pub own_cost_low : (known : Known) (slots : List ℕ) (terms : List CostTerm) (n : ℕ) → terms_cost known slots terms ≡ Some n
     → own_cost terms ≤ n
 own_cost_low known slots [] n e = omega arith
 own_cost_low known slots (term ∷ terms) n e =
@@ -104,24 +104,3 @@ fewest_consistent estimate task known is = record {
       ap (λ m. cut (up (estimate.least * m) estimate.width)) none ∙ ap (λ m. cut (up m estimate.width)) nothing
       ∙ ap cut (up_zero estimate.width);
 }
-
--- ---- lists that are gone through from the front
-
-pub widest_next : (actions : List Action) (i : ℕ) (a : Action) → i < length actions → a ≡ get_or actions i a
-    → widest (drop i actions) ≡ max (length a.adds) (widest (drop (i + 1) actions))
-widest_next actions i a lt is =
-    at_drop_more widest actions i a lt ∙ ap (λ (x : Action). max (length x.adds) (widest (drop (i + 1) actions))) (sym is)
-
-pub least_next : (actions : List Action) (i : ℕ) (a : Action) → i < length actions → a ≡ get_or actions i a
-    → least_own (drop i actions) ≡ min (own_cost a.costs) (least_own (drop (i + 1) actions))
-least_next actions i a lt is =
-    at_drop_more least_own actions i a lt ∙ ap (λ (x : Action). min (own_cost x.costs) (least_own (drop (i + 1) actions))) (sym is)
-
-pub own_next : (terms : List CostTerm) (i : ℕ) (t : CostTerm) → i < length terms → t ≡ get_or terms i t
-    → own_cost (drop i terms) ≡ own_number t + own_cost (drop (i + 1) terms)
-own_next terms i t lt is =
-    at_drop_more own_cost terms i t lt ∙ ap (λ x. own_number x + own_cost (drop (i + 1) terms)) (sym is)
-
-pub up_is : (m n : ℕ) → 0 < n → up m n ≡ m / n + min 1 (m % n)
-up_is m zero some = absurd (omega (arith, some))
-up_is m (suc n) some = refl

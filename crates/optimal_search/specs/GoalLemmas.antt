@@ -20,7 +20,7 @@ use Rattle.task_model.proofs.StateLemmas.{atoms_tied, atoms_total, contains-chan
 use Rattle.task_model.specs.AtomOrder.{atom_cmp}
 use Rattle.task_model.specs.Known.{Known}
 use Rattle.task_model.specs.Plans.{IsGoal}
-use Rattle.task_model.specs.State.{Atoms, contains, items, with_atoms, without_atoms}
+use Rattle.task_model.specs.State.{Atoms, contains, from_list, items, with_atoms, without_atoms}
 use Rattle.task_model.specs.Truth.{slots_of}
 use Rattle.task_model.specs.declared.fact.Atom.{Atom}
 use Rattle.task_model.specs.declared.task.Task.{Task}
@@ -28,7 +28,7 @@ use Rattle.optimal_search.specs.Bounds.{goal_atoms, missing}
 
 -- ---- lists
 
-any_there : {A : Type 0} (p : A → Bool) (xs : List A) (i : ℕ) (x : A) → slice_get xs i ≡ Some x → p x ≡ true
+pub any_there : {A : Type 0} (p : A → Bool) (xs : List A) (i : ℕ) (x : A) → slice_get xs i ≡ Some x → p x ≡ true
     → list_any p xs ≡ true
 any_there p [] i x at is = absurd (cc)
 any_there p (y ∷ ys) zero x at is =
@@ -80,6 +80,15 @@ tied_to ks a any =
     let found = any_found (eq_by_cmp atom_cmp a) ks any in
     let same : a ≡ found.1 = atoms_tied a found.1 ((Equal-is (atom_cmp a found.1)).0 found.3) in
     (found.0, found.2 ∙ ap Some (sym same))
+
+-- what stands in the list is in its set, and the other way round
+pub listed_there : (ks : List Atom) (a : Atom) → Contains ks a → contains (from_list ks) a ≡ true
+listed_there ks a c =
+    let at = place_of ks a c in
+    contains-from_list ks a ∙ any_there (eq_by_cmp atom_cmp a) ks at.0 a at.1 (self_tied a)
+
+pub there_listed : (ks : List Atom) (a : Atom) → contains (from_list ks) a ≡ true → Contains ks a
+there_listed ks a is = let at = tied_to ks a (sym (contains-from_list ks a) ∙ is) in member_at ks at.0 a at.1
 
 abbrev keys_of : List (Atom × Unit {0}) → List Atom
 keys_of es = map (λ (e : Atom × Unit {0}). e.0) es

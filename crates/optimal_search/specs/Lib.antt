@@ -10,3 +10,7 @@ pub mod GoalLemmas
 pub mod Lawful
 pub mod Nodes
 pub mod Searches
+pub mod Share
+pub mod ShareLemmas
+pub mod Shares
+pub mod SharesLemmas

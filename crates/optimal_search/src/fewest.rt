@@ -105,7 +105,7 @@ fn own_number(term: &CostTerm) -> u32
 }
 
 /// The sum of the terms that are numbers.
-fn own_cost(terms: &[CostTerm]) -> u64
+pub(crate) fn own_cost(terms: &[CostTerm]) -> u64
     requires { length terms.now ≤ 262144 }
     ensures { result ≡ own_cost_of terms.now }
 {

@@ -8,7 +8,10 @@ mod fewest;
 mod goal;
 mod relax;
 mod search;
+mod share;
+mod shares;
 
 pub use astar::cheapest;
 pub use consistent::Consistent;
 pub use fewest::Fewest;
+pub use shares::Shares;

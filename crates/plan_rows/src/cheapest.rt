@@ -7,7 +7,7 @@ use crate::plans::push_steps;
 use crate::searches::push_found;
 use best_first::{Blind, Found};
 use fact_store::Facts;
-use optimal_search::{Fewest, cheapest};
+use optimal_search::{Fewest, Shares, cheapest};
 use std::alloc::Global;
 use task_model::Task;
 use test_rows::{first_word, number};
@@ -28,6 +28,10 @@ fn cheapest_by(
         b"blind" => cheapest(alloc, task, facts, limit, &mut Blind)?,
         b"fewest" => {
             let mut estimate = Fewest::new(alloc, task)?;
+            cheapest(alloc, task, facts, limit, &mut estimate)?
+        }
+        b"shares" => {
+            let mut estimate = Shares::new(alloc, task, facts)?;
             cheapest(alloc, task, facts, limit, &mut estimate)?
         }
         _ => return Err(Fault::Unfit),

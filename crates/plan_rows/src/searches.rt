@@ -9,7 +9,7 @@ use best_first::{
 };
 use fact_store::Facts;
 use grounder::applicable;
-use optimal_search::Fewest;
+use optimal_search::{Fewest, Shares};
 use plan_check::initial;
 use std::alloc::{AllocError, Global};
 use std::fmt::Write;
@@ -168,6 +168,10 @@ pub(crate) fn add_estimate(
         }
         b"fewest" => {
             let mut estimate = Box::new(alloc, Fewest::new(alloc, task)?)?;
+            estimate_of(alloc, task, facts, &mut *estimate)?
+        }
+        b"shares" => {
+            let mut estimate = Box::new(alloc, Shares::new(alloc, task, facts)?)?;
             estimate_of(alloc, task, facts, &mut *estimate)?
         }
         _ => return Err(Fault::Unfit),
