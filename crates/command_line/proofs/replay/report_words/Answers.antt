@@ -1,0 +1,25 @@
+use Rattle.std.proofs.Common.{◌∙◌, ap, sym, Some}
+use Rattle.std.proofs.lemmas.Result.{err_from_is_err_and}
+use Rattle.clap.specs.Words.{is_simple_and_free}
+use Rattle.command_line.specs.Apps.{report_app}
+use Rattle.command_line.specs.Words.{replay_in}
+use Rattle.command_line.proofs.WordsLemmas.{read_rows, read_none}
+use Rattle.command_line.proofs.replay.report_words.Goals as goal
+
+pub matches_of_words-requires : goal.matches_of_words-requires
+matches_of_words-requires c = ap is_simple_and_free c.in_ok-command.ensures ∙ c.requires
+
+pub returns-in_err-matches-clause-usage : goal.returns-in_err-matches-clause-usage
+returns-in_err-matches-clause-usage c =
+    let p = err_from_is_err_and c.from_residual-in_err-matches.result c.from_residual-in_err-matches.ensures.1 in
+    rw (p.1, p.2) (λ why. read_none (report_app c.args.name.now) _ replay_in _ c.in_ok-command.ensures (c.in_err-matches.ensures.usage why))
+
+pub returns-in_default-clause-usage : goal.returns-in_default-clause-usage
+returns-in_default-clause-usage c = λ why.
+    read_rows (report_app c.args.name.now) _ replay_in _ c.in_ok-command.ensures _
+    c.in_ok-matches.ensures.taken c.in_ok-matches.ensures.rows ∙ sym c.in_default.ensures
+
+pub returns-clause-config : goal.returns-clause-config
+returns-clause-config c =
+    read_rows (report_app c.args.name.now) _ replay_in _ c.in_ok-command.ensures _
+    c.in_ok-matches.ensures.taken c.in_ok-matches.ensures.rows ∙ sym c.in-Some.ensures ∙ ap Some (sym c.in_ok-replay_held.ensures)
