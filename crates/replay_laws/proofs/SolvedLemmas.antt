@@ -85,7 +85,7 @@ same_work words asked (making n) one two = let both = sym one ∙ two in absurd 
 -- of a report that a run wrote, whose head asked for the cheapest plan, the cost is not told to be wrong
 cost_right : (limit : ℕ) (task : Task) (head : Head) (entries : List Entry) (o : Outcome) (v : Verdict)
     → IsSure head task entries o → head.optimal ≡ true
-    → IsOutcomeSaid limit task (report_of task head entries o) v o → (v ≡ verdict.Valid) ⊎ (v ≡ verdict.Limit)
+    → IsOutcomeSaid limit task (report_of task head entries o) o v → (v ≡ verdict.Valid) ⊎ (v ≡ verdict.Limit)
 cost_right limit task head entries (outcome.Plan steps cost from) verdict.Valid sure asked said = inl refl
 cost_right limit task head entries (outcome.Plan steps cost from) (verdict.Invalid line kind) sure asked said =
     let cheaper = said.2 in
@@ -167,7 +167,7 @@ module _ (files later : FileMap) (words others : List (List ℕ)) (outside after
       (written_formed run.task run.head run.entries solved.outcome run.fit can solved.turns short)
       (h.spelled ∙ whole_is run.task run.head run.entries solved.outcome) in
       cost_right judging.states run.task run.head run.entries solved.outcome v solved.turns.sure (headed.optimal ∙ cheapest)
-      (subst (λ (r : Report). IsOutcomeSaid judging.states run.task r v r.outcome) wrote_it h.said)
+      (subst (λ (r : Report). IsOutcomeSaid judging.states run.task r r.outcome v) wrote_it h.said)
 
   pub ends_valid : judging.optimal ≡ false → (end ≡ status.Done) × (said ≡ verdict_text verdict.Valid)
   ends_valid off =
