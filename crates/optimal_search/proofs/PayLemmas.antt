@@ -1,6 +1,6 @@
 -- What the steps of an action pay for.
-use Rattle.std.proofs.Common.{◌≡◌, ℕ, ◌+◌, ◌*◌, ◌<◌, ◌≤◌, List, map, length, Bool, ◌==◌, true, false, refl, sym, ap, subst, ◌∙◌, arith, Some, slice_get, Contains, if◌then◌else◌}
-use Rattle.std.proofs.lemmas.Bool.{eq-eqb}
+use Rattle.std.proofs.Common.{◌≡◌, ℕ, ◌+◌, ◌*◌, ◌≤◌, inl, inr, List, map, length, Bool, ◌==◌, true, false, sym, ap, subst, ◌∙◌, arith, Some, slice_get, Contains, if◌then◌else◌}
+use Rattle.std.proofs.lemmas.Bool.{cases_lt, eq-eqb}
 use Rattle.std.proofs.lemmas.List.{length-map}
 use Rattle.std.proofs.lemmas.Nat.{mul-le}
 use Rattle.std.proofs.lemmas.Option.{same_Some}
@@ -10,7 +10,7 @@ use Rattle.lemmas.proofs.Distinct.{from_mapped}
 use Rattle.lemmas.proofs.Members.{place_of}
 use Rattle.lemmas.specs.Lists.{AreDistinct}
 use Rattle.task_model.specs.Known.{Known}
-use Rattle.task_model.specs.State.{contains}
+use Rattle.task_model.specs.State.{Atoms, contains}
 use Rattle.task_model.specs.Steps.{atom_of, cost_of, terms_cost}
 use Rattle.task_model.specs.Truth.{have_types, is_true, slots_of}
 use Rattle.task_model.specs.declared.domain.Action.{Action}
@@ -20,9 +20,9 @@ use Rattle.task_model.specs.declared.task.Task.{Task}
 use Rattle.optimal_search.specs.FewestLemmas.{own_cost_low}
 use Rattle.optimal_search.specs.GoalLemmas.{any_there, there_listed}
 use Rattle.optimal_search.specs.Bounds.{own_cost}
-use Rattle.optimal_search.specs.Share.{AreLower, goals_of, is_named, lowered, met}
+use Rattle.optimal_search.specs.Share.{AreFair, AreLower, goals_of, is_named, lowered, met}
 use Rattle.optimal_search.specs.ShareLemmas.{fair_lower, fair_mapped, few_met}
-use Rattle.optimal_search.specs.Shares.{IsSharedStep, PaysShares, adds_of, own_least}
+use Rattle.optimal_search.specs.Shares.{IsSharedStep, PayShares, PaysShares, adds_of, own_least}
 use Rattle.optimal_search.specs.declared.share.Share.{Share}
 use Rattle.optimal_search.specs.declared.shares.TheConstants.{UNIT}
 
@@ -75,3 +75,35 @@ module _ (task : Task) (known : Known) (action : Action) where
       let dear = mul-le (own_least task action) UNIT cost UNIT (least_paid step.args cost costs) (omega arith) in
       fair_mapped (is_named action.adds) comes most (cost * UNIT) ss (λ g c e. named_add step.args g (there g e))
       (omega (arith, width_met, paid, dear))
+
+  module _ (args : List ℕ) (come : Atoms) (old new : List Share) (count cost : ℕ) (same : come ≡ adds_of action args)
+      (counted : count ≡ met old (contains come)) where
+    -- where some of the goal's atoms come, and the cost is divided by how many
+    pub shared_some : (most : ℕ) → new ≡ map (lowered (contains come) most) old → most * count ≤ cost * UNIT
+        → AreFair new (contains (adds_of action args)) (cost * UNIT)
+    shared_some most is paid =
+        subst (λ (ss : List Share). AreFair ss (contains (adds_of action args)) (cost * UNIT)) (sym is)
+        (subst (λ (cs : Atoms). AreFair (map (lowered (contains come) most) old) (contains cs) (cost * UNIT)) same
+        (fair_mapped (contains come) (contains come) most (cost * UNIT) old (λ g c e. e)
+        (subst (λ n. most * n ≤ cost * UNIT) counted paid)))
+
+    -- where none comes
+    pub shared_none : new ≡ old → count ≤ 0 → AreFair new (contains (adds_of action args)) (cost * UNIT)
+    shared_none is few =
+        let none : met old (contains come) ≡ 0 = omega (arith, few, counted) in
+        let gone : met new (contains (adds_of action args)) ≡ 0 =
+        ap (λ (ss : List Share). met ss (contains (adds_of action args))) is ∙ sym (ap (λ (cs : Atoms). met old (contains cs)) same) ∙ none in
+        λ s there e. subst (λ m. s.part * m ≤ cost * UNIT) (sym gone) (omega arith)
+
+-- one action more
+pub pays_next : (task : Task) (known : Known) (number : ℕ) (action : Action) (old new : List Share)
+    → slice_get task.domain.actions number ≡ Some action → AreLower old new → PayShares task known number old
+    → PaysShares task known action new → PayShares task known (number + 1) new
+pays_next task known number action old new named lower before pays n other below at =
+    elim (cases_lt n number) [
+      | inl earlier ↦ pays_lower task known other old new lower (before n other earlier at)
+      | inr from ↦
+          let last : number ≡ n = omega (arith, below, from) in
+          let same = same_Some action other (sym named ∙ ap (slice_get task.domain.actions) last ∙ at) in
+          subst (λ (a : Action). PaysShares task known a new) same pays
+    ]

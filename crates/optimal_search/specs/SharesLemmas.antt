@@ -1,5 +1,5 @@
 -- The bound by the shares of the goal atoms that are missing is consistent.
-use Rattle.std.proofs.Common.{◌≡◌, ℕ, ◌*◌, refl, ap, subst, ◌∙◌, map, true, arith, Contains}
+use Rattle.std.proofs.Common.{◌≡◌, ◌*◌, refl, ap, subst, ◌∙◌, map, true, arith, Contains}
 use Rattle.task_model.specs.Known.{Known}
 use Rattle.task_model.specs.State.{contains}
 use Rattle.task_model.specs.Steps.{atom_of}
