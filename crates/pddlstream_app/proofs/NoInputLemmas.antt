@@ -2,7 +2,7 @@
 use Rattle.std.proofs.Common.{◌≡◌, ℕ, List, [], refl, sym, subst, inl, inr, Some}
 use Rattle.command_files.specs.declared.stop.Stop.TheVariants.{Usage, Input, Map, Grid, Failed, TooLong, Run}
 use Rattle.round_run.specs.declared.fault.RunFault.TheVariants as fault
-use Rattle.command_line.specs.Words.{Command, SolveWords, command_of, solve}
+use Rattle.command_line.specs.Words.{Command, SolveWords, command_of, generate, solve}
 use Rattle.command_files.specs.Inputs.{EndsAtFile, EndsReading, MayEnd, SolvesNothing, files_named}
 use Rattle.io_world.specs.Faults.{Extends}
 use Rattle.command_files.specs.Files.{FileWanted}

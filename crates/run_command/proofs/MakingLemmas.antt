@@ -1,5 +1,5 @@
 -- The task of a number, as it is made and solved.
-use Rattle.std.proofs.Common.{◌≡◌, ℕ, arith, List, None, Some, sym, subst, ap, inl, Result, Ok, Err, Option}
+use Rattle.std.proofs.Common.{◌≡◌, ℕ, arith, List, None, Some, refl, sym, subst, ap, inl, Result, Ok, Err, Option}
 use Rattle.command_line.specs.Ranges.{AreInRange}
 use Rattle.command_line.specs.Words.{SolveWords}
 use Rattle.grid_text.specs.Tasks.{grid_task}

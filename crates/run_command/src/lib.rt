@@ -2,9 +2,9 @@
 #![tactic(auto)]
 
 mod head;
-mod make;
+mod maker;
 mod modes;
-mod solve;
+mod solver;
 
-pub use make::make;
-pub use solve::solve;
+pub use maker::make;
+pub use solver::solve;

@@ -13,7 +13,7 @@ ghost use Rattle.run_command.specs.Works as works;
 ghost use Rattle.round_run.specs.declared.fault.RunFault.TheVariants as fault;
 ghost use Rattle.command_files.specs.declared.stop.Stop.TheVariants.{Run};
 
-use crate::solve::{report, status_of};
+use crate::solver::{report, status_of};
 use command_files::{Status, Stop};
 use command_line::{DEFAULT_CALLS, DEFAULT_DEPTH, DEFAULT_STATES, SolveConfig};
 use grid_text::grid_task;

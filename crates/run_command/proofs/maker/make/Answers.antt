@@ -9,7 +9,7 @@ use Rattle.run_command.proofs.CausesLemmas.{host_of_lined, lined_at_text, spared
 use Rattle.run_command.proofs.MakingLemmas.{made_in_range, made_seen, makes_run, solved_made, unsolved_made}
 use Rattle.run_command.specs.Making.{MakesRun}
 use Rattle.run_command.specs.Works.{seen_made}
-use Rattle.run_command.proofs.make.make.Goals as goal
+use Rattle.run_command.proofs.maker.make.Goals as goal
 
 pub report-requires-clause-within : goal.report-requires-clause-within
 report-requires-clause-within g c = made_in_range (held_solve c.in_ok-words.words) c.in_ok-words.ensures

@@ -10,7 +10,7 @@ use Rattle.run_command.proofs.PoolsLemmas.{asks_all, ends_at_grid, ends_at_pools
 use Rattle.command_line.specs.Held.{held_solve}
 use Rattle.command_files.specs.Inputs.{file_at, task_files}
 use Rattle.command_files.specs.declared.stop.FileRole.TheVariants as role
-use Rattle.run_command.proofs.solve.report.Goals as goal
+use Rattle.run_command.proofs.solver.report.Goals as goal
 
 pub returns-in_err-task-clause-failed : goal.returns-in_err-task-clause-failed
 returns-in_err-task-clause-failed g c =

@@ -1,7 +1,7 @@
 use Rattle.std.proofs.Common.{◌≡◌, ◌++◌, ◌∙◌, List, ℕ, ap, append_assoc, codes}
 use Rattle.std.proofs.lemmas.Result.{IfOk-weaker}
 use Rattle.std.specs.Fmt.{decimal}
-use Rattle.run_command.proofs.make.made_line.Goals as goal
+use Rattle.run_command.proofs.maker.made_line.Goals as goal
 
 pub returns : goal.returns
 returns c =
