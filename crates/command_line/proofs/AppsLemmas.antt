@@ -1,10 +1,10 @@
 -- Words that clap takes, and those that it refuses.
-use Rattle.std.proofs.Common.{◌≡◌, ◌≢◌, true, false, List, [], ◌∷◌, codes, refl, inl, inr}
+use Rattle.std.proofs.Common.{◌≡◌, ◌≢◌, true, false, List, [], ◌∷◌, refl, inl, inr}
 use Rattle.clap.specs.Words.{App, HasKind, Kinds, Text, fault_of, kind_of, is_simple_and_free}
 use Rattle.clap.specs.declared.error.Error.{Error}
 use Rattle.clap.specs.declared.error.kind.ErrorKind.TheVariants.{OutOfMemory}
 use Rattle.clap.proofs.OnLiterals.{clap_on_literals}
-use Rattle.command_line.specs.Apps.{are_none, deorder_app, generate_app, is_taken, migrate_app, play_app, replay_app, report_app, solve_app}
+use Rattle.command_line.specs.Apps.{are_none, deorder_app, generate_app, is_taken, migrate_app, play_app, replay_app, solve_app}
 
 pub taken : (app : App) (words : List Text) → fault_of app words ≡ [] → is_taken app words ≡ true
 unfolding is_taken
@@ -28,12 +28,12 @@ pub solve_simple : is_simple_and_free solve_app ≡ true
 unfolding clap_on_literals solve_app
 solve_simple = refl
 
-pub replay_simple : is_simple_and_free (report_app (codes "replay")) ≡ true
-unfolding clap_on_literals
+pub replay_simple : is_simple_and_free replay_app ≡ true
+unfolding clap_on_literals replay_app
 replay_simple = refl
 
-pub deorder_simple : is_simple_and_free (report_app (codes "deorder")) ≡ true
-unfolding clap_on_literals
+pub deorder_simple : is_simple_and_free deorder_app ≡ true
+unfolding clap_on_literals deorder_app
 deorder_simple = refl
 
 pub play_simple : is_simple_and_free play_app ≡ true

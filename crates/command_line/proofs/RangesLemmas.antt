@@ -10,7 +10,7 @@ use Rattle.clap.specs.Words.{App, Row, Text, first_of, matches_of}
 use Rattle.command_line.specs.Apps.{deorder_app, generate_app, is_taken, play_app, replay_app, solve_app}
 use Rattle.command_line.specs.Numbers.{are_few_digits, count_in, count_in_word, count_or, is_count}
 use Rattle.command_line.specs.Ranges.{AreInRange, IsFromOne, IsInRange}
-use Rattle.command_line.specs.Words.{Command, GivenLimits, PlayWords, ReplayWords, SolveWords, are_apart, command_of, deorder, deorder_of, files_in, generate, generate_in, generate_of, goes_with, is_set, limits_in, migrate, migrate_of, mode_or, path_in, play, play_in, play_of, program_in, read_by, replay, replay_in, replay_of, solve, solve_in, solve_of}
+use Rattle.command_line.specs.Words.{Command, GivenLimits, PlayWords, ReplayWords, SolveWords, are_apart, command_of, deorder, deorder_in, deorder_of, files_in, generate, generate_in, generate_of, goes_with, is_set, limits_in, migrate, migrate_of, mode_or, path_in, play, play_in, play_of, program_in, read_by, replay, replay_in, replay_of, report_in, solve, solve_in, solve_of}
 use Rattle.lemmas.proofs.Options.{and_then_some, where_true}
 use Rattle.std.proofs.lemmas.Option.{same_Some}
 
@@ -102,9 +102,9 @@ solve_between rows w e =
     } in
     subst AreInRange (same_Some made w found.1) ranges
 
-replay_between : (rows : List Row) (w : ReplayWords) → replay_in rows ≡ Some w
+report_between : (optimal : Bool) (rows : List Row) (w : ReplayWords) → report_in optimal rows ≡ Some w
     → IsFromOne 200000 w.states
-replay_between rows w e =
+report_between optimal rows w e =
     let files = and_then_some _ (files_in rows) w e in
     let report = and_then_some _ (first_of (codes "report") rows) w files.2 in
     let states = and_then_some _ (count_in (codes "states") 200000 100000 rows) w report.2 in
@@ -144,7 +144,8 @@ replay_found : (words : List Text) (c : Command) → option_map replay (replay_o
 replay_found words c e =
     let found = map_some replay (replay_of words) c e in
     let read = read_some replay_app replay_in words found.0 found.1 in
-    subst IsInRange found.2 (replay_between (matches_of replay_app words) found.0 read)
+    let rows = matches_of replay_app words in
+    subst IsInRange found.2 (report_between (is_set (codes "optimal") rows) rows found.0 read)
 
 generate_found : (words : List Text) (c : Command)
     → option_map generate (generate_of words) ≡ Some c → IsInRange c
@@ -163,8 +164,8 @@ deorder_found : (words : List Text) (c : Command) → option_map deorder (deorde
     → IsInRange c
 deorder_found words c e =
     let found = map_some deorder (deorder_of words) c e in
-    let read = read_some deorder_app replay_in words found.0 found.1 in
-    subst IsInRange found.2 (replay_between (matches_of deorder_app words) found.0 read)
+    let read = read_some deorder_app deorder_in words found.0 found.1 in
+    subst IsInRange found.2 (report_between false (matches_of deorder_app words) found.0 read)
 
 play_found : (words : List Text) (c : Command) → option_map play (play_of words) ≡ Some c
     → IsInRange c

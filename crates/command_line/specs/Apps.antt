@@ -38,9 +38,9 @@ solve_app =
 abbrev pub report_app : Text → App
 report_app name = with_rule (with_rule (task_app name) (positional (codes "report"))) (option (codes "states"))
 
--- replay DOMAIN PROBLEM STREAMS REPORT [--states N]
+-- replay DOMAIN PROBLEM STREAMS REPORT [--states N] [--optimal]
 unfoldable pub replay_app : App
-replay_app = report_app (codes "replay")
+replay_app = with_rule (report_app (codes "replay")) (flag (codes "optimal"))
 
 -- generate N
 unfoldable pub generate_app : App

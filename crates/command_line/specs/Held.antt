@@ -26,6 +26,7 @@ held_replay c = record {
   files = record { domain = string_bytes c.domain; problem = string_bytes c.problem; streams = string_bytes c.streams };
   report = string_bytes c.report;
   states = c.states;
+  optimal = c.optimal;
 }
 
 -- `play`, by the bytes of its texts

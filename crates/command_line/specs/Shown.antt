@@ -45,7 +45,7 @@ shown_solve = option_map lent_solve
 
 -- `replay` or `deorder`
 abbrev pub lent_replay : code_replay.ReplayWords → ReplayWords
-lent_replay w = record { files = lent_files w.files; report = w.report.now; states = w.states }
+lent_replay w = record { files = lent_files w.files; report = w.report.now; states = w.states; optimal = w.optimal }
 
 abbrev pub shown_replay : Option code_replay.ReplayWords → Option ReplayWords
 shown_replay = option_map lent_replay

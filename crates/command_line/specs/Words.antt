@@ -33,11 +33,12 @@ pub record SolveWords : Type 0 where
   pub protocol : ℕ
   pub optimal : Bool
 
--- `replay` or `deorder` with a task, a report, and the most states
+-- `replay` or `deorder` with a task, a report, the most states, and whether the plan's cost is judged too
 pub record ReplayWords : Type 0 where
   pub files : TaskFiles
   pub report : Text
   pub states : ℕ
+  pub optimal : Bool
 
 -- `play` with a task, a report, a grid, and the most states
 pub record PlayWords : Type 0 where
@@ -148,13 +149,21 @@ solve_in rows =
     })
     else None)))))
 
--- the words of `replay` and `deorder`
-abbrev pub replay_in : List Row → Option ReplayWords
-replay_in rows =
+-- the words of `replay` and `deorder`, where the plan's cost is judged too or isn't
+abbrev pub report_in : Bool → List Row → Option ReplayWords
+report_in optimal rows =
     if_given (files_in rows) (λ files.
     if_given (first_of (codes "report") rows) (λ report.
     if_given (count_in (codes "states") MOST_STATES DEFAULT_STATES rows) (λ states.
-    Some (record { files = files; report = report; states = states }))))
+    Some (record { files = files; report = report; states = states; optimal = optimal }))))
+
+-- the words of `replay`
+abbrev pub replay_in : List Row → Option ReplayWords
+replay_in rows = report_in (is_set (codes "optimal") rows) rows
+
+-- the words of `deorder`
+abbrev pub deorder_in : List Row → Option ReplayWords
+deorder_in = report_in false
 
 -- the words of `play`
 abbrev pub play_in : List Row → Option PlayWords
@@ -197,7 +206,7 @@ migrate_of = read_by migrate_app migrate_in
 
 -- what words mean of which the first is `deorder`
 abbrev pub deorder_of : List Text → Option ReplayWords
-deorder_of = read_by deorder_app replay_in
+deorder_of = read_by deorder_app deorder_in
 
 -- what words mean of which the first is `play`
 abbrev pub play_of : List Text → Option PlayWords

@@ -34,9 +34,9 @@ pub struct SolveConfig {
     pub optimal: bool,
 }
 
-/// A report is to be judged: `replay DOMAIN PROBLEM STREAMS REPORT [--states N]`, or its plan's order
-/// is to be told: `deorder`, with the same words (this project). Paths are as the words give them,
-/// and may be empty; no file is looked at here.
+/// A report is to be judged: `replay DOMAIN PROBLEM STREAMS REPORT [--states N] [--optimal]`, or its
+/// plan's order is to be told: `deorder`, with the same words but `--optimal` (this project). Paths
+/// are as the words give them, and may be empty; no file is looked at here.
 #[derive(Debug, Drop)]
 pub struct ReplayConfig {
     /// DOMAIN, the path of the domain's text.
@@ -49,6 +49,8 @@ pub struct ReplayConfig {
     pub report: String,
     /// The most states of a search of the judge, 1 to 200,000: `--states`, and 100,000 without it.
     pub states: u32,
+    /// Whether the plan's cost is to be judged too: `--optimal`, which `deorder` hasn't.
+    pub optimal: bool,
 }
 
 /// A report's plan is to be acted out on a grid: `play DOMAIN PROBLEM STREAMS REPORT GRID [--states

@@ -1,12 +1,12 @@
-//! The words of `replay DOMAIN PROBLEM STREAMS REPORT [--states N]`, and of `deorder`.
-ghost use Rattle.std.specs.Prelude.{◌≡◌, IfOk, IfErr, None, Some, map, string_bytes, true};
-ghost use Rattle.clap.specs.Words.{app_of, found_of, is_simple_and_free, rows_of};
-ghost use Rattle.command_line.specs.Apps.{report_app};
+//! The words of `replay DOMAIN PROBLEM STREAMS REPORT [--states N] [--optimal]`, and of `deorder`.
+ghost use Rattle.std.specs.Prelude.{◌≡◌, IfOk, IfErr, None, Some, map, string_bytes};
+ghost use Rattle.clap.specs.Words.{app_of, found_of, rows_of};
+ghost use Rattle.command_line.specs.Apps.{deorder_app, replay_app, report_app};
 ghost use Rattle.command_line.specs.Held.{held_replay};
 ghost use Rattle.command_line.specs.Shown.{lent_replay, shown_replay};
-ghost use Rattle.command_line.specs.Words.{deorder_of, read_by, replay_in, replay_of};
+ghost use Rattle.command_line.specs.Words.{deorder_of, replay_of, report_in};
 
-use crate::line::{matches_of_words, option, positional, text_in};
+use crate::line::{flag, matches_of_words, option, positional, set_in, text_in};
 use crate::number::{DEFAULT_STATES, count_in};
 use crate::task::{TaskFiles, files_in, task_command};
 use crate::{ReplayConfig, WordsFault};
@@ -20,6 +20,7 @@ struct ReplayWords<'a> {
     files: TaskFiles<'a>,
     report: &'a str,
     states: u32,
+    optimal: bool,
 }
 
 fn report_command<'a>(alloc: Global, name: &'static str) -> Result<Command<'a>, AllocError>
@@ -30,8 +31,20 @@ fn report_command<'a>(alloc: Global, name: &'static str) -> Result<Command<'a>, 
         .arg(option(alloc, "states"))
 }
 
-fn replay_in<'a>(matches: &ArgMatches<'a>) -> Option<ReplayWords<'a>>
-    ensures { shown_replay result ≡ replay_in (rows_of (found_of matches.now)) }
+fn replay_command<'a>(alloc: Global) -> Result<Command<'a>, AllocError>
+    ensures { IfOk result (λ c. app_of c ≡ replay_app) }
+{
+    report_command(alloc, "replay")?.arg(flag(alloc, "optimal"))
+}
+
+fn deorder_command<'a>(alloc: Global) -> Result<Command<'a>, AllocError>
+    ensures { IfOk result (λ c. app_of c ≡ deorder_app) }
+{
+    report_command(alloc, "deorder")
+}
+
+fn report_in<'a>(matches: &ArgMatches<'a>, optimal: bool) -> Option<ReplayWords<'a>>
+    ensures { shown_replay result ≡ report_in optimal (rows_of (found_of matches.now)) }
 {
     let files = files_in(matches)?;
     let report = text_in(matches, "report")?;
@@ -40,6 +53,7 @@ fn replay_in<'a>(matches: &ArgMatches<'a>) -> Option<ReplayWords<'a>>
         files,
         report,
         states,
+        optimal,
     })
 }
 
@@ -52,27 +66,8 @@ fn replay_held(alloc: Global, words: ReplayWords<'_>) -> Result<ReplayConfig, Al
         streams: String::from_str(alloc, words.files.streams)?,
         report: String::from_str(alloc, words.report)?,
         states: words.states,
+        optimal: words.optimal,
     })
-}
-
-/// What words ask for of a command of this name.
-fn report_words(
-    alloc: Global,
-    name: &'static str,
-    words: &[String],
-) -> Result<ReplayConfig, WordsFault>
-    requires { is_simple_and_free (report_app name.now) ≡ true }
-    ensures config { IfOk result (λ c. read_by (report_app name.entry.now) replay_in
-        (map string_bytes words.now) ≡ Some (held_replay c)) }
-    ensures usage { IfErr result (λ why. why ≡ WordsFault.Usage
-        → read_by (report_app name.entry.now) replay_in (map string_bytes words.now) ≡ None) }
-{
-    let command = report_command(alloc, name)?;
-    let matches = matches_of_words(command, words)?;
-    let Some(read) = replay_in(&matches) else {
-        return Err(WordsFault::Usage);
-    };
-    Ok(replay_held(alloc, read)?)
 }
 
 /// What words ask for of which the first is `replay`.
@@ -82,7 +77,12 @@ pub(crate) fn replay(alloc: Global, words: &[String]) -> Result<ReplayConfig, Wo
     ensures usage { IfErr result (λ why. why ≡ WordsFault.Usage
         → replay_of (map string_bytes words.now) ≡ None) }
 {
-    report_words(alloc, "replay", words)
+    let command = replay_command(alloc)?;
+    let matches = matches_of_words(command, words)?;
+    let Some(read) = report_in(&matches, set_in(&matches, "optimal")) else {
+        return Err(WordsFault::Usage);
+    };
+    Ok(replay_held(alloc, read)?)
 }
 
 /// What words ask for of which the first is `deorder`.
@@ -92,5 +92,10 @@ pub(crate) fn deorder(alloc: Global, words: &[String]) -> Result<ReplayConfig, W
     ensures usage { IfErr result (λ why. why ≡ WordsFault.Usage
         → deorder_of (map string_bytes words.now) ≡ None) }
 {
-    report_words(alloc, "deorder", words)
+    let command = deorder_command(alloc)?;
+    let matches = matches_of_words(command, words)?;
+    let Some(read) = report_in(&matches, false) else {
+        return Err(WordsFault::Usage);
+    };
+    Ok(replay_held(alloc, read)?)
 }

@@ -21,7 +21,7 @@ abbrev task : Text → List Text → List Text
 task name rest = name ∷ codes "d" ∷ codes "p" ∷ codes "s" ∷ rest
 
 replay_states : command_of (task (codes "replay") (codes "r" ∷ codes "--states=0000005" ∷ []))
-    ≡ Some (replay (record { files = files; report = codes "r"; states = 5 }))
+    ≡ Some (replay (record { files = files; report = codes "r"; states = 5; optimal = false }))
 unfolding clap_on_literals command_of read_by is_taken replay_app is_count
 replay_states = refl
 
@@ -29,10 +29,10 @@ replay_twice : command_of (task (codes "replay") (codes "r" ∷ codes "--states=
 unfolding clap_on_literals command_of read_by is_taken replay_app is_count
 replay_twice = refl
 
-solve_optimal : command_of (task (codes "solve") (codes "--optimal" ∷ codes "g" ∷ []))
-    ≡ Some (solve (record (with_program (codes "g" ∷ []) 10000) { optimal = true }))
-unfolding clap_on_literals command_of read_by is_taken solve_app is_count
-solve_optimal = refl
+replay_optimal : command_of (task (codes "replay") (codes "r" ∷ codes "--optimal" ∷ []))
+    ≡ Some (replay (record { files = files; report = codes "r"; states = 100000; optimal = true }))
+unfolding clap_on_literals command_of read_by is_taken replay_app is_count
+replay_optimal = refl
 
 optimal_focused : command_of (task (codes "solve") (codes "--optimal" ∷ codes "--algorithm=focused" ∷ [])) ≡ None
 unfolding clap_on_literals command_of read_by is_taken solve_app is_count

@@ -33,6 +33,13 @@ fn mode_word(mode: Mode) -> &'static str {
     }
 }
 
+/// Writes that the cheapest plan is asked for.
+fn write_optimal(out: &mut Out, optimal: bool) {
+    if optimal {
+        out.put(" optimal");
+    }
+}
+
 /// Writes paths, calls, states, depth, workers and mode, the protocol where it isn't 1, whether the
 /// cheapest plan is asked for, and then the map or the program.
 fn write_solve(out: &mut Out, config: &SolveConfig) {
@@ -49,9 +56,7 @@ fn write_solve(out: &mut Out, config: &SolveConfig) {
         out.put(" protocol");
         write_number(out, u32::from(config.protocol));
     }
-    if config.optimal {
-        out.put(" optimal");
-    }
+    write_optimal(out, config.optimal);
     if let Some(map) = &config.map {
         out.put(" map");
         write_word(out, map.as_str());
@@ -59,7 +64,7 @@ fn write_solve(out: &mut Out, config: &SolveConfig) {
     write_words(out, config.program.as_slice());
 }
 
-/// Writes the command's name, paths and states.
+/// Writes the command's name, paths and states, and whether the plan's cost is judged too.
 fn write_judged(out: &mut Out, name: &str, config: &ReplayConfig) {
     out.put(name);
     write_word(out, config.domain.as_str());
@@ -67,6 +72,7 @@ fn write_judged(out: &mut Out, name: &str, config: &ReplayConfig) {
     write_word(out, config.streams.as_str());
     write_word(out, config.report.as_str());
     write_number(out, config.states);
+    write_optimal(out, config.optimal);
 }
 
 /// Writes paths and states.

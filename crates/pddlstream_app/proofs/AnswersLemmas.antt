@@ -7,14 +7,13 @@ use Rattle.round_run.proofs.CallsRunLemmas.{stops_none}
 use Rattle.round_run.proofs.StoppedLemmas.{same_err}
 use Rattle.round_run.specs.declared.fault.RunFault.TheVariants as fault
 use Rattle.report_text.proofs.PrintsLemmas.{appends_none}
-use Rattle.replay_check.specs.Verdicts.{IsVerdict}
 use Rattle.command_line.specs.Words.{Command, PlayWords, ReplayWords, TaskFiles, command_of, deorder, play, replay}
 use Rattle.grid_text.specs.Files.{IsGridOf}
 use Rattle.grid_text.specs.Grids.{GridFile}
 use Rattle.pddlstream_app.proofs.AskedLemmas.{asked_reading}
 use Rattle.pddlstream_app.proofs.NoInputLemmas.{command_input}
 use Rattle.pddlstream_app.proofs.RunsLemmas.{stopped_early, stopped_reading}
-use Rattle.pddlstream_app.specs.AnswerOf.{HasAnswer, IsCommandAnswer, SaysVerdict}
+use Rattle.pddlstream_app.specs.AnswerOf.{HasAnswer, IsCommandAnswer, IsVerdictFor, SaysVerdict}
 use Rattle.command_files.specs.Inputs.{AreReported, AsksAllOf, EndsAtFile, reads, task_files}
 use Rattle.pddlstream_app.specs.Answering.{IsAnswerTold, IsUnmade}
 use Rattle.pddlstream_app.specs.Asked.{AsksAll, AsksBefore}
@@ -54,7 +53,7 @@ ends_reported {files} {why} more {paths} {others} {path} {other} same is ends =
 
 -- a verdict on the report is an answer
 pub judged : (w : ReplayWords) (told : Option FileMap) (r : Reported) → AreReported told w.files w.report r
-    → (status : Status) (text : List ℕ) → SaysVerdict (IsVerdict w.states r.task r.bytes.items) status text
+    → (status : Status) (text : List ℕ) → SaysVerdict (IsVerdictFor w.optimal w.states r.task r.bytes.items) status text
     → IsCommandAnswer (replay w) told status text
 judged w told r read status text said =
     let t = read.task in

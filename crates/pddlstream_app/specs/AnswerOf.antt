@@ -7,6 +7,7 @@ use Rattle.io_world.specs.FileMap.{FileMap}
 use Rattle.task_model.specs.Fit.{IsFit}
 use Rattle.task_model.specs.declared.task.Task.{Task}
 use Rattle.task_reader.specs.Tasks.{SpellsTask}
+use Rattle.optimal_check.specs.Verdicts.{IsCostVerdict}
 use Rattle.replay_check.specs.Verdicts.{IsVerdict}
 use Rattle.replay_check.specs.declared.verdict.Verdict.{Verdict}
 use Rattle.command_files.specs.Files.{AreBytes}
@@ -31,6 +32,11 @@ abbrev pub SaysVerdict : (Verdict → Type 0) → Status → List ℕ → Type 0
 SaysVerdict IsSo status text =
     (v : Verdict) × IsSo v × (kind_of_verdict v ≡ status) × (text ≡ verdict_text v)
 
+-- what is said of the bytes of a report, of the plan's cost too or without it
+abbrev pub IsVerdictFor : (optimal : Bool) → ℕ → Task → List ℕ → Verdict → Type 0
+IsVerdictFor false = IsVerdict
+IsVerdictFor true = IsCostVerdict
+
 -- the bytes are a grid of which this is said
 abbrev pub OverGrid : List ℕ → (GridFile → Type 0) → Type 0
 OverGrid bytes Says = (grid : GridFile) × IsGridOf bytes grid × Says grid
@@ -38,7 +44,7 @@ OverGrid bytes Says = (grid : GridFile) × IsGridOf bytes grid × Says grid
 -- how a command ends and what it says, of the bytes of its files, in the order in which they are read
 abbrev pub AnswerOf : Command → List (List ℕ) → Status → List ℕ → Type 0
 AnswerOf (replay w) (domain ∷ problem ∷ streams ∷ report ∷ []) status text =
-    OverTask domain problem streams (λ task. SaysVerdict (IsVerdict w.states task report) status text)
+    OverTask domain problem streams (λ task. SaysVerdict (IsVerdictFor w.optimal w.states task report) status text)
 AnswerOf (migrate path) (report ∷ []) status text = IsMigrated report status text
 AnswerOf (deorder w) (domain ∷ problem ∷ streams ∷ report ∷ []) status text =
     OverTask domain problem streams (λ task. SaysOfReport w.states task report (SaysOrder task) status text)

@@ -1,7 +1,7 @@
 //! What `replay` answers.
 ghost use Rattle.std.specs.Prelude.{◌≡◌, ◌<◌, ◌≤◌, ◌^◌, ◌++◌, length, codes, IfOk};
 ghost use Rattle.std.specs.Fmt.{decimal};
-ghost use Rattle.pddlstream_app.specs.AnswerOf.{SaysVerdict};
+ghost use Rattle.pddlstream_app.specs.AnswerOf.{IsVerdictFor, SaysVerdict};
 ghost use Rattle.pddlstream_app.specs.Answering.{IsMade};
 ghost use Rattle.command_files.specs.Outside.{seen_of};
 ghost use Rattle.command_files.specs.Paths.{held_files};
@@ -12,13 +12,13 @@ ghost use Rattle.command_line.specs.Words.{replay as to_replay};
 ghost use Rattle.task_model.specs.Fit.{IsFit};
 ghost use Rattle.task_model.specs.declared.limits.TheConstants.{MOST_STATES};
 ghost use Rattle.replay_check.specs.Kinds.{breach_number};
-ghost use Rattle.replay_check.specs.Verdicts.{IsVerdict};
 
 use crate::said::Said;
 use command_files::{Status, Stop, TaskPaths, read_reported};
 use command_line::ReplayConfig;
 use io_world::Files;
 use level_run::RunFault;
+use optimal_check::replay_optimal;
 use replay_check::{BreachKind, Verdict, replay};
 use std::alloc::{AllocError, Global};
 use task_model::Task;
@@ -66,16 +66,44 @@ pub(crate) fn said_of(alloc: Global, verdict: Verdict) -> Result<Said, AllocErro
     })
 }
 
+/// What is said of the bytes of a report, of the plan's cost too where that is asked for. Fails only
+/// where memory is wanting.
+fn judge(
+    alloc: Global,
+    task: &Task,
+    bytes: &[u8],
+    states: u32,
+    optimal: bool,
+) -> Result<Verdict, AllocError>
+    requires fit { IsFit task.now }
+    requires some { 1 ≤ states }
+    requires few { states ≤ MOST_STATES }
+    requires bytes { length bytes.now < 2 ^ 31 }
+    ensures { IfOk result (IsVerdictFor optimal states task.now bytes.now) }
+{
+    if optimal {
+        replay_optimal(alloc, task, bytes, states)
+    } else {
+        replay(alloc, task, bytes, states)
+    }
+}
+
 /// Judges the bytes of a report. Fails only where memory is wanting.
-fn judge(alloc: Global, task: &Task, bytes: &[u8], states: u32) -> Result<Said, AllocError>
+fn judged(
+    alloc: Global,
+    task: &Task,
+    bytes: &[u8],
+    states: u32,
+    optimal: bool,
+) -> Result<Said, AllocError>
     requires fit { IsFit task.now }
     requires some { 1 ≤ states }
     requires few { states ≤ MOST_STATES }
     requires bytes { length bytes.now < 2 ^ 31 }
     ensures { IfOk result (λ said.
-        SaysVerdict (IsVerdict states task.now bytes.now) said.status said.text.items) }
+        SaysVerdict (IsVerdictFor optimal states task.now bytes.now) said.status said.text.items) }
 {
-    let verdict = replay(alloc, task, bytes, states)?;
+    let verdict = judge(alloc, task, bytes, states, optimal)?;
     said_of(alloc, verdict)
 }
 
@@ -102,7 +130,8 @@ pub(crate) fn replay_answer<F: Files>(
 {
     let paths = paths_of(words);
     let read = read_reported(alloc, files, &paths, words.report.as_str())?;
-    match judge(alloc, &read.task, read.bytes.as_slice(), words.states) {
+    let bytes = read.bytes.as_slice();
+    match judged(alloc, &read.task, bytes, words.states, words.optimal) {
         Ok(said) => Ok(said),
         Err(_) => Err(Stop::Run(RunFault::Memory)),
     }

@@ -2,13 +2,12 @@
 use Rattle.std.proofs.Common.{◌≡◌, ℕ, ◌<◌, ◌^◌, List, [], ◌∷◌, length, sym, subst, ◌∙◌, arith, Option, Some}
 use Rattle.command_line.specs.Words.{Command, ReplayWords, command_of, replay}
 use Rattle.io_world.specs.FileMap.{FileMap}
-use Rattle.pddlstream_app.specs.AnswerOf.{AnswerOf, HasAnswer, IsCommandAnswer}
+use Rattle.pddlstream_app.specs.AnswerOf.{AnswerOf, HasAnswer, IsCommandAnswer, IsVerdictFor}
 use Rattle.command_files.specs.Files.{AreBytes, FileHolds}
 use Rattle.command_files.specs.Inputs.{IsTaskOf, files_named}
 use Rattle.command_files.specs.Outside.{Outside}
 use Rattle.pddlstream_app.specs.Replays.{kind_of_verdict, verdict_text}
 use Rattle.command_files.specs.declared.status.Status.{Status}
-use Rattle.replay_check.specs.Verdicts.{IsVerdict}
 use Rattle.replay_check.specs.declared.verdict.Verdict.{Verdict}
 use Rattle.task_model.specs.declared.task.Task.{Task}
 
@@ -20,7 +19,7 @@ pub record IsJudged (told : Option FileMap) (asked : ReplayWords) (status : Stat
   pub held : FileHolds told asked.report bytes
   pub short : length bytes < 2 ^ 31
   pub verdict : Verdict
-  pub so : IsVerdict asked.states task bytes verdict
+  pub so : IsVerdictFor asked.optimal asked.states task bytes verdict
   pub kind : kind_of_verdict verdict ≡ status
   pub is : text ≡ verdict_text verdict
 

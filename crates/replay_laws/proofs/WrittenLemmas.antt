@@ -2,6 +2,7 @@
 use Rattle.std.proofs.Common.{◌≡◌, ℕ, ◌<◌, ◌≤◌, ◌^◌, inl, inr, List, length, refl, sym, subst, arith}
 use Rattle.level_run.specs.Reports.{IsRun, whole_text}
 use Rattle.level_run.specs.Turns.{IsSure}
+use Rattle.report_text.specs.Forms.{IsFormed}
 use Rattle.replay_check.proofs.OneVerdictLemmas.{right_valid}
 use Rattle.replay_check.specs.Heads.{reported_limits}
 use Rattle.replay_check.specs.Verdicts.{IsRightReport, IsUndecidedAt, IsUndecidedClaim, IsVerdict}
@@ -66,11 +67,15 @@ module _ (task : Task) (head : Head) (entries : List Entry) (o : Outcome) (fit :
         true = subst (λ (l : Limits). IsTrueOutcome l task entries o) (sym limits) run.sure.holds;
       }
 
+  -- it has the stated forms
+  pub written_formed : length (whole_text task head entries o) < 2 ^ 31 → IsFormed (report_of task head entries o)
+  written_formed short = formed task head entries o fit can run (short_counted task head entries o (omega (arith, short)))
+
   pub written_valid : (limit : ℕ) (v : Verdict) → length (whole_text task head entries o) < 2 ^ 31
       → head.states ≤ limit
       → IsVerdict limit task (whole_text task head entries o) v → v ≡ Valid
   written_valid limit v short le is =
       right_valid limit task (report_of task head entries o) v
-      (formed task head entries o fit can run (short_counted task head entries o (omega (arith, short)))) right
+      (written_formed short) right
       (λ unsure. decided limit task head entries o run.sure le unsure.0 unsure.1)
       (subst (λ bytes. IsVerdict limit task bytes v) (whole_is task head entries o) is)

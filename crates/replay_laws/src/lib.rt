@@ -3,13 +3,20 @@
 #![tactic(auto)]
 
 ghost use Rattle.replay_laws.specs.Migrated.{MigratedReportsAreFormed, MigratedReportsAreJudgedAlike};
-ghost use Rattle.replay_laws.specs.Solved.{SolvedReportsAreValid};
+ghost use Rattle.replay_laws.specs.Solved.{CheapestReportsAreNotWrong, SolvedReportsAreValid};
 ghost use Rattle.replay_laws.specs.Written.{OnePoolIsOfReports, WrittenReportsAreValid};
 
 /// What the program writes of a run with an outcome it finds valid where it judges it with the same
-/// three texts and with a limit of at least the run's states.
+/// three texts and with a limit of at least the run's states, and where it doesn't judge the cost.
 pub fn solved_reports_are_valid()
     ensures { SolvedReportsAreValid }
+{}
+
+/// What the program writes of a run with an outcome that was asked for the cheapest plan it doesn't
+/// find wrong where it judges the cost too, with the same three texts and with a limit of at least
+/// the run's states: it says that the report is valid, or that its limit doesn't decide it.
+pub fn cheapest_reports_are_not_wrong()
+    ensures { CheapestReportsAreNotWrong }
 {}
 
 /// Of a whole report that a run wrote a replay with the same task, and with a limit of at least the

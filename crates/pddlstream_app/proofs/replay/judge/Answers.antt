@@ -1,6 +1,13 @@
-use Rattle.std.proofs.lemmas.Result.{IfOk-weaker}
+use Rattle.std.proofs.Common.{sym, subst, IfOk}
+use Rattle.pddlstream_app.specs.AnswerOf.{IsVerdictFor}
 use Rattle.pddlstream_app.proofs.replay.judge.Goals as goal
 
-pub returns : goal.returns
-returns c =
-    IfOk-weaker c.said_of.result _ _ (λ s told. (c.in_ok-verdict.verdict, c.in_ok-verdict.ensures, told.0, told.1)) c.said_of.ensures
+pub returns-then-optimal : goal.returns-then-optimal
+returns-then-optimal c = subst
+    (λ optimal. IfOk c.replay_optimal.result (IsVerdictFor optimal c.args.states c.args.task.now c.args.bytes.now))
+    (sym c.if-optimal.true) c.replay_optimal.ensures
+
+pub returns-else-optimal : goal.returns-else-optimal
+returns-else-optimal c = subst
+    (λ optimal. IfOk c.replay.result (IsVerdictFor optimal c.args.states c.args.task.now c.args.bytes.now))
+    (sym c.if-optimal.false) c.replay.ensures

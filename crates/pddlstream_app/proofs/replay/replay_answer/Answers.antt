@@ -7,8 +7,7 @@ use Rattle.pddlstream_app.proofs.NoInputLemmas.{ends_reading}
 use Rattle.pddlstream_app.specs.Answering.{IsMade}
 use Rattle.command_files.specs.Inputs.{files_named}
 use Rattle.command_files.specs.Outside.{seen_of}
-use Rattle.replay_check.specs.Verdicts.{IsVerdict}
-use Rattle.pddlstream_app.specs.AnswerOf.{SaysVerdict}
+use Rattle.pddlstream_app.specs.AnswerOf.{IsVerdictFor, SaysVerdict}
 use Rattle.pddlstream_app.proofs.replay.replay_answer.Goals as goal
 
 pub returns-in_err-read : goal.returns-in_err-read
@@ -29,7 +28,8 @@ returns-in-Ok g c =
         judged w (g.F.Files.told c.args.files.now) c.in_ok-read.read
             (reported_in c.paths_of-paths.ensures c.as_str.ensures.value c.in_ok-read.ensures.read) c.in-Ok.said.status
             c.in-Ok.said.text.items
-            (subst (λ bytes. SaysVerdict (IsVerdict c.args.words.now.states c.in_ok-read.read.task bytes) c.in-Ok.said.status c.in-Ok.said.text.items) c.as_slice.ensures.value c.in-Ok.ensures),
+            (subst (λ bytes. SaysVerdict (IsVerdictFor w.optimal w.states c.in_ok-read.read.task bytes) c.in-Ok.said.status
+            c.in-Ok.said.text.items) c.as_slice-bytes.ensures.value c.in-Ok.ensures),
         record {
           all = files_named (replay w);
           are = refl;
