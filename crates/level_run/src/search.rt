@@ -7,7 +7,7 @@ ghost use Rattle.task_model.specs.Plans.{IsSolvable};
 
 use best_first::{Found, RelaxedPlan, out_of_reach, search};
 use fact_store::Facts;
-use optimal_search::{Fewest, cheapest};
+use optimal_search::{Shares, cheapest};
 use std::alloc::{AllocError, Global};
 use task_model::Task;
 use transcript_model::Head;
@@ -78,7 +78,7 @@ pub(crate) fn by_cost(
     if is_hopeless(alloc, task, facts)? {
         return Ok(None);
     }
-    let mut estimate = Box::new(alloc, Fewest::new(alloc, task)?)?;
+    let mut estimate = Box::new(alloc, Shares::new(alloc, task, facts)?)?;
     let found = cheapest(alloc, task, facts, head.states, &mut *estimate)?;
     Ok(Some(found))
 }
