@@ -15,7 +15,7 @@ use Rattle.command_line.specs.Words.{Command, SolveWords, command_of, generate, 
 use Rattle.pddlstream_app.proofs.NoInputLemmas.{is_of_input, made_nothing}
 use Rattle.command_files.specs.Files.{file_of}
 use Rattle.pddlstream_app.specs.NoInput.{HasNoInput, ReadsNothing}
-use Rattle.run_command.specs.Works.{made_words}
+use Rattle.run_command.specs.Works.{made_line, made_words}
 use Rattle.command_files.specs.declared.stop.FileRole.TheVariants as role
 use Rattle.command_files.specs.declared.stop.Text.TheVariants.{Domain, Problem, Streams}
 use Rattle.command_files.specs.Outside.{FilesSeen, Outside, Written}
@@ -160,7 +160,9 @@ module _ (words : List (List ℕ)) (outside : Outside) (number : ℕ) (meant : c
   pub made_asked_before : (written : Written) (r : Result Status Stop) → MakesRun number (over_made number outside) written r
       → IfErr r (AsksBefore words outside.files)
   made_asked_before written (Ok status) e = tt
-  made_asked_before written (Err why) (inl e) = asked_lined words outside.files _ _ written (Err why) e.lined asks_making
+  made_asked_before written (Err why) (inl e) =
+      asked_lined words outside.files (outcome_status e.ran.outcome) (made_line number e.ran.outcome e.ran.levels e.ran.asks) written
+      (Err why) e.lined asks_making
   made_asked_before written (Err why) (inr none) = of none.cause
     where
       of : ((why ≡ stop.Run fault.Memory) × LogStops outside.was outside.now) ⊎ IsMadeUnsolved (over_made number outside) why
