@@ -97,7 +97,8 @@ solve_between rows w e =
       depth = few.2;
       workers = or_between 16 1 (omega arith, omega arith) (first_of (codes "workers") rows) workers.0 workers.1;
       protocol = or_between 2 1 (omega arith, omega arith) (first_of (codes "protocol") rows) protocol.0 protocol.1;
-      alone = alone_from (path_in rows) (first_of (codes "workers") rows) (program_in rows) (first_so apart goes found.0);
+      alone = alone_from (path_in rows) (first_of (codes "workers") rows) (program_in rows)
+          (first_so apart goes found.0);
       cheapest = mode_from mode.0 (is_set (codes "optimal") rows) (second_so apart goes found.0);
     } in
     subst AreInRange (same_Some made w found.1) ranges

@@ -14,8 +14,16 @@ abbrev limits : ℕ → GivenLimits
 limits calls = record { calls = calls; states = 100000; depth = 3 }
 
 abbrev with_program : List Text → ℕ → SolveWords
-with_program words calls = record
-    { files = files; path = None; program = words; workers = 1; mode = Incremental; limits = limits calls; protocol = 1; optimal = false }
+with_program words calls = record {
+  files = files;
+  path = None;
+  program = words;
+  workers = 1;
+  mode = Incremental;
+  limits = limits calls;
+  protocol = 1;
+  optimal = false;
+}
 
 abbrev task : Text → List Text → List Text
 task name rest = name ∷ codes "d" ∷ codes "p" ∷ codes "s" ∷ rest

@@ -161,8 +161,8 @@ module _ (words : List (List ℕ)) (outside : Outside) (number : ℕ) (meant : c
       → IfErr r (AsksBefore words outside.files)
   made_asked_before written (Ok status) e = tt
   made_asked_before written (Err why) (inl e) =
-      asked_lined words outside.files (outcome_status e.ran.outcome) (made_line number e.ran.outcome e.ran.levels e.ran.asks) written
-      (Err why) e.lined asks_making
+      asked_lined words outside.files (outcome_status e.ran.outcome)
+      (made_line number e.ran.outcome e.ran.levels e.ran.asks) written (Err why) e.lined asks_making
   made_asked_before written (Err why) (inr none) = of none.cause
     where
       of : ((why ≡ stop.Run fault.Memory) × LogStops outside.was outside.now) ⊎ IsMadeUnsolved (over_made number outside) why

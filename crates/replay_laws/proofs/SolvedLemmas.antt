@@ -156,7 +156,8 @@ module _ (files later : FileMap) (words others : List (List ℕ)) (outside after
 
   told_valid : (v : Verdict) → IsSaid false v → v ≡ verdict.Valid
   told_valid v is =
-      written_valid run.task run.head run.entries solved.outcome run.fit can solved.turns judging.states v short states is
+      written_valid run.task run.head run.entries solved.outcome run.fit can solved.turns judging.states v short states
+      is
 
   -- by the cost it is valid too, or not decided
   told_cheap : (v : Verdict) → asked.optimal ≡ true → IsSaid true v → (v ≡ verdict.Valid) ⊎ (v ≡ verdict.Limit)
@@ -166,7 +167,8 @@ module _ (files later : FileMap) (words others : List (List ℕ)) (outside after
       (report_of run.task run.head run.entries solved.outcome) h.formed
       (written_formed run.task run.head run.entries solved.outcome run.fit can solved.turns short)
       (h.spelled ∙ whole_is run.task run.head run.entries solved.outcome) in
-      cost_right judging.states run.task run.head run.entries solved.outcome v solved.turns.sure (headed.optimal ∙ cheapest)
+      cost_right judging.states run.task run.head run.entries solved.outcome v solved.turns.sure
+      (headed.optimal ∙ cheapest)
       (subst (λ (r : Report). IsOutcomeSaid judging.states run.task r r.outcome v) wrote_it h.said)
 
   pub ends_valid : judging.optimal ≡ false → (end ≡ status.Done) × (said ≡ verdict_text verdict.Valid)

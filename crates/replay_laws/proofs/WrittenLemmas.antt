@@ -69,7 +69,8 @@ module _ (task : Task) (head : Head) (entries : List Entry) (o : Outcome) (fit :
 
   -- it has the stated forms
   pub written_formed : length (whole_text task head entries o) < 2 ^ 31 → IsFormed (report_of task head entries o)
-  written_formed short = formed task head entries o fit can run (short_counted task head entries o (omega (arith, short)))
+  written_formed short =
+      formed task head entries o fit can run (short_counted task head entries o (omega (arith, short)))
 
   pub written_valid : (limit : ℕ) (v : Verdict) → length (whole_text task head entries o) < 2 ^ 31
       → head.states ≤ limit

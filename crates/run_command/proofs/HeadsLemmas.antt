@@ -175,5 +175,6 @@ module _ (task : Task) (told : Option FileMap) (w : SolveWords) where
       }
 
   -- the cheapest plan is asked for in incremental mode alone
-  pub head_alone : (head : Head) → IsHeadOf told w task head → AreInRange w → head.optimal ≡ true → head.mode ≡ Incremental
+  pub head_alone : (head : Head) → IsHeadOf told w task head → AreInRange w → head.optimal ≡ true
+      → head.mode ≡ Incremental
   head_alone head headed within asked = headed.mode ∙ within.cheapest (sym headed.optimal ∙ asked)

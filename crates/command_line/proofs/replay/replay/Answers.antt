@@ -8,7 +8,8 @@ use Rattle.command_line.proofs.WordsLemmas.{read_rows, read_none}
 use Rattle.command_line.proofs.replay.replay.Goals as goal
 
 -- the words are read as the flag was
-read_so : (rows : List Row) (optimal : Bool) → optimal ≡ is_set (codes "optimal") rows → replay_in rows ≡ report_in optimal rows
+read_so : (rows : List Row) (optimal : Bool) → optimal ≡ is_set (codes "optimal") rows
+    → replay_in rows ≡ report_in optimal rows
 read_so rows optimal is = ap (λ set. report_in set rows) (sym is)
 
 pub matches_of_words-requires : goal.matches_of_words-requires
@@ -22,11 +23,13 @@ returns-in_err-matches-clause-usage c =
 pub returns-in_default-clause-usage : goal.returns-in_default-clause-usage
 returns-in_default-clause-usage c = λ why.
     read_rows replay_app _ replay_in _ c.in_ok-command.ensures _
-    c.in_ok-matches.ensures.taken c.in_ok-matches.ensures.rows ∙ read_so (rows_of (found_of c.in_ok-matches.matches)) _ c.set_in.ensures
+    c.in_ok-matches.ensures.taken c.in_ok-matches.ensures.rows
+    ∙ read_so (rows_of (found_of c.in_ok-matches.matches)) _ c.set_in.ensures
     ∙ sym c.in_default.ensures
 
 pub returns-clause-config : goal.returns-clause-config
 returns-clause-config c =
     read_rows replay_app _ replay_in _ c.in_ok-command.ensures _
-    c.in_ok-matches.ensures.taken c.in_ok-matches.ensures.rows ∙ read_so (rows_of (found_of c.in_ok-matches.matches)) _ c.set_in.ensures
+    c.in_ok-matches.ensures.taken c.in_ok-matches.ensures.rows
+    ∙ read_so (rows_of (found_of c.in_ok-matches.matches)) _ c.set_in.ensures
     ∙ sym c.in-Some.ensures ∙ ap Some (sym c.in_ok-replay_held.ensures)

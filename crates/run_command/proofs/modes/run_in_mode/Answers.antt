@@ -6,7 +6,13 @@ incremental-requires g c =
     let may = c.requires.may in
     let is = c.in-Incremental.is in
     record {
-      may = record { fit = may.fit; runnable = may.runnable; is = is; alone = λ asked. sym is ∙ may.alone asked; idle = may.idle };
+      may = record {
+        fit = may.fit;
+        runnable = may.runnable;
+        is = is;
+        alone = λ asked. sym is ∙ may.alone asked;
+        idle = may.idle;
+      };
     }
 
 pub focused-requires : goal.focused-requires
@@ -14,7 +20,13 @@ focused-requires g c =
     let may = c.requires.may in
     let is = c.in-Focused.is in
     record {
-      may = record { fit = may.fit; runnable = may.runnable; is = is; alone = λ asked. sym is ∙ may.alone asked; idle = may.idle };
+      may = record {
+        fit = may.fit;
+        runnable = may.runnable;
+        is = is;
+        alone = λ asked. sym is ∙ may.alone asked;
+        idle = may.idle;
+      };
     }
 
 pub binding-requires : goal.binding-requires
@@ -22,7 +34,13 @@ binding-requires g c =
     let may = c.requires.may in
     let is = c.in-Binding.is in
     record {
-      may = record { fit = may.fit; runnable = may.runnable; is = is; alone = λ asked. sym is ∙ may.alone asked; idle = may.idle };
+      may = record {
+        fit = may.fit;
+        runnable = may.runnable;
+        is = is;
+        alone = λ asked. sym is ∙ may.alone asked;
+        idle = may.idle;
+      };
     }
 
 pub adaptive-requires : goal.adaptive-requires
@@ -30,5 +48,11 @@ adaptive-requires g c =
     let may = c.requires.may in
     let is = c.in-Adaptive.is in
     record {
-      may = record { fit = may.fit; runnable = may.runnable; is = is; alone = λ asked. sym is ∙ may.alone asked; idle = may.idle };
+      may = record {
+        fit = may.fit;
+        runnable = may.runnable;
+        is = is;
+        alone = λ asked. sym is ∙ may.alone asked;
+        idle = may.idle;
+      };
     }

@@ -62,8 +62,8 @@ run_in_mode-requires g c =
         runnable = head_runs c.in_ok-task.task (g.F.Files.told c.args.files.now) (held_solve c.args.words.now) c.head_of-head.result
             (c.head_of-head.ensures _ _ served) c.requires.within;
         is = refl;
-        alone = head_alone c.in_ok-task.task (g.F.Files.told c.args.files.now) (held_solve c.args.words.now) c.head_of-head.result
-            (c.head_of-head.ensures _ _ served) c.requires.within;
+        alone = head_alone c.in_ok-task.task (g.F.Files.told c.args.files.now) (held_solve c.args.words.now)
+            c.head_of-head.result (c.head_of-head.ensures _ _ served) c.requires.within;
         idle = c.requires.idle;
       };
     }
