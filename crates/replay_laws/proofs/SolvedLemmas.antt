@@ -95,9 +95,9 @@ cost_right limit task head entries (outcome.Plan steps cost from) verdict.Limit 
 cost_right limit task head entries outcome.NoPlan v sure asked said = inl said
 cost_right limit task head entries (outcome.Limit kind) v sure asked said = inl said
 
-module _ (files later : FileMap) (words others : List (List ℕ)) (outside after : Outside) (status end : Status)
+module _ (files later : FileMap) (words others : List (List ℕ)) (outside after : Outside) (kind end : Status)
     (text said : List ℕ) (asked : SolveWords) (judging : ReplayWords) (meant : command_of words ≡ Some (solve asked))
-    (judges : command_of others ≡ Some (replay judging)) (solved : HasOutcome words outside status text)
+    (judges : command_of others ≡ Some (replay judging)) (solved : HasOutcome words outside kind text)
     (answer : HasAnswer others after end said) (first : outside.files.told ≡ Some files)
     (second : after.files.told ≡ Some later) (same : AreSameTexts files later asked.files judging.files)
     (report : later judging.report ≡ Some text) (le : asked.limits.states ≤ judging.states) where
