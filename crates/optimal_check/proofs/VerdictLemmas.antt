@@ -25,13 +25,16 @@ use Rattle.optimal_check.specs.Verdicts.{IsDear, ShowsPlan}
 
 -- ---- what is found
 
-module _ (limit : ℕ) (task : Task) (right : RightReport) (steps : List Call) (cost : ℕ) (shown : ShowsPlan task right steps cost) where
-  pub dear_found : (plan : Plan) (least : ℕ) → IsLeastFound task right.facts.known limit (found.Plan plan least) → least < cost
+module _ (limit : ℕ) (task : Task) (right : RightReport) (steps : List Call) (cost : ℕ)
+    (shown : ShowsPlan task right steps cost) where
+  pub dear_found : (plan : Plan) (least : ℕ) → IsLeastFound task right.facts.known limit (found.Plan plan least)
+      → least < cost
       → IsDear task right.report cost
   dear_found plan least is less =
       (plan.steps, least, subst (λ (k : Known). IsValid task k plan.steps least) shown.known is.plan.valid, less)
 
-  pub least_found : (plan : Plan) (least : ℕ) → IsLeastFound task right.facts.known limit (found.Plan plan least) → cost ≤ least
+  pub least_found : (plan : Plan) (least : ℕ) → IsLeastFound task right.facts.known limit (found.Plan plan least)
+      → cost ≤ least
       → IsLeastCost task (known_of task right.report.entries) cost
   least_found plan least is no_less =
       let cheap = subst (λ (k : Known). IsLeastCost task k least) shown.known is.least in
@@ -50,7 +53,8 @@ module _ (limit : ℕ) (task : Task) (right : RightReport) (steps : List Call) (
 -- ---- what a report shows
 
 -- a plan has fewer steps than its report has lines
-pub steps_few : (r : Report) (steps : List Call) (cost : ℕ) (from : List Origin) → r.outcome ≡ outcome.Plan steps cost from
+pub steps_few : (r : Report) (steps : List Call) (cost : ℕ) (from : List Origin)
+    → r.outcome ≡ outcome.Plan steps cost from
     → length steps + 1 ≤ length (lines_of_report r)
 steps_few r steps cost from is =
     let head = head_lines r.version r.mode r.calls r.states r.depth r.pools in

@@ -38,7 +38,8 @@ module _ (task : Task) (known : Known) (action : Action) where
       → PaysShares task known action ss
   rows_pay rows ss are each before after step cost is same =
       let typed = subst (λ (a : Action). have_types known step.args a.params ≡ true) same is.typed in
-      let holds = subst (λ (a : Action). is_true task.domain known before a.condition (slots_of step.args) ≡ true) same is.condition in
+      let holds = subst (λ (a : Action). is_true task.domain known before a.condition (slots_of step.args) ≡ true)
+      same is.condition in
       let settled = settled_where task.domain known before (slots_of step.args) action.condition holds in
       let at = place_of rows step.args ((are.each step.args).1 (typed, settled)) in
       each at.0 step.args at.1 cost (subst (λ (a : Action). cost_of task known a step.args ≡ Some cost) same is.costs)
@@ -71,7 +72,8 @@ module _ (task : Task) (known : Known) (action : Action) where
       let costs = subst (λ (a : Action). cost_of task known a step.args ≡ Some cost) same is.costs in
       let there : (g : Atom) → comes g ≡ true → Contains come g = λ g e. there_listed come g e in
       let fits = few_met ss come comes distinct (λ g c e. there g e) in
-      let width_met = mul-le most (met ss comes) most width (omega arith) (omega (arith, fits, few, length-map action.adds (atom_of (slots_of step.args)))) in
+      let width_met = mul-le most (met ss comes) most width (omega arith)
+      (omega (arith, fits, few, length-map action.adds (atom_of (slots_of step.args)))) in
       let dear = mul-le (own_least task action) UNIT cost UNIT (least_paid step.args cost costs) (omega arith) in
       fair_mapped (is_named action.adds) comes most (cost * UNIT) ss (λ g c e. named_add step.args g (there g e))
       (omega (arith, width_met, paid, dear))
@@ -92,7 +94,8 @@ module _ (task : Task) (known : Known) (action : Action) where
     shared_none is few =
         let none : met old (contains come) ≡ 0 = omega (arith, few, counted) in
         let gone : met new (contains (adds_of action args)) ≡ 0 =
-        ap (λ (ss : List Share). met ss (contains (adds_of action args))) is ∙ sym (ap (λ (cs : Atoms). met old (contains cs)) same) ∙ none in
+        ap (λ (ss : List Share). met ss (contains (adds_of action args))) is
+        ∙ sym (ap (λ (cs : Atoms). met old (contains cs)) same) ∙ none in
         λ s there e. subst (λ m. s.part * m ≤ cost * UNIT) (sym gone) (omega arith)
 
 -- one action more

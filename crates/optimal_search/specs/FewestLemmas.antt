@@ -46,7 +46,8 @@ own_number_low : (known : Known) (slots : List ℕ) (term : CostTerm) (n : ℕ) 
 own_number_low known slots (Number m) n e = omega (arith, same_Some m n e)
 own_number_low known slots (Value func args) n e = omega arith
 
-pub own_cost_low : (known : Known) (slots : List ℕ) (terms : List CostTerm) (n : ℕ) → terms_cost known slots terms ≡ Some n
+pub own_cost_low : (known : Known) (slots : List ℕ) (terms : List CostTerm) (n : ℕ) → terms_cost known slots terms
+    ≡ Some n
     → own_cost terms ≤ n
 own_cost_low known slots [] n e = omega arith
 own_cost_low known slots (term ∷ terms) n e =

@@ -29,7 +29,7 @@ abbrev pub owed : List Share → (Atom → Bool) → ℕ
 owed [] there = 0
 owed (s ∷ ss) there = cond (there s.goal) 0 s.part + owed ss there
 
--- The atoms that come are as many as are paid for: what is to be paid for any of them, so many times, is at most the cost.
+-- As many atoms as come are paid for: what is to be paid for any of them, as many times as come, is at most the cost.
 abbrev pub AreFair : List Share → (Atom → Bool) → ℕ → Type 0
 AreFair shares comes cost =
     (s : Share) → Contains shares s → comes s.goal ≡ true → s.part * met shares comes ≤ cost

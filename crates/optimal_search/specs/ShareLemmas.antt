@@ -15,7 +15,8 @@ use Rattle.optimal_search.specs.declared.share.Share.{Share}
 
 -- ---- what is to be paid at most
 
-goals_lowered : (comes : Atom → Bool) (most : ℕ) (ss : List Share) → goals_of (map (lowered comes most) ss) ≡ goals_of ss
+goals_lowered : (comes : Atom → Bool) (most : ℕ) (ss : List Share) → goals_of (map (lowered comes most) ss)
+    ≡ goals_of ss
 goals_lowered comes most [] = refl
 goals_lowered comes most (s ∷ ss) = ap (λ gs. s.goal ∷ gs) (goals_lowered comes most ss)
 
@@ -95,7 +96,8 @@ fair_mapped named comes most cost ss each paid t there is =
     member_goal [] x c = absurd (contains_none x c)
     member_goal (y ∷ ys) x c =
         elim (contains_cases y ys x c) [
-          | inl same ↦ subst (λ (z : Share). Contains (goals_of (y ∷ ys)) z.goal) same (contains_here y.goal (goals_of ys))
+          | inl same ↦ subst (λ (z : Share). Contains (goals_of (y ∷ ys)) z.goal) same
+              (contains_here y.goal (goals_of ys))
           | inr k ↦ contains_later y.goal (goals_of ys) x.goal (member_goal ys x k)
         ]
 
@@ -138,13 +140,16 @@ head_falls false true false part w cost before after n gains rest = absurd (let 
 
 module _ (before after comes : Atom → Bool) where
   parts_fall : (w cost : ℕ) (ss : List Share)
-      → ((s : Share) → Contains ss s → before s.goal ≡ false → after s.goal ≡ true → (s.part * w ≤ cost) × (comes s.goal ≡ true))
+      → ((s : Share) → Contains ss s → before s.goal ≡ false → after s.goal ≡ true → (s.part * w ≤ cost)
+      × (comes s.goal ≡ true))
       → owed ss before * w ≤ owed ss after * w + met ss comes * cost
   parts_fall w cost [] gains = omega arith
   parts_fall w cost (s ∷ ss) gains =
       let rest = parts_fall w cost ss (λ t c was is. gains t (contains_later s ss t c) was is) in
-      subst (λ n. owed (s ∷ ss) before * w ≤ owed (s ∷ ss) after * w + n * cost) (sym (count_head (λ (t : Share). comes t.goal) s ss))
-      (head_falls (before s.goal) (after s.goal) (comes s.goal) s.part w cost (owed ss before) (owed ss after) (met ss comes)
+      subst (λ n. owed (s ∷ ss) before * w ≤ owed (s ∷ ss) after * w + n * cost)
+      (sym (count_head (λ (t : Share). comes t.goal) s ss))
+      (head_falls (before s.goal) (after s.goal) (comes s.goal) s.part w cost (owed ss before) (owed ss after)
+      (met ss comes)
       (gains s (contains_here s ss)) rest)
 
   counted : (ss : List Share) (s : Share) → Contains ss s → comes s.goal ≡ true → 1 ≤ met ss comes
@@ -168,7 +173,8 @@ module _ (before after comes : Atom → Bool) where
           let all = subst (λ n. owed ss before * suc m ≤ owed ss after * suc m + n * cost) is falls in
           elim (cases_lt (owed ss after + cost) (owed ss before)) [
             | inl over ↦
-                let more = mul-le (owed ss after + cost + 1) (suc m) (owed ss before) (suc m) (omega (arith, over)) (omega arith) in
+                let more = mul-le (owed ss after + cost + 1) (suc m) (owed ss before) (suc m) (omega (arith, over))
+                (omega arith) in
                 absurd (omega (arith, all, more))
             | inr fits ↦ fits
           ]

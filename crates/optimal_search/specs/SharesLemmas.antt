@@ -24,9 +24,11 @@ shares_consistent estimate task known is = record {
       let come = map atom e.action.adds in
       let gone = map atom e.action.deletes in
       let fair = is.paid step.action e.action e.named before after step cost e refl in
-      let less = owed_falls (contains before) (contains after) (contains (adds_of e.action step.args)) (cost * UNIT) ss fair
+      let less = owed_falls (contains before) (contains after) (contains (adds_of e.action step.args)) (cost * UNIT)
+      ss fair
       (λ s there was now.
-      listed_there come s.goal (came before gone come s.goal was (subst (λ t. contains t s.goal ≡ true) e.leads now))) in
+      listed_there come s.goal (came before gone come s.goal was
+      (subst (λ t. contains t s.goal ≡ true) e.leads now))) in
       let sum = sum_falls UNIT cost (owed ss (contains before)) (owed ss (contains after)) (omega arith) less in
       omega (arith, sum);
   goal = λ state goal.

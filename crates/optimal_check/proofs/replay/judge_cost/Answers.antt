@@ -10,7 +10,8 @@ returns-then-least-cost c =
     let found = subst (IsLeastFound task right.facts.known c.args.limit) c.in-Plan.is c.in_ok-least.ensures in (
       c.cost_line-line.ensures,
       refl,
-      dear_found c.args.limit task right c.args.steps.now c.args.cost c.requires.shown c.in-Plan.field-0 c.in-Plan.least found
+      dear_found c.args.limit task right c.args.steps.now c.args.cost c.requires.shown c.in-Plan.field-0
+          c.in-Plan.least found
           c.if-least-cost.true,
     )
 
@@ -19,7 +20,8 @@ returns-in-Plan c =
     let task = c.args.task.now in
     let right = c.args.right.now in
     let found = subst (IsLeastFound task right.facts.known c.args.limit) c.in-Plan.is c.in_ok-least.ensures in
-    least_found c.args.limit task right c.args.steps.now c.args.cost c.requires.shown c.in-Plan.field-0 c.in-Plan.least found
+    least_found c.args.limit task right c.args.steps.now c.args.cost c.requires.shown c.in-Plan.field-0
+    c.in-Plan.least found
     c.if-least-cost.false
 
 pub unreachable-requires : goal.unreachable-requires

@@ -18,7 +18,8 @@ right_of c = subst (IsRightOf c.args.task.now c.args.bytes.now) c.in-Valid.is c.
 pub judge_right-requires-clause-lines : goal.judge_right-requires-clause-lines
 judge_right-requires-clause-lines c =
     let r = c.in-Valid.right.report in
-    let short = report_short r c.args.bytes.now (right_of (goal.at.judge_right-requires-clause-lines c).In-Valid).spelled in
+    let short = report_short r c.args.bytes.now
+    (right_of (goal.at.judge_right-requires-clause-lines c).In-Valid).spelled in
     let few : length (lines_of_report r) < 2 ^ 31 = omega (arith, short, c.requires.bytes) in
     few
 
@@ -29,8 +30,10 @@ returns-in-Valid c =
     let bytes = c.args.bytes.now in
     let right = c.in-Valid.right in
     let has = right_of (goal.at.returns-in-Valid c).In-Valid in
-    let said = subst (λ (j : Judged). IsVerdict limit task bytes (verdict_of j)) c.in-Valid.is c.in_ok-right.ensures.verdict in
-    IfOk-weaker c.judge_right.result (IsOutcomeSaid limit task right.report right.report.outcome) (IsCostVerdict limit task bytes) (λ v is. inr (record {
+    let said = subst (λ (j : Judged). IsVerdict limit task bytes (verdict_of j)) c.in-Valid.is
+    c.in_ok-right.ensures.verdict in
+    IfOk-weaker c.judge_right.result (IsOutcomeSaid limit task right.report right.report.outcome)
+    (IsCostVerdict limit task bytes) (λ v is. inr (record {
       report = right.report;
       formed = has.formed;
       spelled = has.spelled;
@@ -43,5 +46,6 @@ returns-in-Invalid c =
     let limit = c.args.limit in
     let task = c.args.task.now in
     let bytes = c.args.bytes.now in
-    let said = subst (λ (j : Judged). IsVerdict limit task bytes (verdict_of j)) c.in-Invalid.is c.in_ok-right.ensures.verdict in
+    let said = subst (λ (j : Judged). IsVerdict limit task bytes (verdict_of j)) c.in-Invalid.is
+    c.in_ok-right.ensures.verdict in
     inl (said, λ (e : Invalid c.in-Invalid.line c.in-Invalid.kind ≡ Valid). absurd (cc))

@@ -22,14 +22,16 @@ pub share_rows-requires-clause-action : goal.share_rows-requires-clause-action
 share_rows-requires-clause-action g c =
     let domain = c.args.task.now.domain in
     fit_action domain c.requires.fit.domain c.loop-number.number c.action-item.result
-    (here domain.actions c.as_slice-action-items.result.now c.loop-number.number c.action-item.result c.loop-number-test.true
+    (here domain.actions c.as_slice-action-items.result.now c.loop-number.number c.action-item.result
+    c.loop-number-test.true
     c.as_slice-action-items.ensures c.action-item.is)
 
 pub share_unlisted-requires-clause-action : goal.share_unlisted-requires-clause-action
 share_unlisted-requires-clause-action g c =
     let domain = c.args.task.now.domain in
     fit_action domain c.requires.fit.domain c.loop-number.number c.action-item.result
-    (here domain.actions c.as_slice-action-items.result.now c.loop-number.number c.action-item.result c.loop-number-test.true
+    (here domain.actions c.as_slice-action-items.result.now c.loop-number.number c.action-item.result
+    c.loop-number-test.true
     c.as_slice-action-items.ensures c.action-item.is)
 
 pub share_rows-requires-clause-rows : goal.share_rows-requires-clause-rows
@@ -43,8 +45,10 @@ share_rows-requires-clause-rows g c =
     let named = here domain.actions c.as_slice-action-items.result.now number action c.loop-number-test.true
     c.as_slice-action-items.ensures c.action-item.is in
     let inside = slice_get_within domain.actions number action named in
-    let placed : number < length tables = omega (arith, inside, ap length c.as_slice.ensures, c.requires.candidates.places) in
-    let at = ap (λ xs. slice_get xs number) (sym c.as_slice.ensures) ∙ get_some tables number kept placed c.index-as_slice-number.is in
+    let placed : number < length tables =
+    omega (arith, inside, ap length c.as_slice.ensures, c.requires.candidates.places) in
+    let at = ap (λ xs. slice_get xs number) (sym c.as_slice.ensures) ∙ get_some tables number kept placed
+    c.index-as_slice-number.is in
     let rows = subst (λ o. IfSome o (AreCandidateRows domain known action)) c.in-Some.is
     (c.requires.candidates.each number action kept named at) in
     subst (AreCandidateRows domain known action) (sym c.as_slice-in-Some.ensures) rows
@@ -77,7 +81,8 @@ loop-number-preserved g c =
             paid : PayShares task known (number + 1) ss;
           }) (sym w.shares-is) (record {
             goals = done.lower.goals ∙ c.loop-number.invariant.goals;
-            paid = pays_next task known number action old new named done.lower c.loop-number.invariant.paid (done.paid known);
+            paid = pays_next task known number action old new named done.lower c.loop-number.invariant.paid
+                (done.paid known);
           })
     ]
 

@@ -21,7 +21,8 @@ share_step-requires-clause-few g c =
     let action = c.args.action.now in
     let params = (readable_action domain c.requires.fit.domain action c.requires.action).params in
     let there =
-    member_at rows c.loop-args.args-index args (get_some rows c.loop-args.args-index args c.loop-args-test.true c.args-item.is) in
+    member_at rows c.loop-args.args-index args
+    (get_some rows c.loop-args.args-index args c.loop-args-test.true c.args-item.is) in
     let typed = ((c.requires.rows.each args).0 there).0 in
     omega (arith, params, ap length c.as_slice.ensures, have_types-length known args action.params typed)
 
@@ -36,7 +37,8 @@ loop-args-preserved g c =
     let now = c.loop-args.shares in
     let new = c.share_step.new.shares in
     let here = get_some rows index item c.loop-args-test.true c.args-item.is in
-    let shared = subst (λ (xs : List ℕ). IsSharedStep task known action xs new) c.as_slice.ensures c.in_ok-share_step.ensures.shared in
+    let shared = subst (λ (xs : List ℕ). IsSharedStep task known action xs new) c.as_slice.ensures
+    c.in_ok-share_step.ensures.shared in
     record {
       lower = lower_then c.args.shares.now now new c.loop-args.invariant.lower c.in_ok-share_step.ensures.lower;
       shared = λ n args below at.
@@ -56,4 +58,5 @@ pub returns-clause-shared : goal.returns-clause-shared
 returns-clause-shared g c =
     let rows = c.args.rows.now in
     rows_pay c.args.task.now (g.L.Look.known c.args.look.now) c.args.action.now rows c.loop-args.shares c.requires.rows
-    (λ n args at. c.loop-args.invariant.shared n args (let within = slice_get_within rows n args at in omega (arith, within)) at)
+    (λ n args at. c.loop-args.invariant.shared n args
+    (let within = slice_get_within rows n args at in omega (arith, within)) at)

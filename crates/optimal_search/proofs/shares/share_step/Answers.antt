@@ -43,12 +43,14 @@ returns-clause-shared g c cost costs =
     let count = c.count_met-met.result in
     let is = same_Some c.in-Some.cost cost (c.in-Some.ensures.value ∙ costs) in
     let same : come ≡ adds_of action args =
-    c.from_atoms-come.ensures ∙ ap from_list (c.in_ok-come.ensures ∙ (λ i. map (atom_of (c.new.ensures i)) (c.as_slice.ensures i))) in
+    c.from_atoms-come.ensures ∙ ap from_list
+    (c.in_ok-come.ensures ∙ (λ i. map (atom_of (c.new.ensures i)) (c.as_slice.ensures i))) in
     subst (λ n. AreFair new (contains (adds_of action args)) (n * UNIT)) is
     (elim c.if-met-gt0.branch [
       | then-met-gt0 w ↦
           shared_some task known action args come old new count c.in-Some.cost same c.count_met-met.ensures
-          (c.in-Some.cost * 1048576 / count) (w.shares-is ∙ w.lower.ensures) (div-mul-le_self (c.in-Some.cost * 1048576) count)
+          (c.in-Some.cost * 1048576 / count) (w.shares-is ∙ w.lower.ensures)
+          (div-mul-le_self (c.in-Some.cost * 1048576) count)
       | else-met-gt0 w ↦
           shared_none task known action args come old new count c.in-Some.cost same c.count_met-met.ensures w.shares-is
           w.if-met-gt0.false

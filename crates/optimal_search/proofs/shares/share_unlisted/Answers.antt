@@ -25,7 +25,9 @@ returns-clause-paid c known =
     let dear : c.own_least.result * 1048576 ≡ own_least task action * UNIT = ap (λ n. n * UNIT) c.own_least.ensures in
     let paid : most * c.max-width.result ≤ own_least task action * UNIT =
     omega (arith, divided, c.saturating_mul-cost.ensures, dear) in
-    let few : length action.adds ≤ c.max-width.result = omega (arith, c.max-width.ensures, ap length c.as_slice-adds.ensures) in
-    let new = c.lower_named.ensures ∙ ap (λ (ps : List Pattern). map (lowered (is_named ps) most) old) c.as_slice-adds.ensures in
+    let few : length action.adds ≤ c.max-width.result =
+    omega (arith, c.max-width.ensures, ap length c.as_slice-adds.ensures) in
+    let new = c.lower_named.ensures ∙ ap (λ (ps : List Pattern). map (lowered (is_named ps) most) old)
+    c.as_slice-adds.ensures in
     subst (λ (ss : List Share). PaysShares task known action ss) (sym new)
     (unlisted_pays task known action old most c.max-width.result c.requires.distinct few paid)

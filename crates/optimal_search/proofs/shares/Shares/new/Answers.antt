@@ -21,12 +21,15 @@ returns g c =
     let known = g.L.Look.known c.args.look.now in
     let new = c.share_all.new.shares in
     let v = c.in_ok-shares.shares in
-    let same = with_items_is v new (omega (arith, c.share_all.auto.shares, ap length c.deref_mut.ensures.value, v.ok.0)) in
+    let same = with_items_is v new
+    (omega (arith, c.share_all.auto.shares, ap length c.deref_mut.ensures.value, v.ok.0)) in
     record {
       goals =
-          ap goals_of same ∙ c.in_ok-share_all.ensures.goals ∙ ap goals_of c.deref_mut.ensures.value ∙ c.in_ok-shares.ensures
+          ap goals_of same ∙ c.in_ok-share_all.ensures.goals ∙ ap goals_of c.deref_mut.ensures.value
+          ∙ c.in_ok-shares.ensures
           ∙ ap items c.in_ok-goals.ensures;
       paid = λ number action named.
           subst (λ (ss : List Share). PaysShares task known action ss) (sym same)
-          (c.in_ok-share_all.ensures.paid number action (slice_get_within task.domain.actions number action named) named);
+          (c.in_ok-share_all.ensures.paid number action (slice_get_within task.domain.actions number action named)
+          named);
     }
