@@ -1,5 +1,5 @@
 //! All states that are reached, those first that an estimate puts near the goal.
-ghost use Rattle.std.specs.Prelude.{◌≡◌, ◌∷◌, ◌≤◌, IfOk, OnOk, Some, slice_get};
+ghost use Rattle.std.specs.Prelude.{◌≡◌, ◌∷◌, [], ◌≤◌, IfOk, OnOk, Some, slice_get};
 ghost use Rattle.std.specs.BinaryHeap.{heap_items};
 ghost use Rattle.grounder.specs.Applicable.{IsApplicable, AreApplicable};
 ghost use Rattle.grounder.specs.Candidates.{AreCandidates};
@@ -7,18 +7,18 @@ ghost use Rattle.task_model.specs.Fit.{IsFit};
 ghost use Rattle.task_model.specs.declared.limits.TheConstants.{MOST_STATES};
 ghost use Rattle.best_first.specs.Explored.{LeadsToState};
 ghost use Rattle.best_first.specs.Frontiers.{IsFrontier, IsWidened, Spreads, in_heap};
-ghost use Rattle.best_first.specs.Outcome.{ComesWithin};
+ghost use Rattle.best_first.specs.Outcome.{BeginsAt, ComesWithin, explored_as};
 
 use crate::estimate::Estimate;
 use crate::expand::{Scene, Turn, grow};
-use crate::explore::{Explored, MOST_CANDIDATES};
+use crate::explore::{End, Explored, MOST_CANDIDATES};
 use crate::tree::Tree;
 use grounder::Candidates;
 use plan_check::meets_goal;
 use std::alloc::{AllocError, Global};
 use std::cmp::Reverse;
 use std::collections::BinaryHeap;
-use task_model::{GroundAction, Look, State};
+use task_model::{GroundAction, Look, State, Task};
 
 /// A state that is open: it was reached, and a step from it wasn't taken yet. The least rank goes
 /// first, and of equal ones the oldest.
@@ -41,6 +41,8 @@ struct Choice {
     judged: u32,
     /// Of each of the steps, whether it is taken.
     taken: Vec<bool>,
+    /// The place behind the last one that is.
+    end: usize,
 }
 
 /// The states that were reached, and those of them that are open.
@@ -49,6 +51,26 @@ struct Frontier {
     tree: Tree,
     queue: BinaryHeap<Reverse<Open>>,
     choice: Choice,
+}
+
+impl Frontier {
+    /// The initial state alone, which isn't open yet. Fails only where memory is wanting.
+    fn new(alloc: Global, task: &Task) -> Result<Frontier, AllocError>
+        requires { IsFit task.now }
+        ensures begins { IfOk result (λ frontier. BeginsAt task.now frontier.tree) }
+        ensures none { IfOk result (λ frontier. heap_items frontier.queue ≡ []) }
+    {
+        let tree = Tree::new(alloc, task)?;
+        Ok(Frontier {
+            tree,
+            queue: BinaryHeap::new(alloc),
+            choice: Choice {
+                judged: 0,
+                taken: Vec::new(alloc),
+                end: 0,
+            },
+        })
+    }
 }
 
 impl Choice {
@@ -70,16 +92,23 @@ impl Choice {
             self.judged = from.place;
         }
         self.taken.clear();
+        self.end = 0;
         for step in steps {
-            self.taken.push(!is_asked || estimate.wants(step))?;
+            let is_taken = !is_asked || estimate.wants(step);
+            self.taken.push(is_taken)?;
+            if is_taken {
+                self.end = self.taken.len();
+            }
         }
         Ok(())
     }
 }
 
-/// Whether more states are there than so many links, and an open state goes before this one.
-fn is_overtaken(frontier: &Frontier, from: Open, links: usize) -> bool {
+/// Whether more states are there than so many links, an open state goes before this one, and a step
+/// behind the one at this place is still to be taken in this turn.
+fn is_overtaken(frontier: &Frontier, from: Open, links: usize, index: usize) -> bool {
     frontier.tree.links.len() > links
+        && index.saturating_add(1) < frontier.choice.end
         && frontier
             .queue
             .peek()
@@ -189,7 +218,7 @@ fn visit_some<L: Look, E: Estimate>(
             Turn::Goal => return Ok(Turn::Goal),
             Turn::More => return Ok(Turn::More),
         }
-        if is_overtaken(frontier, from, links) {
+        if is_overtaken(frontier, from, links, index) {
             frontier.queue.push(Reverse(from))?;
             return Ok(Turn::On);
         }
@@ -253,23 +282,36 @@ pub(crate) fn explore_best<L: Look, E: Estimate>(
     ensures { IfOk result (ComesWithin scene.now.task.now (L.known scene.now.look.now)
         scene.now.limit) }
 {
-    let tree = Tree::new(alloc, scene.task)?;
-    let state = tree.store.get(0)?;
+    let mut frontier = Frontier::new(alloc, scene.task)?;
+    match explore_from(alloc, scene, estimate, &mut frontier) {
+        Ok(End::Goal) => Ok(Explored::Goal(frontier.tree)),
+        Ok(End::All) => Ok(Explored::All),
+        Ok(End::More) => Ok(Explored::More),
+        Err(error) => Err(error),
+    }
+}
+
+/// The same from the initial state alone.
+fn explore_from<L: Look, E: Estimate>(
+    alloc: Global,
+    scene: &Scene<'_, L>,
+    estimate: &mut E,
+    frontier: &mut Frontier,
+) -> Result<End, AllocError>
+    requires fit { IsFit scene.now.task.now }
+    requires some { 1 ≤ scene.now.limit }
+    requires limit { scene.now.limit ≤ MOST_STATES }
+    requires begins { BeginsAt scene.now.task.now frontier.old.tree }
+    requires none { heap_items frontier.old.queue ≡ [] }
+    ensures { IfOk result (λ end. ComesWithin scene.now.task.now (L.known scene.now.look.now)
+        scene.now.limit (explored_as frontier.new.tree end)) }
+{
+    let state = frontier.tree.store.get(0)?;
     if meets_goal(scene.task, scene.look, &state) {
-        return Ok(Explored::Goal(tree));
+        return Ok(End::Goal);
     }
     let candidates = Candidates::new(alloc, scene.task, scene.look, MOST_CANDIDATES)?;
     let rank = estimate.estimate(scene.task, scene.look, &state);
-    let choice = Choice {
-        judged: 0,
-        taken: Vec::new(alloc),
-    };
-    let queue = BinaryHeap::new(alloc);
-    let mut frontier = Frontier {
-        tree,
-        queue,
-        choice,
-    };
     frontier.queue.push(Reverse(Open {
         rank,
         place: 0,
@@ -278,13 +320,13 @@ pub(crate) fn explore_best<L: Look, E: Estimate>(
     }))?;
     'turns: for _ in 0..4 * scene.limit + 4 {
         let Some(Reverse(from)) = frontier.queue.pop() else {
-            return Ok(Explored::All);
+            return Ok(End::All);
         };
-        match expand(alloc, scene, &candidates, estimate, &mut frontier, from)? {
+        match expand(alloc, scene, &candidates, estimate, frontier, from)? {
             Turn::On => {}
-            Turn::Goal => return Ok(Explored::Goal(frontier.tree)),
-            Turn::More => return Ok(Explored::More),
+            Turn::Goal => return Ok(End::Goal),
+            Turn::More => return Ok(End::More),
         }
     }
-    Ok(Explored::More)
+    Ok(End::More)
 }

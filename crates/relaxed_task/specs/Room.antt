@@ -7,7 +7,7 @@ use Rattle.relaxed_task.specs.declared.task.RelaxedTask.{RelaxedTask}
 
 -- how many rows there are, with the numbers in them
 abbrev pub size_of : Lists → ℕ
-size_of lists = length lists.ends.items + length lists.items.items
+size_of lists = length lists.spans.items + length lists.items.items
 
 -- how many facts there are with the conditions that they meet, and rules with their effects
 abbrev pub part_count : Costs → ℕ

@@ -1,11 +1,12 @@
 //! What facts cost.
-ghost use Rattle.std.specs.Prelude.{◌≡◌, ◌≤◌, ◌↔◌, IfOk, IsTrue};
+ghost use Rattle.std.specs.Prelude.{◌≡◌, ◌≤◌, ◌↔◌, IsTrue};
 ghost use Rattle.relaxed_task.specs.declared.rules.TheConstants.{MOST_PARTS};
 
-use crate::lists::{Lists, number};
+use crate::lists::Lists;
 use crate::queue::Queue;
 use crate::rules::{MOST_PARTS, Open, Rules};
 use std::alloc::{AllocError, Global};
+use std::mem;
 
 /// What a fact costs that wasn't reached.
 pub(crate) const UNREACHED: u32 = u32::MAX;
@@ -41,6 +42,14 @@ struct Board {
 }
 
 impl Board {
+    /// Takes room for these rules. Fails only where memory is wanting.
+    fn make_room(&mut self, alloc: Global, rules: &Rules) -> Result<(), AllocError> {
+        self.open = Vec::from_slice(alloc, rules.start.as_slice())?;
+        self.costs.resize(rules.facts as usize, UNSEEN)?;
+        let times = rules.gives.total().saturating_add(rules.facts as usize);
+        self.queue.make_room(rules.len(), times)
+    }
+
     /// Notes that the fact can be had for this cost by this rule.
     fn offer(&mut self, fact: u32, cost: u32, giver: u32) {
         if let Some(known) = self.costs.get_mut(fact as usize) {
@@ -52,23 +61,21 @@ impl Board {
         }
     }
 
-    /// Offers what the rule gives.
-    fn give(&mut self, gives: &Lists, rule: u32) {
-        if let Some(open) = self.open.get(rule as usize) {
-            let cost = open.sum;
-            for fact in gives.row(rule as usize) {
-                self.offer(*fact, cost, rule);
-            }
+    /// Offers what the rule gives, which costs so much with all that it needs.
+    fn give(&mut self, gives: &Lists, rule: u32, cost: u32) {
+        for fact in gives.row(rule as usize) {
+            self.offer(*fact, cost, rule);
         }
     }
 
     /// The rule lacks one fact less, which costs so much.
     fn lower(&mut self, gives: &Lists, rule: u32, cost: u32) {
         if let Some(open) = self.open.get_mut(rule as usize) {
-            open.sum = open.sum.saturating_add(cost).min(UNREACHED - 1);
-            open.left = open.left.saturating_sub(1);
-            if open.left == 0 {
-                self.give(gives, rule);
+            let sum = open.sum.saturating_add(cost).min(UNREACHED - 1);
+            let left = open.left.saturating_sub(1);
+            *open = Open { left, sum };
+            if left == 0 {
+                self.give(gives, rule, sum);
             }
         }
     }
@@ -81,6 +88,14 @@ impl Board {
         }
         known.is_taken = true;
         Some(known.cost)
+    }
+}
+
+/// What the rule costs together with all that it needs, as far as this says.
+fn sum_at(open: &[Open], rule: u32) -> u32 {
+    match open.get(rule as usize) {
+        Some(open) => open.sum,
+        None => 0,
     }
 }
 
@@ -101,49 +116,38 @@ pub(crate) struct Costs {
 impl Costs {
     ghost use Rattle.relaxed_task.specs.Room.{part_count};
 
-    /// Over no rules. Fails only where memory is wanting.
-    pub(crate) fn none(alloc: Global) -> Result<Costs, AllocError>
-        ensures { IfOk result (λ costs. part_count costs ≡ 0) }
+    /// Over no rules, which takes no memory.
+    pub(crate) fn none(alloc: Global) -> Costs
+        ensures { part_count result ≡ 0 }
     {
-        let queue = Queue::new(alloc, 0, 0)?;
         let board = Board {
             open: Vec::new(alloc),
             costs: Vec::new(alloc),
-            queue,
+            queue: Queue::none(alloc),
         };
-        Ok(Costs {
+        Costs {
             needs: Lists::new(alloc),
             gives: Lists::new(alloc),
             needed_by: Lists::new(alloc),
             start: Vec::new(alloc),
             free: Vec::new(alloc),
             board,
-        })
+        }
     }
 
-    /// Over these rules. Fails only where memory is wanting.
-    pub(crate) fn new(alloc: Global, rules: Rules) -> Result<Costs, AllocError> {
-        let needed_by = rules.needed_by(alloc)?;
-        let mut free = Vec::new(alloc);
-        for (rule, open) in rules.start.as_slice().iter().enumerate() {
-            if open.left == 0 {
-                free.push(number(rule))?;
-            }
-        }
-        let open = Vec::from_slice(alloc, rules.start.as_slice())?;
-        let mut costs = Vec::new(alloc);
-        costs.resize(rules.facts as usize, UNSEEN)?;
-        let times = rules.gives.total().saturating_add(rules.facts as usize);
-        let queue = Queue::new(alloc, rules.len(), times)?;
-        let board = Board { open, costs, queue };
-        Ok(Costs {
-            needs: rules.needs,
-            gives: rules.gives,
-            needed_by,
-            start: rules.start,
-            free,
-            board,
-        })
+    /// Takes these rules in place of its own. Fails only where memory is wanting.
+    pub(crate) fn take_rules(
+        &mut self,
+        alloc: Global,
+        rules: &mut Rules,
+    ) -> Result<(), AllocError> {
+        self.needed_by = rules.needed_by(alloc)?;
+        self.free = rules.free(alloc)?;
+        self.board.make_room(alloc, rules)?;
+        self.needs = mem::replace(&mut rules.needs, Lists::new(alloc));
+        self.gives = mem::replace(&mut rules.gives, Lists::new(alloc));
+        self.start = mem::replace(&mut rules.start, Vec::new(alloc));
+        Ok(())
     }
 
     /// Begins anew: no fact holds.
@@ -152,8 +156,10 @@ impl Costs {
         for cost in self.board.costs.iter_mut() {
             *cost = UNSEEN;
         }
-        for (open, start) in self.board.open.iter_mut().zip(self.start.as_slice()) {
-            *open = *start;
+        let start = self.start.as_slice();
+        let open = self.board.open.as_mut_slice();
+        if open.len() == start.len() {
+            open.copy_from_slice(start);
         }
     }
 
@@ -204,6 +210,11 @@ impl Costs {
         }
     }
 
+    /// Whether a rule needs the fact.
+    pub(crate) fn is_needed(&self, fact: u32) -> bool {
+        !self.needed_by.row(fact as usize).is_empty()
+    }
+
     /// What the rule needs.
     pub(crate) fn needs(&self, rule: u32) -> &[u32] {
         self.needs.row(rule as usize)
@@ -211,10 +222,7 @@ impl Costs {
 
     /// What the rule costs by itself: 1 where it is a step, else 0.
     pub(crate) fn own_cost(&self, rule: u32) -> u32 {
-        match self.start.as_slice().get(rule as usize) {
-            Some(open) => open.sum,
-            None => 0,
-        }
+        sum_at(self.start.as_slice(), rule)
     }
 
     /// What the rule costs with all that it needs, where that was reached.
@@ -247,7 +255,8 @@ impl Costs {
     /// Goes through the facts, the cheapest first, until it comes to this one, or there are no more.
     pub(crate) fn spread(&mut self, until: Option<u32>) {
         for rule in self.free.as_slice() {
-            self.board.give(&self.gives, *rule);
+            let cost = sum_at(self.start.as_slice(), *rule);
+            self.board.give(&self.gives, *rule, cost);
         }
         for _ in 0..self.board.queue.room() {
             let Some(fact) = self.board.queue.pop() else {

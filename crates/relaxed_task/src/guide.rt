@@ -1,5 +1,5 @@
 //! What guides a search for a plan.
-ghost use Rattle.std.specs.Prelude.{◌≡◌, IfOk};
+ghost use Rattle.std.specs.Prelude.{IfOk, OnOk};
 ghost use Rattle.task_model.specs.Fit.{IsFit};
 ghost use Rattle.relaxed_task.specs.Room.{HasRoom};
 
@@ -9,7 +9,7 @@ use crate::seen::Seen;
 use crate::task::{Ahead, MOST_ROWS, RelaxedTask};
 use grounder::Candidates;
 use std::alloc::{AllocError, Global};
-use task_model::{Atom, GroundAction, Look, State, Task};
+use task_model::{Atom, GroundAction, Look, Seq, State, Task};
 
 /// What is said of a state.
 #[derive(Clone, Copy, PartialEq, Eq, Debug)]
@@ -43,31 +43,40 @@ impl Guide {
         requires { IsFit task.now }
         ensures { IfOk result (λ guide. HasRoom guide.relaxed) }
     {
-        let candidates = Candidates::new(alloc, task, look, MOST_ROWS)?;
-        let relaxed = RelaxedTask::with_candidates(alloc, task, look, &candidates)?;
-        Guide::over(alloc, relaxed, candidates)
+        let mut guide = Guide::empty(alloc);
+        match guide.fill(alloc, task, look) {
+            Ok(()) => Ok(guide),
+            Err(error) => Err(error),
+        }
     }
 
-    /// The guide over a relaxed task. Fails only where memory is wanting.
-    fn over(
-        alloc: Global,
-        relaxed: RelaxedTask,
-        candidates: Candidates,
-    ) -> Result<Guide, AllocError>
-        ensures { IfOk result (λ guide. guide.relaxed ≡ relaxed) }
-    {
-        let firsts = firsts_of(alloc, &candidates)?;
-        let costs = relaxed.costs();
-        let plan = RelaxedSteps::new(alloc, costs.rule_count(), costs.fact_count())?;
-        let seen = Seen::new(alloc, relaxed.atom_count(), costs.rule_count())?;
-        Ok(Guide {
-            relaxed,
-            candidates,
-            firsts,
-            plan,
-            seen,
+    /// The guide of a task in which nothing is left to do, which takes no memory.
+    fn empty(alloc: Global) -> Guide {
+        Guide {
+            relaxed: RelaxedTask::empty(alloc),
+            candidates: Candidates {
+                actions: Seq::from_vec(Vec::new(alloc)),
+            },
+            firsts: Vec::new(alloc),
+            plan: RelaxedSteps::none(alloc),
+            seen: Seen::none(alloc),
             has_plan: false,
-        })
+        }
+    }
+
+    /// Takes the task, and all its room. Fails only where memory is wanting.
+    fn fill<L: Look>(&mut self, alloc: Global, task: &Task, look: &L) -> Result<(), AllocError>
+        requires { IsFit task.now }
+        ensures { OnOk result (HasRoom self.new.relaxed) }
+    {
+        let candidates = Candidates::new(alloc, task, look, MOST_ROWS)?;
+        self.relaxed.fill(alloc, task, look, &candidates)?;
+        self.firsts = firsts_of(alloc, &candidates)?;
+        self.candidates = candidates;
+        let rules = self.relaxed.costs().rule_count();
+        let facts = self.relaxed.costs().fact_count();
+        self.plan.make_room(rules, facts)?;
+        self.seen.make_room(self.relaxed.atom_count(), rules)
     }
 
     /// Looks from the state for a relaxed plan, which stands until the next look, and says how many

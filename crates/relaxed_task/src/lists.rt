@@ -8,31 +8,41 @@ pub(crate) fn number(place: usize) -> u32 {
     u32::try_from(place).unwrap_or(u32::MAX)
 }
 
+/// Where a row stands among the numbers of all rows: from the first of these places to the one before
+/// the second.
+#[derive(Clone, Copy, Debug)]
+pub(crate) struct Span {
+    begin: u32,
+    end: u32,
+}
+
 /// Rows of numbers, one behind another.
 #[derive(Drop)]
 pub(crate) struct Lists {
     /// The numbers of all rows.
     items: Vec<u32>,
-    /// Behind which of them each row ends.
-    ends: Vec<u32>,
+    /// Where each row stands among them.
+    spans: Vec<Span>,
 }
 
 impl Lists {
     /// No rows, which take no memory.
     pub(crate) fn new(alloc: Global) -> Lists
         ensures items { result.items.items ≡ [] }
-        ensures ends { result.ends.items ≡ [] }
+        ensures spans { result.spans.items ≡ [] }
     {
         Lists {
             items: Vec::new(alloc),
-            ends: Vec::new(alloc),
+            spans: Vec::new(alloc),
         }
     }
 
     /// Puts a row behind the others. Fails only where memory is wanting.
     pub(crate) fn push(&mut self, row: &[u32]) -> Result<(), AllocError> {
+        let begin = number(self.items.len());
         self.items.extend_from_slice(row)?;
-        self.ends.push(number(self.items.len()))?;
+        let end = number(self.items.len());
+        self.spans.push(Span { begin, end })?;
         Ok(())
     }
 
@@ -45,9 +55,9 @@ impl Lists {
 
     /// How many rows there are.
     pub(crate) fn len(&self) -> usize
-        ensures { result ≡ length self.now.ends.items }
+        ensures { result ≡ length self.now.spans.items }
     {
-        self.ends.len()
+        self.spans.len()
     }
 
     /// The numbers of all rows.
@@ -60,61 +70,67 @@ impl Lists {
     pub(crate) fn kept(&self, alloc: Global, is_kept: &[bool]) -> Result<Lists, AllocError> {
         let mut kept = Lists::new(alloc);
         for place in 0..self.len() {
+            let begin = number(kept.items.len());
             for item in self.row(place) {
                 if is_kept.get(*item as usize).copied().unwrap_or(false) {
                     kept.items.push(*item)?;
                 }
             }
-            kept.ends.push(number(kept.items.len()))?;
+            let end = number(kept.items.len());
+            kept.spans.push(Span { begin, end })?;
         }
         Ok(kept)
     }
 
     /// The row at this place; none is empty.
     pub(crate) fn row(&self, place: usize) -> &[u32] {
-        let begin = match place.checked_sub(1) {
-            Some(before) => self.ends.get(before).copied().unwrap_or(u32::MAX),
-            None => 0,
-        };
-        let end = self.ends.get(place).copied().unwrap_or(0);
-        self.items.get(begin as usize..end as usize).unwrap_or(&[])
+        match self.spans.as_slice().get(place) {
+            Some(span) => {
+                let places = span.begin as usize..span.end as usize;
+                self.items.as_slice().get(places).unwrap_or(&[])
+            }
+            None => &[],
+        }
     }
 
     /// For each number below `count` the places of the rows in which it stands. Fails only where
     /// memory is wanting.
     pub(crate) fn inverse(&self, alloc: Global, count: usize) -> Result<Lists, AllocError> {
-        let mut ends = self.begins(alloc, count)?;
+        let mut spans = self.begins(alloc, count)?;
         let mut items = Vec::new(alloc);
         items.resize(self.items.len(), 0)?;
         for place in 0..self.len() {
             for item in self.row(place) {
-                if let Some(end) = ends.get_mut(*item as usize) {
-                    if let Some(free) = items.get_mut(*end as usize) {
+                if let Some(span) = spans.get_mut(*item as usize) {
+                    if let Some(free) = items.get_mut(span.end as usize) {
                         *free = number(place);
                     }
-                    *end = end.saturating_add(1);
+                    span.end = span.end.saturating_add(1);
                 }
             }
         }
-        Ok(Lists { items, ends })
+        Ok(Lists { items, spans })
     }
 
-    /// Behind how many others the rows of each number begin, if those of lesser numbers stand before
+    /// Empty rows, one for each number, which stand where the rows of lesser numbers have room before
     /// them. Fails only where memory is wanting.
-    fn begins(&self, alloc: Global, count: usize) -> Result<Vec<u32>, AllocError> {
-        let mut begins: Vec<u32> = Vec::new(alloc);
-        begins.resize(count, 0)?;
+    fn begins(&self, alloc: Global, count: usize) -> Result<Vec<Span>, AllocError> {
+        let mut spans: Vec<Span> = Vec::new(alloc);
+        spans.resize(count, Span { begin: 0, end: 0 })?;
         for item in self.items.as_slice() {
-            if let Some(times) = begins.get_mut(*item as usize) {
-                *times = times.saturating_add(1);
+            if let Some(span) = spans.get_mut(*item as usize) {
+                span.end = span.end.saturating_add(1);
             }
         }
         let mut before: u32 = 0;
-        for begin in begins.iter_mut() {
-            let times = *begin;
-            *begin = before;
+        for span in spans.iter_mut() {
+            let times = span.end;
+            *span = Span {
+                begin: before,
+                end: before,
+            };
             before = before.saturating_add(times);
         }
-        Ok(begins)
+        Ok(spans)
     }
 }

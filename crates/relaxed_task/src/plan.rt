@@ -33,13 +33,9 @@ pub(crate) struct RelaxedSteps {
 }
 
 impl RelaxedSteps {
-    /// For plans by so many rules over so many facts. Fails only where memory is wanting.
-    pub(crate) fn new(
-        alloc: Global,
-        rules: usize,
-        facts: usize,
-    ) -> Result<RelaxedSteps, AllocError> {
-        let mut plan = RelaxedSteps {
+    /// For no rules, which takes no memory.
+    pub(crate) fn none(alloc: Global) -> RelaxedSteps {
+        RelaxedSteps {
             rules: Vec::new(alloc),
             facts: Vec::new(alloc),
             wanted: Vec::new(alloc),
@@ -47,12 +43,15 @@ impl RelaxedSteps {
             left: 0,
             turn: 0,
             count: 0,
-        };
-        plan.rules.resize(rules, 0)?;
-        plan.wanted.resize(rules, 0)?;
-        plan.facts.resize(facts, 0)?;
-        plan.stack.resize(facts, 0)?;
-        Ok(plan)
+        }
+    }
+
+    /// Takes room for plans by so many rules over so many facts. Fails only where memory is wanting.
+    pub(crate) fn make_room(&mut self, rules: usize, facts: usize) -> Result<(), AllocError> {
+        self.rules.resize(rules, 0)?;
+        self.wanted.resize(rules, 0)?;
+        self.facts.resize(facts, 0)?;
+        self.stack.resize(facts, 0)
     }
 
     /// Begins anew, with no steps.

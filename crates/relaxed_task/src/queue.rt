@@ -30,25 +30,28 @@ pub(crate) struct Queue {
 }
 
 impl Queue {
-    /// A queue for facts by so many rules, into which they can be put so many times. Fails only where
+    /// A queue without room, which takes no memory.
+    pub(crate) fn none(alloc: Global) -> Queue {
+        Queue {
+            heads: Vec::new(alloc),
+            entries: Vec::new(alloc),
+            used: 0,
+            at: 0,
+            last: 0,
+        }
+    }
+
+    /// Takes all facts out, and room for facts by so many rules, into which they can be put so many times. Fails only where
     /// memory is wanting.
-    pub(crate) fn new(alloc: Global, rules: usize, times: usize) -> Result<Queue, AllocError> {
-        let mut heads = Vec::new(alloc);
+    pub(crate) fn make_room(&mut self, rules: usize, times: usize) -> Result<(), AllocError> {
+        self.clear();
         let buckets = rules.saturating_mul(8).saturating_add(64);
-        heads.resize(buckets.min(MOST_BUCKETS), NONE)?;
-        let mut entries = Vec::new(alloc);
+        self.heads.resize(buckets.min(MOST_BUCKETS), NONE)?;
         let free = Entry {
             fact: 0,
             next: NONE,
         };
-        entries.resize(times, free)?;
-        Ok(Queue {
-            heads,
-            entries,
-            used: 0,
-            at: 0,
-            last: 0,
-        })
+        self.entries.resize(times, free)
     }
 
     /// How many times facts can be put in.

@@ -15,21 +15,35 @@ pub(crate) struct Reached {
 }
 
 impl Reached {
-    /// No atoms of so many predicates, and these steps. Fails only where memory is wanting.
-    pub(crate) fn new(
-        alloc: Global,
-        predicates: usize,
-        steps: Vec<bool>,
-    ) -> Result<Reached, AllocError> {
-        let mut by_predicate = Vec::new(alloc);
-        for _ in 0..predicates {
-            by_predicate.push(Vec::new(alloc))?;
-        }
-        Ok(Reached {
+    /// No atoms and no steps, which take no memory.
+    pub(crate) fn new(alloc: Global) -> Reached {
+        Reached {
             atoms: IndexSet::new(alloc),
-            by_predicate,
-            steps,
-        })
+            by_predicate: Vec::new(alloc),
+            steps: Vec::new(alloc),
+        }
+    }
+
+    /// Takes room for atoms of so many predicates. Fails only where memory is wanting.
+    pub(crate) fn make_room(&mut self, alloc: Global, predicates: usize) -> Result<(), AllocError> {
+        for _ in 0..predicates {
+            self.by_predicate.push(Vec::new(alloc))?;
+        }
+        Ok(())
+    }
+
+    /// Says whether the next step is reached. Fails only where memory is wanting.
+    pub(crate) fn note_step(&mut self, is_reached: bool) -> Result<(), AllocError> {
+        self.steps.push(is_reached)?;
+        Ok(())
+    }
+
+    /// Puts atoms behind the others, unless they are there. Fails only where memory is wanting.
+    pub(crate) fn add_all(&mut self, atoms: &[Atom]) -> Result<(), AllocError> {
+        for atom in atoms {
+            self.add(atom.copy()?)?;
+        }
+        Ok(())
     }
 
     /// Puts an atom behind the others, unless it is there. Fails only where memory is wanting.

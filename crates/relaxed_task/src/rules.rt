@@ -105,6 +105,17 @@ impl Rules {
         Ok(())
     }
 
+    /// The rules that need nothing. Fails only where memory is wanting.
+    pub(crate) fn free(&self, alloc: Global) -> Result<Vec<u32>, AllocError> {
+        let mut free = Vec::new(alloc);
+        for (rule, open) in self.start.as_slice().iter().enumerate() {
+            if open.left == 0 {
+                free.push(number(rule))?;
+            }
+        }
+        Ok(free)
+    }
+
     /// For each fact the rules that need it. Fails only where memory is wanting.
     pub(crate) fn needed_by(&self, alloc: Global) -> Result<Lists, AllocError> {
         self.needs.inverse(alloc, self.facts as usize)

@@ -20,15 +20,22 @@ pub(crate) struct Seen {
 }
 
 impl Seen {
-    /// A table for so many atoms, and numbers of steps up to this. Fails only where memory is
+    /// A table without rows, which takes no memory.
+    pub(crate) fn none(alloc: Global) -> Seen {
+        Seen {
+            words: Vec::new(alloc),
+            width: 0,
+            rows: 0,
+        }
+    }
+
+    /// Takes room for so many atoms, and numbers of steps up to this. Fails only where memory is
     /// wanting.
-    pub(crate) fn new(alloc: Global, atoms: usize, steps: usize) -> Result<Seen, AllocError> {
-        let width = (atoms / 64).saturating_add(1);
-        let room = (MOST_BITS / 64).checked_div(width).unwrap_or(0);
-        let rows = room.min(MOST_ROWS).min(steps.saturating_add(1));
-        let mut words = Vec::new(alloc);
-        words.resize(width.saturating_mul(rows), 0)?;
-        Ok(Seen { words, width, rows })
+    pub(crate) fn make_room(&mut self, atoms: usize, steps: usize) -> Result<(), AllocError> {
+        self.width = (atoms / 64).saturating_add(1);
+        let room = (MOST_BITS / 64).checked_div(self.width).unwrap_or(0);
+        self.rows = room.min(MOST_ROWS).min(steps.saturating_add(1));
+        self.words.resize(self.width.saturating_mul(self.rows), 0)
     }
 
     /// Puts the atoms into the row of so many steps, and answers whether one of them wasn't there.

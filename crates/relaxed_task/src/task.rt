@@ -1,5 +1,5 @@
 //! What is left to the goal.
-ghost use Rattle.std.specs.Prelude.{IfOk};
+ghost use Rattle.std.specs.Prelude.{IfOk, OnOk};
 ghost use Rattle.task_model.specs.Fit.{IsFit};
 ghost use Rattle.grounder.specs.Candidates.{AreCandidates};
 ghost use Rattle.relaxed_task.specs.Room.{HasRoom};
@@ -14,6 +14,7 @@ use crate::tuples::filled;
 use grounder::Candidates;
 use plan_check::initial;
 use std::alloc::{AllocError, Global};
+use std::mem;
 use task_model::{Look, State, Task};
 
 /// The most arguments of actions for which there is room.
@@ -36,12 +37,12 @@ pub(crate) enum Ahead {
 pub struct RelaxedTask {
     /// The facts of fluent atoms.
     atoms: AtomFacts,
-    /// The facts that atoms are false.
+    /// The facts that atoms are false which a rule or the goal needs.
     lacks: Vec<u32>,
     /// For each step its rule, if it has one.
     steps: Vec<Option<u32>>,
     /// What is reached, if there was room to find it.
-    reached: Option<Reached>,
+    reached: Option<Box<Reached>>,
     /// The numbers of the atoms of the state that was looked at last, `held_count` of them.
     held: Vec<u32>,
     held_count: usize,
@@ -52,21 +53,21 @@ pub struct RelaxedTask {
 }
 
 impl RelaxedTask {
-    /// The one in which nothing is left to do. Fails only where memory is wanting.
-    fn empty(alloc: Global) -> Result<RelaxedTask, AllocError>
-        ensures { IfOk result HasRoom }
+    /// The one in which nothing is left to do, which takes no memory.
+    pub(crate) fn empty(alloc: Global) -> RelaxedTask
+        ensures { HasRoom result }
     {
-        Ok(RelaxedTask {
+        RelaxedTask {
             atoms: AtomFacts::new(alloc),
             lacks: Vec::new(alloc),
             steps: Vec::new(alloc),
             reached: None,
             held: Vec::new(alloc),
             held_count: 0,
-            costs: Costs::none(alloc)?,
+            costs: Costs::none(alloc),
             goal: Literal::Always,
             step_cost: 1,
-        })
+        }
     }
 
     /// The task over what is known. It takes all its room here: where there is none for all parts of
@@ -77,67 +78,116 @@ impl RelaxedTask {
         ensures { IfOk result HasRoom }
     {
         let candidates = Candidates::new(alloc, task, look, MOST_ROWS)?;
-        RelaxedTask::with_candidates(alloc, task, look, &candidates)
+        let mut relaxed = RelaxedTask::empty(alloc);
+        match relaxed.fill(alloc, task, look, &candidates) {
+            Ok(()) => Ok(relaxed),
+            Err(error) => Err(error),
+        }
     }
 
-    /// The same over these steps.
-    pub(crate) fn with_candidates<L: Look>(
+    /// Takes the task over these steps in place of what it has, with the room that `new` tells. Fails only where memory is wanting.
+    pub(crate) fn fill<L: Look>(
+        &mut self,
         alloc: Global,
         task: &Task,
         look: &L,
         candidates: &Candidates,
-    ) -> Result<RelaxedTask, AllocError>
+    ) -> Result<(), AllocError>
         requires fit { IsFit task.now }
         requires candidates { AreCandidates task.now (L.known look.now) candidates.now }
-        ensures { IfOk result HasRoom }
+        ensures { OnOk result (HasRoom self.new) }
     {
-        let Some(net) = relax(alloc, task, look, None, candidates)? else {
-            return RelaxedTask::empty(alloc);
+        self.find(alloc, task, look, candidates)?;
+        self.keep_room(alloc);
+        Ok(())
+    }
+
+    /// Takes the facts and rules of the task, if there is room for them: first those by which is found
+    /// what is reached, and then those of all conditions. Fails only where memory is wanting.
+    fn find<L: Look>(
+        &mut self,
+        alloc: Global,
+        task: &Task,
+        look: &L,
+        candidates: &Candidates,
+    ) -> Result<(), AllocError>
+        requires fit { IsFit task.now }
+        requires candidates { AreCandidates task.now (L.known look.now) candidates.now }
+    {
+        let scene = Scene {
+            alloc,
+            task,
+            look,
+            reached: None,
         };
-        let mut plain = RelaxedTask::over(alloc, net)?;
-        let reached = plain.reached(alloc, task)?;
-        match relax(alloc, task, look, Some(&reached), candidates)? {
-            Some(net) => RelaxedTask::over(alloc, net)?.within_room(alloc, reached),
-            None => plain.within_room(alloc, reached),
+        if !self.relax(&scene, candidates)? {
+            return Ok(());
         }
+        let mut reached = Box::new(alloc, Reached::new(alloc))?;
+        self.reach(alloc, task, &mut reached)?;
+        let scene = Scene {
+            alloc,
+            task,
+            look,
+            reached: Some(&reached),
+        };
+        self.relax(&scene, candidates)?;
+        self.reached = Some(reached);
+        Ok(())
     }
 
-    /// The same with what is reached, or the one in which nothing is left to do where there is no room
-    /// for it. Fails only where memory is wanting.
-    fn within_room(self, alloc: Global, reached: Reached) -> Result<RelaxedTask, AllocError>
-        ensures { IfOk result HasRoom }
+    /// Takes the facts and rules of the task in place of its own, if there is room for them, and
+    /// answers whether there is. Fails only where memory is wanting.
+    fn relax<L: Look>(
+        &mut self,
+        scene: &Scene<'_, '_, L>,
+        candidates: &Candidates,
+    ) -> Result<bool, AllocError>
+        requires fit { IsFit scene.now.task.now }
+        requires candidates { AreCandidates scene.now.task.now (L.known scene.now.look.now)
+            candidates.now }
     {
-        if self.costs.has_room() {
-            let mut whole = self;
-            whole.reached = Some(reached);
-            Ok(whole)
-        } else {
-            RelaxedTask::empty(alloc)
+        let mut net = Box::new(scene.alloc, Net::new(scene.alloc))?;
+        let is_whole = put_all(scene, &mut net, candidates)?;
+        if is_whole {
+            self.take_net(scene.alloc, &mut net)?;
         }
+        Ok(is_whole)
     }
 
-    /// Over these facts and rules. Fails only where memory is wanting.
-    fn over(alloc: Global, net: Net) -> Result<RelaxedTask, AllocError> {
+    /// Takes what is in the net in place of its own. Fails only where memory is wanting.
+    fn take_net(&mut self, alloc: Global, net: &mut Net) -> Result<(), AllocError> {
+        self.goal = net.goal;
+        self.step_cost = net.mean_cost();
+        self.costs.take_rules(alloc, &mut net.rules)?;
+        self.atoms = mem::replace(&mut net.fluents, AtomFacts::new(alloc));
+        self.steps = mem::replace(&mut net.steps, Vec::new(alloc));
+        self.held.resize(self.atoms.len(), 0)?;
+        self.held_count = 0;
+        self.lacks = self.needed_lacks(alloc)?;
+        Ok(())
+    }
+
+    /// The facts that atoms are false which a rule or the goal needs. Fails only where memory is wanting.
+    fn needed_lacks(&self, alloc: Global) -> Result<Vec<u32>, AllocError> {
         let mut lacks = Vec::new(alloc);
-        for (_, sides) in net.fluents.entries() {
+        for (_, sides) in self.atoms.entries() {
             if let Some(fact) = sides.lacks {
-                lacks.push(fact)?;
+                if self.costs.is_needed(fact) || self.goal == Literal::Fact(fact) {
+                    lacks.push(fact)?;
+                }
             }
         }
-        let step_cost = net.mean_cost();
-        let mut held = Vec::new(alloc);
-        held.resize(net.fluents.len(), 0)?;
-        Ok(RelaxedTask {
-            atoms: net.fluents,
-            lacks,
-            steps: net.steps,
-            reached: None,
-            held,
-            held_count: 0,
-            costs: Costs::new(alloc, net.rules)?,
-            goal: net.goal,
-            step_cost,
-        })
+        Ok(lacks)
+    }
+
+    /// Leaves nothing to do where there is no room for the facts and rules.
+    fn keep_room(&mut self, alloc: Global)
+        ensures { HasRoom self.new }
+    {
+        if !self.costs.has_room() {
+            *self = RelaxedTask::empty(alloc);
+        }
     }
 
     /// What a step costs, on the average and rounded down, and at least 1.
@@ -172,7 +222,10 @@ impl RelaxedTask {
 
     /// What is reached, if there was room to find it.
     pub(crate) fn all_reached(&self) -> Option<&Reached> {
-        self.reached.as_ref()
+        match &self.reached {
+            Some(reached) => Some(reached),
+            None => None,
+        }
     }
 
     /// What facts cost, as far as was found last.
@@ -218,21 +271,30 @@ impl RelaxedTask {
         }
     }
 
-    /// What is reached from the initial state. Fails only where memory is wanting.
-    fn reached(&mut self, alloc: Global, task: &Task) -> Result<Reached, AllocError>
+    /// Puts in what is reached from the initial state. Fails only where memory is wanting.
+    fn reach(&mut self, alloc: Global, task: &Task, reached: &mut Reached) -> Result<(), AllocError>
         requires { IsFit task.now }
     {
         let state = initial(alloc, task)?;
         self.begin(&state);
         self.costs.spread(None);
-        let mut taken = Vec::with_capacity(alloc, self.steps.len())?;
+        reached.make_room(alloc, task.domain.predicates.len())?;
+        self.note_steps(reached)?;
+        reached.add_all(state.as_slice())?;
+        self.note_atoms(reached)
+    }
+
+    /// Says of each step whether it is reached. Fails only where memory is wanting.
+    fn note_steps(&self, reached: &mut Reached) -> Result<(), AllocError> {
         for rule in self.steps.as_slice() {
-            taken.push(rule.is_some_and(|rule| self.costs.is_ready(rule as usize)))?;
+            let is_reached = rule.is_some_and(|rule| self.costs.is_ready(rule as usize));
+            reached.note_step(is_reached)?;
         }
-        let mut reached = Reached::new(alloc, task.domain.predicates.len(), taken)?;
-        for atom in state.as_slice() {
-            reached.add(atom.copy()?)?;
-        }
+        Ok(())
+    }
+
+    /// Puts in the atoms that are reached. Fails only where memory is wanting.
+    fn note_atoms(&self, reached: &mut Reached) -> Result<(), AllocError> {
         for (atom, sides) in self.atoms.entries() {
             if sides
                 .holds
@@ -241,43 +303,43 @@ impl RelaxedTask {
                 reached.add(atom.copy()?)?;
             }
         }
-        Ok(reached)
+        Ok(())
     }
 }
 
-/// The facts and rules of the task, if there is room for them, with what is reached, or None where
-/// that isn't known yet. Fails only where memory is wanting.
-fn relax<'a, 'b, L: Look>(
-    alloc: Global,
-    task: &'a Task,
-    look: &'a L,
-    reached: Option<&'b Reached>,
+/// Puts the facts and rules of the task into the net, and answers whether there is room for them.
+/// Fails only where memory is wanting.
+fn put_all<L: Look>(
+    scene: &Scene<'_, '_, L>,
+    net: &mut Net,
     candidates: &Candidates,
-) -> Result<Option<Net>, AllocError>
-    requires fit { IsFit task.now }
-    requires candidates { AreCandidates task.now (L.known look.now) candidates.now }
+) -> Result<bool, AllocError>
+    requires fit { IsFit scene.now.task.now }
+    requires candidates { AreCandidates scene.now.task.now (L.known scene.now.look.now)
+        candidates.now }
 {
-    let scene = Scene {
-        alloc,
-        task,
-        look,
-        reached,
-    };
-    let mut net = Net::new(alloc);
-    let goal = needs(&scene, &mut net, &task.problem.goal, &filled(&[]))?;
+    put_goal(scene, net)?;
+    if !add_steps(scene, net, candidates)? {
+        return Ok(false);
+    }
+    settle(scene, net)?;
+    if net.rules.is_full() {
+        return Ok(false);
+    }
+    if scene.reached.is_some() {
+        net.trim(scene.alloc)?;
+    }
+    Ok(true)
+}
+
+/// Puts the facts of the goal into the net. Fails only where memory is wanting.
+fn put_goal<L: Look>(scene: &Scene<'_, '_, L>, net: &mut Net) -> Result<(), AllocError>
+    requires { IsFit scene.now.task.now }
+{
+    let goal = needs(scene, net, &scene.task.problem.goal, &filled(&[]))?;
     net.goal = match goal {
         Some(facts) => net.whole(Joint::All, facts)?,
         None => Literal::Never,
     };
-    if !add_steps(&scene, &mut net, candidates)? {
-        return Ok(None);
-    }
-    settle(&scene, &mut net)?;
-    if net.rules.is_full() {
-        return Ok(None);
-    }
-    if reached.is_some() {
-        net.trim(alloc)?;
-    }
-    Ok(Some(net))
+    Ok(())
 }

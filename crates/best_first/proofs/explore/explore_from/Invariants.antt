@@ -1,6 +1,6 @@
 use Rattle.std.proofs.Common.{◌-◌}
 use Rattle.best_first.specs.Explored.{IsExplored}
-use Rattle.best_first.proofs.explore.explore.Given as goal
+use Rattle.best_first.proofs.explore.explore_from.Given as goal
 
 -- the states before the next one were expanded
 abbrev pub invariant-loop-next : goal.invariant-loop-next

@@ -1,6 +1,6 @@
 use Rattle.std.specs.BinaryHeap.{heap_items}
 use Rattle.best_first.specs.Frontiers.{IsFrontier}
-use Rattle.best_first.proofs.best.explore_best.Given as goal
+use Rattle.best_first.proofs.best.explore_from.Given as goal
 
 -- each state is open or was expanded
 abbrev pub invariant-turns : goal.invariant-turns
