@@ -1,4 +1,4 @@
-mod AfterLedgerLemmas
+mod AfterKnowledgeLemmas
 mod CallsLemmas
 pub mod DreamLinesLemmas
 mod JudgedLemmas

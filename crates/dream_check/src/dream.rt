@@ -5,7 +5,7 @@ ghost use Rattle.dream_check.specs.Listed.{IsPartJudged, IsJudgedOver, known_at}
 ghost use Rattle.dreaming.specs.Parts.{IsListed, IsListing};
 ghost use Rattle.dreaming.specs.Thinning.{IsPartAt};
 ghost use Rattle.shown_steps.specs.Plans.{IsPlan};
-ghost use Rattle.learning.specs.Ledgers.{IsLedger};
+ghost use Rattle.learning.specs.Knowledge.{IsKnowledge};
 ghost use Rattle.transcript_model.specs.Rounds.{Limits};
 ghost use Rattle.transcript_model.specs.declared.entry.Entry.{Entry as AnyEntry};
 
@@ -14,7 +14,7 @@ use crate::steps::{Followed, follow};
 use crate::table::Table;
 use crate::uses::{Used, take_uses};
 use dreaming::{Listing, Part, entries_of};
-use learning::Ledger;
+use learning::Knowledge;
 use optimistic_set::{OptEntry, OptimisticFault, Supposed, Tried, optimistic};
 use std::alloc::{AllocError, Global};
 use task_model::Task;
@@ -102,7 +102,7 @@ fn judge_over(
     }
 }
 
-/// Judges a dream after the entries of the ledger, where these instances were tried: its uses, of
+/// Judges a dream after the entries of the knowledge, where these instances were tried: its uses, of
 /// which there are some, and its steps, as a report shows them.
 ///
 /// `Right` comes exactly where it is a dream (PDDLStream 2020; what may be left out is this
@@ -113,21 +113,28 @@ fn judge_over(
 pub fn judge_dream(
     alloc: Global,
     task: &Task,
-    ledger: &Ledger,
+    knowledge: &Knowledge,
     tried: &Tried,
     depth: u8,
     uses: &[DreamUse],
     steps: &[Call],
 ) -> Result<Dreamed, AllocError>
-    requires ledger { (version : ℕ) × (before : List AnyEntry)
-        × IsLedger version task.now before ledger.now }
+    requires knowledge { (version : ℕ) × (before : List AnyEntry)
+        × IsKnowledge version task.now before knowledge.now }
     requires some { 0 < length uses.now }
     ensures { (limits : Limits) (before : List AnyEntry) → limits.depth ≡ depth
-        → IsLedger limits.version task.now before ledger.now
+        → IsKnowledge limits.version task.now before knowledge.now
         → IfOk result (IsDreamJudged limits task.now before tried.now uses.now steps.now) }
 {
     let depth = u32::from(depth);
-    match optimistic(alloc, task, &ledger.facts, &ledger.queue, tried, depth) {
+    match optimistic(
+        alloc,
+        task,
+        &knowledge.facts,
+        &knowledge.queue,
+        tried,
+        depth,
+    ) {
         Ok(supposed) => judge_over(alloc, task, &supposed, uses, steps),
         Err(OptimisticFault::TooManyEntries) => Ok(Dreamed::Use(0)),
         Err(OptimisticFault::Memory) => Err(AllocError),

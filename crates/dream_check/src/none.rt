@@ -3,12 +3,12 @@ ghost use Rattle.std.specs.Prelude.{◌≡◌, ℕ, ◌≤◌, List, IfOk};
 ghost use Rattle.dream_check.specs.Judged.{IsNoneJudged, IsNoneOver};
 ghost use Rattle.task_model.specs.Fit.{IsFit};
 ghost use Rattle.task_model.specs.declared.limits.TheConstants.{MOST_STATES};
-ghost use Rattle.learning.specs.Ledgers.{IsLedger};
+ghost use Rattle.learning.specs.Knowledge.{IsKnowledge};
 ghost use Rattle.transcript_model.specs.Rounds.{Limits};
 ghost use Rattle.transcript_model.specs.declared.entry.Entry.{Entry as AnyEntry};
 
 use best_first::is_solvable_within;
-use learning::Ledger;
+use learning::Knowledge;
 use optimistic_set::{OptimisticFault, Tried, optimistic};
 use std::alloc::{AllocError, Global};
 use task_model::{Look, Task};
@@ -42,7 +42,7 @@ fn judge_list<L: Look>(
     }
 }
 
-/// Whether no plan rests on what may be supposed after the entries of the ledger, where these
+/// Whether no plan rests on what may be supposed after the entries of the knowledge, where these
 /// instances were tried: because more than 20,000 entries may be supposed, because no plan is valid
 /// over the list, or because more than `states` states are reached over it. None exactly where
 /// `limit` is less than `states` and more than `limit` states are reached over a list that isn't
@@ -50,24 +50,31 @@ fn judge_list<L: Look>(
 pub fn judge_none(
     alloc: Global,
     task: &Task,
-    ledger: &Ledger,
+    knowledge: &Knowledge,
     tried: &Tried,
     depth: u8,
     states: u32,
     limit: u32,
 ) -> Result<Option<bool>, AllocError>
-    requires ledger { (version : ℕ) × (before : List AnyEntry)
-        × IsLedger version task.now before ledger.now }
+    requires knowledge { (version : ℕ) × (before : List AnyEntry)
+        × IsKnowledge version task.now before knowledge.now }
     requires some_states { 1 ≤ states }
     requires few_states { states ≤ MOST_STATES }
     requires some { 1 ≤ limit }
     requires few { limit ≤ MOST_STATES }
     ensures { (limits : Limits) (before : List AnyEntry) → limits.depth ≡ depth
-        → limits.states ≡ states → IsLedger limits.version task.now before ledger.now
+        → limits.states ≡ states → IsKnowledge limits.version task.now before knowledge.now
         → IfOk result (IsNoneJudged limits task.now before tried.now limit) }
 {
     let depth = u32::from(depth);
-    match optimistic(alloc, task, &ledger.facts, &ledger.queue, tried, depth) {
+    match optimistic(
+        alloc,
+        task,
+        &knowledge.facts,
+        &knowledge.queue,
+        tried,
+        depth,
+    ) {
         Ok(supposed) => judge_list(alloc, task, &supposed.look(), states, limit),
         Err(OptimisticFault::TooManyEntries) => Ok(Some(true)),
         Err(OptimisticFault::Memory) => Err(AllocError),

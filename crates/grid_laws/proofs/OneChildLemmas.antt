@@ -4,7 +4,7 @@ use Rattle.grid_laws.proofs.MadePoolLemmas.{made_workers, workers_are}
 use Rattle.grid_laws.proofs.ProgramLemmas.{program_runs}
 use Rattle.grid_laws.specs.Laws.{MadeRunsAskOneChild}
 use Rattle.lemmas.proofs.Members.{get_single}
-use Rattle.level_run.proofs.TabledLemmas.{resting}
+use Rattle.turn_run.proofs.TabledLemmas.{resting}
 use Rattle.pools.specs.Pools.{Workers}
 use Rattle.round_run.specs.Dialogue.{IsOneOf, is_to, requests_of, workers_in}
 use Rattle.table_runs.proofs.AskingPlaceLemmas.{passing_there}

@@ -2,6 +2,6 @@ pub mod CertifiedLemmas
 pub mod FitStreamLemmas
 pub mod LearningLemmas
 pub mod LearningTupleLemmas
-pub mod LedgersLemmas
+pub mod KnowledgeLemmas
 pub mod OutputsLemmas
 pub mod TuplesLemmas

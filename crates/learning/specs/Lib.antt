@@ -1,5 +1,5 @@
 pub mod Learning
-pub mod Ledgers
+pub mod Knowledge
 pub mod Numbers
 pub mod Outputs
 pub mod Tuples

@@ -5,20 +5,20 @@ ghost use Rattle.task_model.specs.Fit.{IsFit};
 ghost use Rattle.task_model.specs.Streams.{MoreAreDue};
 ghost use Rattle.task_model.specs.declared.limits.TheConstants.{MOST_DUE};
 
-use crate::ledger::Ledger;
+use crate::knowledge::Knowledge;
 use instance_queue::{Due, QueueFault};
 use std::alloc::AllocError;
 use task_model::Task;
 
 /// What is due, or None where that is more than 1,000,000 instances.
-pub fn dues_of(task: &Task, ledger: &Ledger) -> Result<Option<Vec<Due>>, AllocError>
+pub fn dues_of(task: &Task, knowledge: &Knowledge) -> Result<Option<Vec<Due>>, AllocError>
     requires { IsFit task.now }
     ensures some { IfOk result (λ found. IfSome found
-        (λ dues. AreDueInTurn task.now ledger.now.facts.known ledger.now.queue dues.items)) }
+        (λ dues. AreDueInTurn task.now knowledge.now.facts.known knowledge.now.queue dues.items)) }
     ensures none { IfOk result (λ found. IfNone found
-        (MoreAreDue MOST_DUE task.now ledger.now.facts.known ledger.now.queue)) }
+        (MoreAreDue MOST_DUE task.now knowledge.now.facts.known knowledge.now.queue)) }
 {
-    match ledger.queue.next_level(task, &ledger.facts) {
+    match knowledge.queue.next_level(task, &knowledge.facts) {
         Ok(dues) => Ok(Some(dues)),
         Err(QueueFault::TooManyInstances) => Ok(None),
         Err(QueueFault::Memory) => Err(AllocError),

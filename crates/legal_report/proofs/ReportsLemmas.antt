@@ -1,7 +1,7 @@
 -- What is found of a report, and of its text.
 use Rattle.std.proofs.Common.{◌≡◌, ℕ, List, length, refl, subst, arith, take_all}
-use Rattle.learning.specs.Ledgers.{IsLedger}
-use Rattle.learning.specs.declared.ledger.Ledger.{Ledger}
+use Rattle.learning.specs.Knowledge.{IsKnowledge}
+use Rattle.learning.specs.declared.knowledge.Knowledge.{Knowledge}
 use Rattle.report_text.specs.Forms.{IsFormed}
 use Rattle.report_text.specs.Texts.{text_of_report}
 use Rattle.task_model.specs.declared.task.Task.{Task}
@@ -18,12 +18,12 @@ use Rattle.legal_report.specs.declared.walk.Walk.{Walk}
 
 module _ (w : Walk) (r : Report) (version : w.version ≡ r.version) (entries : w.entries.now ≡ r.entries) where
   -- all entries were taken
-  pub walk_ends : (l : Ledger) → StandsAtEntry w (length w.entries.now) l → IsCertifiedReport w.task.now r (Legal l)
+  pub walk_ends : (l : Knowledge) → StandsAtEntry w (length w.entries.now) l → IsCertifiedReport w.task.now r (Legal l)
   walk_ends l stands =
-      let whole = subst (λ es. IsLedger w.version w.task.now es l)
-      (take_all (length w.entries.now) w.entries.now (omega arith)) stands.ledger in
-      let there = subst (λ v. IsLedger v w.task.now r.entries l) version
-      (subst (λ es. IsLedger w.version w.task.now es l) entries whole) in
+      let whole = subst (λ es. IsKnowledge w.version w.task.now es l)
+      (take_all (length w.entries.now) w.entries.now (omega arith)) stands.knowledge in
+      let there = subst (λ v. IsKnowledge v w.task.now r.entries l) version
+      (subst (λ es. IsKnowledge w.version w.task.now es l) entries whole) in
       let counted = there.counted in
       (record { legal = there.legal; few = omega (arith, counted, stands.few) }, there.known)
 
@@ -40,7 +40,7 @@ module _ (w : Walk) (r : Report) (version : w.version ≡ r.version) (entries : 
 -- what is found of a report is found of its text
 pub certified_text : (task : Task) (bytes : List ℕ) (r : Report) → IsFormed r → text_of_report r ≡ bytes → (c : Certified)
     → IsCertifiedReport task r c → IsCertified task bytes c
-certified_text task bytes r formed spelled (Legal ledger) found =
+certified_text task bytes r formed spelled (Legal knowledge) found =
     (r.entries, record { report = r; formed = formed; spelled = spelled; so = (refl, found.0) }, found.1)
 certified_text task bytes r formed spelled (Flawed line flaw.Text) found = absurd (let stops = found.stops in stops.wrong)
 certified_text task bytes r formed spelled (Flawed line flaw.Ask) found =

@@ -1,4 +1,4 @@
--- Whether a request may be made, by the tests of a ledger.
+-- Whether a request may be made, by the tests of what is known.
 use Rattle.std.proofs.Common.{◌≡◌, ℕ, suc, ◌+◌, ◌-◌, ◌≤◌, ◌==◌, Bool, true, false, not, ◌&&◌, ◌||◌, List, [], ◌∷◌, take, drop, length, refl, sym, ap, subst, ◌∙◌, arith, Option, Some, None, slice_get, eqb-true, eq-eqb, nat_eq}
 use Rattle.std.proofs.Math.ListN.{take-append-drop}
 use Rattle.std.specs.Cmp.{first_so, second_so}
@@ -16,10 +16,10 @@ use Rattle.transcript_model.specs.Transcript.{Asked, asked, known_of, names_of, 
 use Rattle.transcript_model.specs.declared.entry.Call.{Call}
 use Rattle.transcript_model.specs.declared.entry.Entry.{Entry}
 use Rattle.transcript_model.specs.declared.entry.Entry.TheVariants as entry
-use Rattle.learning.specs.Ledgers.{IsLedger, asked_it, is_waiting}
+use Rattle.learning.specs.Knowledge.{IsKnowledge, asked_it, is_waiting}
 use Rattle.lemmas.specs.Lists.{has_number}
 use Rattle.legal_report.specs.Talks.{may_ask}
-use Rattle.learning.specs.declared.ledger.Ledger.{Ledger}
+use Rattle.learning.specs.declared.knowledge.Knowledge.{Knowledge}
 use Rattle.std.proofs.lemmas.Bool.{and_from, not-true, not_from_false, false≢true}
 use Rattle.std.proofs.lemmas.Map.Keys.{any_passes_from_place}
 use Rattle.lemmas.proofs.Options.{same_some}
@@ -82,7 +82,7 @@ asked_is asked_all i n (Some j) at e =
 
 -- ---- the tests
 
-module _ (version : ℕ) (task : Task) (before : List Entry) (l : Ledger) (h : IsLedger version task before l) (number turn : ℕ)
+module _ (version : ℕ) (task : Task) (before : List Entry) (l : Knowledge) (h : IsKnowledge version task before l) (number turn : ℕ)
     (call : Call) (i : Instance) (named : instance_of task (names_of task before) call ≡ Some i) where
   -- the tests, one by one
   abbrev next_test : Bool

@@ -1,8 +1,8 @@
 -- An entry is taken, or is wrong.
 use Rattle.std.proofs.Common.{◌≡◌, ℕ, ◌+◌, ◌<◌, ◌≤◌, true, false, List, [], ◌∷◌, ◌++◌, take, length, cond, count_by, refl, sym, ap, subst, ◌∙◌, None, Some, slice_get, arith}
 use Rattle.std.proofs.lemmas.List.Elements.{All-contains}
-use Rattle.learning.specs.Ledgers.{IsLedger}
-use Rattle.learning.specs.declared.ledger.Ledger.{Ledger}
+use Rattle.learning.specs.Knowledge.{IsKnowledge}
+use Rattle.learning.specs.declared.knowledge.Knowledge.{Knowledge}
 use Rattle.lemmas.proofs.Counts.{count_joined, count_one}
 use Rattle.lemmas.proofs.Members.{member_at, next_taken}
 use Rattle.report_text.specs.Forms.{IsFormedEntry}
@@ -69,9 +69,9 @@ mark_no_ask (entry.Retire n) m = refl
 -- ---- marks
 
 -- a mark certifies nothing
-mark_ledger : (version : ℕ) (task : Task) (entries : List Entry) (l : Ledger) (e : Entry) → IsLedger version task entries l
-    → is_mark e ≡ true → IsLedger version task (entries ++ e ∷ []) l
-mark_ledger version task entries l e h mark =
+mark_knowledge : (version : ℕ) (task : Task) (entries : List Entry) (l : Knowledge) (e : Entry) → IsKnowledge version task entries l
+    → is_mark e ≡ true → IsKnowledge version task (entries ++ e ∷ []) l
+mark_knowledge version task entries l e h mark =
     let adds : AddsMark task entries (entries ++ e ∷ []) =
     mark_adds version task entries h.fit.problem.objects.names.distinct h.legal e mark in
     record {
@@ -103,43 +103,43 @@ module _ (w : Walk) where
   entry_formed readable place e there =
       All-contains (IsFormedEntry w.version) w.entries.now e readable.formed (member_at w.entries.now place e there)
 
-  module _ (place : ℕ) (l : Ledger) (stands : StandsAtEntry w place l) (e : Entry) (there : slice_get w.entries.now place ≡ Some e) where
+  module _ (place : ℕ) (l : Knowledge) (stands : StandsAtEntry w place l) (e : Entry) (there : slice_get w.entries.now place ≡ Some e) where
     stops : (why : ReportFlaw) → IsWrongEntry w.version w.task.now (take place w.entries.now) e why
         → FailsAtEntry w.version w.task.now w.entries.now place why
     stops why wrong =
-        let counted = stands.ledger.counted in
+        let counted = stands.knowledge.counted in
         record {
-          before = record { legal = stands.ledger.legal; few = omega (arith, counted, stands.few) };
+          before = record { legal = stands.knowledge.legal; few = omega (arith, counted, stands.few) };
           e = e;
           there = there;
           wrong = wrong;
         }
 
-    -- the ledger behind the entry, with as many requests as before
-    behind : (new : Ledger) → IsLedger w.version w.task.now (take place w.entries.now ++ e ∷ []) new
+    -- the knowledge behind the entry, with as many requests as before
+    behind : (new : Knowledge) → IsKnowledge w.version w.task.now (take place w.entries.now ++ e ∷ []) new
         → asks_of (take place w.entries.now ++ e ∷ []) ≤ MOST_CALLS
         → StandsAtEntry w (place + 1) new
-    behind new ledger few =
-        let counted = ledger.counted in
+    behind new knowledge few =
+        let counted = knowledge.counted in
         record {
-          ledger = subst (λ es. IsLedger w.version w.task.now es new) (sym (next_taken w.entries.now place e there)) ledger;
+          knowledge = subst (λ es. IsKnowledge w.version w.task.now es new) (sym (next_taken w.entries.now place e there)) knowledge;
           few = omega (arith, counted, few);
         }
 
     few_before : is_ask e ≡ false → asks_of (take place w.entries.now ++ e ∷ []) ≤ MOST_CALLS
     few_before other =
-        let counted = stands.ledger.counted in
+        let counted = stands.knowledge.counted in
         let same = asks_marked (take place w.entries.now) e other in
         omega (arith, counted, same, stands.few)
 
     pub mark_taken : is_mark e ≡ true → StandsAtEntry w (place + 1) l
     mark_taken mark =
-        behind l (mark_ledger w.version w.task.now (take place w.entries.now) l e stands.ledger mark) (few_before (mark_no_ask e mark))
+        behind l (mark_knowledge w.version w.task.now (take place w.entries.now) l e stands.knowledge mark) (few_before (mark_no_ask e mark))
 
-    pub answer_taken : (n : ℕ) → answered_number e ≡ Some n → (new : Ledger)
-        → IsLedger w.version w.task.now (take (place + 1) w.entries.now) new → StandsAtEntry w (place + 1) new
-    answer_taken n is new ledger =
-        behind new (subst (λ es. IsLedger w.version w.task.now es new) (next_taken w.entries.now place e there) ledger)
+    pub answer_taken : (n : ℕ) → answered_number e ≡ Some n → (new : Knowledge)
+        → IsKnowledge w.version w.task.now (take (place + 1) w.entries.now) new → StandsAtEntry w (place + 1) new
+    answer_taken n is new knowledge =
+        behind new (subst (λ es. IsKnowledge w.version w.task.now es new) (next_taken w.entries.now place e there) knowledge)
         (few_before (answer_is e n is).1)
 
     pub answer_refused : (n : ℕ) → answered_number e ≡ Some n
@@ -147,7 +147,7 @@ module _ (w : Walk) where
         → FailsAtEntry w.version w.task.now w.entries.now place flaw.Answer
     answer_refused n is bad = stops flaw.Answer ((answer_is e n is).0, bad)
 
-  module _ (place : ℕ) (l : Ledger) (stands : StandsAtEntry w place l) (number turn : ℕ) (call : Call)
+  module _ (place : ℕ) (l : Knowledge) (stands : StandsAtEntry w place l) (number turn : ℕ) (call : Call)
       (there : slice_get w.entries.now place ≡ Some (entry.Ask number turn call)) where
     pub ask_refused : IsAskedBy MOST_CALLS w.task.now (take place w.entries.now) number turn call None
         → FailsAtEntry w.version w.task.now w.entries.now place flaw.Ask
@@ -155,17 +155,17 @@ module _ (w : Walk) where
 
     module _ (i : Instance) (said : IsAskedBy MOST_CALLS w.task.now (take place w.entries.now) number turn call (Some i)) where
       pub ask_number : number ≡ length l.asked.items + 1
-      ask_number = let next = said.0.next in let counted = stands.ledger.counted in omega (arith, next, counted)
+      ask_number = let next = said.0.next in let counted = stands.knowledge.counted in omega (arith, next, counted)
 
       pub few_asked : length l.asked.items < MOST_CALLS
       few_asked = let is = ask_number in let most = said.1 in omega (arith, is, most)
 
-      pub ask_taken : (new : Ledger)
-          → IsLedger w.version w.task.now (take place w.entries.now ++ entry.Ask number turn call ∷ []) new
+      pub ask_taken : (new : Knowledge)
+          → IsKnowledge w.version w.task.now (take place w.entries.now ++ entry.Ask number turn call ∷ []) new
           → StandsAtEntry w (place + 1) new
-      ask_taken new ledger =
+      ask_taken new knowledge =
           let joined = asks_more (take place w.entries.now) (entry.Ask number turn call ∷ []) in
           let one : asks_of (entry.Ask number turn call ∷ []) ≡ 1 = refl in
           let next = said.0.next in
           let most = said.1 in
-          behind place l stands (entry.Ask number turn call) there new ledger (omega (arith, joined, one, next, most))
+          behind place l stands (entry.Ask number turn call) there new knowledge (omega (arith, joined, one, next, most))

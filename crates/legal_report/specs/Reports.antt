@@ -43,12 +43,12 @@ RefusesReport task bytes line flaw = IsOfReport bytes (IsFlawedAt task line flaw
 
 -- what the report's transcript certifies is known; or it certifies nothing, for a flaw in a line
 abbrev pub IsCertifiedReport : Task → Report → Certified → Type 0
-IsCertifiedReport task r (Legal ledger) =
-    IsSoundTranscript r.version task r.entries × (ledger.facts.known ≡ known_of task r.entries)
+IsCertifiedReport task r (Legal knowledge) =
+    IsSoundTranscript r.version task r.entries × (knowledge.facts.known ≡ known_of task r.entries)
 IsCertifiedReport task r (Flawed line flaw) = IsFlawedAt task line flaw r
 
 -- the same of a text
 abbrev pub IsCertified : Task → List ℕ → Certified → Type 0
-IsCertified task bytes (Legal ledger) =
-    (entries : List Entry) × SpellsTranscript task bytes entries × (ledger.facts.known ≡ known_of task entries)
+IsCertified task bytes (Legal knowledge) =
+    (entries : List Entry) × SpellsTranscript task bytes entries × (knowledge.facts.known ≡ known_of task entries)
 IsCertified task bytes (Flawed line flaw) = RefusesReport task bytes line flaw

@@ -10,13 +10,13 @@ use Rattle.transcript_model.specs.Transcript.{names_of}
 use Rattle.transcript_model.specs.declared.entry.Call.{Call}
 use Rattle.transcript_model.specs.declared.entry.Entry.{Entry}
 use Rattle.transcript_model.specs.declared.entry.Entry.TheVariants as entry
-use Rattle.learning.specs.Ledgers.{is_waiting}
+use Rattle.learning.specs.Knowledge.{is_waiting}
 use Rattle.lemmas.specs.Lists.{has_number}
-use Rattle.learning.specs.declared.ledger.Ledger.{Ledger}
+use Rattle.learning.specs.declared.knowledge.Knowledge.{Knowledge}
 
 -- the request has the next number, the instance is due, none of its requests is open, and the turn is how many tuples
 -- it gave
-abbrev pub may_ask : Task → Ledger → ℕ → ℕ → Instance → Bool
+abbrev pub may_ask : Task → Knowledge → ℕ → ℕ → Instance → Bool
 may_ask task l number turn i =
     (number == length l.asked.items + 1)
     && ((turn == yields_of l.queue i)
@@ -30,7 +30,7 @@ may_give stream (entry.Value number value) = not (is_none stream.worth)
 may_give stream e = true
 
 -- the request of this number is open, and its stream may give this answer
-abbrev pub may_answer : Task → Ledger → ℕ → Entry → Bool
+abbrev pub may_answer : Task → Knowledge → ℕ → Entry → Bool
 may_answer task l number e =
     has_number l.unanswered.items number && asked (slice_get l.asked.items (number - 1))
   where

@@ -1,7 +1,7 @@
 -- Entries that are taken one after another.
 use Rattle.std.specs.Prelude.{ℕ, ◌+◌, ◌≤◌, length, take, All, Option, None, Some}
-use Rattle.learning.specs.Ledgers.{IsLedger}
-use Rattle.learning.specs.declared.ledger.Ledger.{Ledger}
+use Rattle.learning.specs.Knowledge.{IsKnowledge}
+use Rattle.learning.specs.declared.knowledge.Knowledge.{Knowledge}
 use Rattle.report_text.specs.Forms.{IsFormedEntry}
 use Rattle.task_model.specs.Fit.{IsFit}
 use Rattle.transcript_model.specs.declared.limits.TheConstants.{MOST_CALLS}
@@ -16,17 +16,17 @@ pub record IsReadable (w : Walk) : Type 0 where
   pub fit : IsFit w.task.now
   pub formed : All (IsFormedEntry w.version) w.entries.now
 
--- The ledger is that of the entries before this place.
-pub record StandsAtEntry (w : Walk) (place : ℕ) (l : Ledger) : Type 0 where
-  pub ledger : IsLedger w.version w.task.now (take place w.entries.now) l
+-- The knowledge is that of the entries before this place.
+pub record StandsAtEntry (w : Walk) (place : ℕ) (l : Knowledge) : Type 0 where
+  pub knowledge : IsKnowledge w.version w.task.now (take place w.entries.now) l
   pub few : length l.asked.items ≤ MOST_CALLS
 
 -- the entry at this place is taken, or is the first that is wrong
-abbrev pub IsEntryWalked : Walk → ℕ → Ledger → Option ReportFlaw → Type 0
+abbrev pub IsEntryWalked : Walk → ℕ → Knowledge → Option ReportFlaw → Type 0
 IsEntryWalked w place after None = StandsAtEntry w (place + 1) after
 IsEntryWalked w place after (Some flaw) = FailsAtEntry w.version w.task.now w.entries.now place flaw
 
 -- all entries are taken, or one is the first that is wrong
-abbrev pub IsWalkDone : Walk → Ledger → Walked → Type 0
-IsWalkDone w ledger Ends = StandsAtEntry w (length w.entries.now) ledger
-IsWalkDone w ledger (Stops place flaw) = FailsAtEntry w.version w.task.now w.entries.now place flaw
+abbrev pub IsWalkDone : Walk → Knowledge → Walked → Type 0
+IsWalkDone w knowledge Ends = StandsAtEntry w (length w.entries.now) knowledge
+IsWalkDone w knowledge (Stops place flaw) = FailsAtEntry w.version w.task.now w.entries.now place flaw

@@ -9,7 +9,7 @@ ghost use Rattle.task_model.specs.Fit.{IsFit};
 use crate::flaw::ReportFlaw;
 use crate::lines::lines_of;
 use crate::walk::{Walk, Walked};
-use learning::Ledger;
+use learning::Knowledge;
 use report_reader::read_report;
 use report_text::ReportFault;
 use std::alloc::{AllocError, Global};
@@ -20,7 +20,7 @@ use transcript_model::Report;
 #[derive(Drop)]
 pub enum Certified {
     /// Its transcript is legal, and this is what is kept of it.
-    Legal(Ledger),
+    Legal(Knowledge),
     /// It certifies nothing, for a flaw in this line, from 1.
     Flawed(usize, ReportFlaw),
 }
@@ -50,9 +50,9 @@ pub fn certify_report(alloc: Global, task: &Task, report: &Report) -> Result<Cer
         version: report.version,
         entries: report.entries.as_slice(),
     };
-    let mut ledger = Box::new(alloc, Ledger::new(alloc, task)?)?;
-    match walk.walk(&mut ledger)? {
-        Walked::Ends => Ok(Certified::Legal(Box::into_inner(ledger))),
+    let mut knowledge = Box::new(alloc, Knowledge::new(alloc, task)?)?;
+    match walk.walk(&mut knowledge)? {
+        Walked::Ends => Ok(Certified::Legal(Box::into_inner(knowledge))),
         Walked::Stops(place, flaw) => Ok(Certified::Flawed(line_of(report, place), flaw)),
     }
 }

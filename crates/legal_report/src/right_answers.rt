@@ -1,13 +1,13 @@
 //! Whether an answer may be given.
 ghost use Rattle.std.specs.Prelude.{◌≡◌, ◌≤◌, ◌↔◌, ℕ, List, Some, length, IsTrue};
 ghost use Rattle.task_model.specs.Fit.{IsFit};
-ghost use Rattle.learning.specs.Ledgers.{IsLedger};
+ghost use Rattle.learning.specs.Knowledge.{IsKnowledge};
 ghost use Rattle.legal_report.specs.Talks.{may_answer as passes, may_give as gives};
 ghost use Rattle.report_text.specs.Forms.{IsFormedEntry};
 ghost use Rattle.transcript_model.specs.Legal.{MayFollow, answered_number};
 ghost use Rattle.transcript_model.specs.declared.entry.Entry.{Entry as AnyEntry};
 
-use learning::Ledger;
+use learning::Knowledge;
 use task_model::{Stream, Task};
 use transcript_model::Entry;
 
@@ -26,14 +26,14 @@ fn may_give(stream: &Stream, entry: &Entry) -> bool
 }
 
 /// Whether the request of this number is open and its stream may give this answer.
-fn is_given(task: &Task, ledger: &Ledger, number: u32, entry: &Entry) -> bool
+fn is_given(task: &Task, knowledge: &Knowledge, number: u32, entry: &Entry) -> bool
     requires { IsFit task.now }
-    ensures { result ≡ passes task.now ledger.now number entry.now }
+    ensures { result ≡ passes task.now knowledge.now number entry.now }
 {
-    if !ledger.is_open(number) {
+    if !knowledge.is_open(number) {
         return false;
     }
-    let Some(instance) = ledger.asked.get(number.saturating_sub(1) as usize) else {
+    let Some(instance) = knowledge.asked.get(number.saturating_sub(1) as usize) else {
         return false;
     };
     let Some(stream) = task.streams.as_slice().get(instance.stream as usize) else {
@@ -44,11 +44,11 @@ fn is_given(task: &Task, ledger: &Ledger, number: u32, entry: &Entry) -> bool
 
 /// Whether the answer to the request of this number may follow the entries so far. It has the form
 /// of an answer in a report.
-pub fn may_answer(task: &Task, ledger: &Ledger, number: u32, entry: &Entry) -> bool
+pub fn may_answer(task: &Task, knowledge: &Knowledge, number: u32, entry: &Entry) -> bool
     requires { IsFit task.now }
-    ensures { (version : ℕ) (before : List AnyEntry) → IsLedger version task.now before ledger.now
+    ensures { (version : ℕ) (before : List AnyEntry) → IsKnowledge version task.now before knowledge.now
         → IsFormedEntry version entry.now → answered_number entry.now ≡ Some number → IsTrue result
         ↔ MayFollow version task.now before entry.now }
 {
-    is_given(task, ledger, number, entry)
+    is_given(task, knowledge, number, entry)
 }

@@ -7,7 +7,7 @@ ghost use Rattle.transcript_model.specs.declared.entry.Entry.TheVariants as entr
 use crate::flaw::ReportFlaw;
 use crate::right_answers::may_answer;
 use crate::right_asks::asked_by;
-use learning::{Ledger, answered};
+use learning::{Knowledge, answered};
 use std::alloc::{AllocError, Global};
 use task_model::Task;
 use transcript_model::{Call, Entry, MOST_CALLS};
@@ -35,22 +35,22 @@ impl Walk<'_> {
     /// Takes the request at this place, and answers what is wrong with it.
     fn take_ask(
         &self,
-        ledger: &mut Ledger,
+        knowledge: &mut Knowledge,
         place: usize,
         number: u32,
         turn: u32,
         call: &Call,
     ) -> Result<Option<ReportFlaw>, AllocError>
         requires readable { IsReadable self.now }
-        requires stands { StandsAtEntry self.now place ledger.old }
+        requires stands { StandsAtEntry self.now place knowledge.old }
         requires here { slice_get self.now.entries.now place
             ≡ Some (entry.Ask number turn call.now) }
-        ensures { IfOk result (IsEntryWalked self.now place ledger.new) }
+        ensures { IfOk result (IsEntryWalked self.now place knowledge.new) }
     {
         let calls = MOST_CALLS;
-        match asked_by(self.alloc, self.task, ledger, calls, number, turn, call)? {
+        match asked_by(self.alloc, self.task, knowledge, calls, number, turn, call)? {
             Some(instance) => {
-                ledger.ask(instance)?;
+                knowledge.ask(instance)?;
                 Ok(None)
             }
             None => Ok(Some(ReportFlaw::Ask)),
@@ -61,21 +61,21 @@ impl Walk<'_> {
     /// it.
     fn take_answer(
         &self,
-        ledger: &mut Ledger,
+        knowledge: &mut Knowledge,
         place: usize,
         number: u32,
     ) -> Result<Option<ReportFlaw>, AllocError>
         requires readable { IsReadable self.now }
-        requires stands { StandsAtEntry self.now place ledger.old }
+        requires stands { StandsAtEntry self.now place knowledge.old }
         requires within { place < length self.now.entries.now }
         requires here { IfSome (slice_get self.now.entries.now place)
             (λ e. number_in e ≡ Some number) }
-        ensures { IfOk result (IsEntryWalked self.now place ledger.new) }
+        ensures { IfOk result (IsEntryWalked self.now place knowledge.new) }
     {
-        if !may_answer(self.task, ledger, number, &self.entries[place]) {
+        if !may_answer(self.task, knowledge, number, &self.entries[place]) {
             return Ok(Some(ReportFlaw::Answer));
         }
-        ledger.answer(
+        knowledge.answer(
             self.alloc,
             self.task,
             self.version,
@@ -87,33 +87,37 @@ impl Walk<'_> {
     }
 
     /// Takes the entry at this place, and answers what is wrong with it.
-    fn take(&self, ledger: &mut Ledger, place: usize) -> Result<Option<ReportFlaw>, AllocError>
+    fn take(
+        &self,
+        knowledge: &mut Knowledge,
+        place: usize,
+    ) -> Result<Option<ReportFlaw>, AllocError>
         requires readable { IsReadable self.now }
-        requires stands { StandsAtEntry self.now place ledger.old }
+        requires stands { StandsAtEntry self.now place knowledge.old }
         requires within { place < length self.now.entries.now }
-        ensures { IfOk result (IsEntryWalked self.now place ledger.new) }
+        ensures { IfOk result (IsEntryWalked self.now place knowledge.new) }
     {
         let entry = &self.entries[place];
         if let Some(number) = answered(entry) {
-            return self.take_answer(ledger, place, number);
+            return self.take_answer(knowledge, place, number);
         }
         match entry {
             Entry::Ask { number, turn, call } => {
-                self.take_ask(ledger, place, *number, *turn, call)
+                self.take_ask(knowledge, place, *number, *turn, call)
             }
             _ => Ok(None),
         }
     }
 
-    /// Takes all entries, up to the first that is wrong. The ledger is that of no entries, and in the
+    /// Takes all entries, up to the first that is wrong. The knowledge is that of no entries, and in the
     /// end that of those that were taken.
-    pub(crate) fn walk(&self, ledger: &mut Ledger) -> Result<Walked, AllocError>
+    pub(crate) fn walk(&self, knowledge: &mut Knowledge) -> Result<Walked, AllocError>
         requires readable { IsReadable self.now }
-        requires stands { StandsAtEntry self.now 0 ledger.old }
-        ensures { IfOk result (IsWalkDone self.now ledger.new) }
+        requires stands { StandsAtEntry self.now 0 knowledge.old }
+        ensures { IfOk result (IsWalkDone self.now knowledge.new) }
     {
         for place in 0..self.entries.len() {
-            if let Some(flaw) = self.take(ledger, place)? {
+            if let Some(flaw) = self.take(knowledge, place)? {
                 return Ok(Walked::Stops(place, flaw));
             }
         }

@@ -54,7 +54,7 @@ pub fn least_cost(
     ensures { IfOk result (IsLeastFound task.now (known_of task.now report.now.entries) limit) }
 {
     match certify_report(alloc, task, report)? {
-        Certified::Legal(ledger) => cheapest_known(alloc, task, &ledger.facts, limit),
+        Certified::Legal(knowledge) => cheapest_known(alloc, task, &knowledge.facts, limit),
         Certified::Flawed(_, _) => unreachable!(),
     }
 }

@@ -1,7 +1,7 @@
 -- The headline of a run, from how it ends.
 use Rattle.std.proofs.Common.{◌≡◌, ◌∙◌, inl, inr, ℕ, List, Bool, true, false, ap, refl, subst, sym}
 use Rattle.std.specs.Io.KnownBytes.{Appends}
-use Rattle.level_run.specs.Reports as reports
+use Rattle.turn_run.specs.Reports as reports
 use Rattle.round_run.specs.declared.fault.RunFault.TheVariants as fault
 use Rattle.transcript_model.specs.declared.outcome.Outcome.{Outcome}
 use Rattle.transcript_model.specs.declared.outcome.Outcome.TheVariants as outcome

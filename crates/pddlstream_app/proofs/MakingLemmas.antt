@@ -4,7 +4,7 @@ use Rattle.std.specs.Io.KnownBytes.{Appends}
 use Rattle.io_world.specs.Faults.{Extends}
 use Rattle.report_text.proofs.PrintsLemmas.{appends_none}
 use Rattle.round_run.specs.declared.fault.RunFault.TheVariants as fault
-use Rattle.level_run.specs.declared.mode_run.Ran.{Ran}
+use Rattle.turn_run.specs.declared.whole_run.Ran.{Ran}
 use Rattle.command_line.specs.Words.{command_of, generate}
 use Rattle.pddlstream_app.proofs.NoInputLemmas.{made_nothing}
 use Rattle.pddlstream_app.proofs.RunsLemmas.{completed_with, outcome_with, stopped_reading, stopped_with, unwritten, stopped_early}

@@ -6,10 +6,10 @@ use Rattle.std.specs.Io.KnownBytes.{Appends}
 use Rattle.report_text.proofs.PrintsLemmas.{appends_none, appends_then}
 use Rattle.round_run.specs.Calls.{LogRan, LogStops}
 use Rattle.round_run.specs.Dialogue.{Dialogue, workers_in}
-use Rattle.level_run.proofs.ReportsLemmas.{whole_is}
-use Rattle.level_run.specs.Reports as reports
-use Rattle.level_run.specs.Reports.{IsBroken, IsPart, IsReported, WasToWrite, TookTo, begins_last}
-use Rattle.level_run.specs.declared.mode_run.Ran.{Ran}
+use Rattle.turn_run.proofs.ReportsLemmas.{whole_is}
+use Rattle.turn_run.specs.Reports as reports
+use Rattle.turn_run.specs.Reports.{IsBroken, IsPart, IsReported, WasToWrite, TookTo, begins_last}
+use Rattle.turn_run.specs.declared.whole_run.Ran.{Ran}
 use Rattle.table_runs.specs.Tabled.{IsTabled}
 use Rattle.task_model.specs.declared.task.Task.{Task}
 use Rattle.transcript_model.specs.Legal.{IsLegal}

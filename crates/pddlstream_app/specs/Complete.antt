@@ -2,7 +2,7 @@
 use Rattle.std.specs.Prelude.{◌≡◌, ℕ, List, [], Option, Some, ⊤}
 use Rattle.gen_lines.specs.declared.answer.Why.{Why}
 use Rattle.io_world.specs.FileMap.{FileMap}
-use Rattle.level_run.specs.Reports.{IsRun}
+use Rattle.turn_run.specs.Reports.{IsRun}
 use Rattle.round_run.specs.Dialogue.{Dialogue, workers_in}
 use Rattle.table_runs.specs.Asking.{AnsweredBy}
 use Rattle.task_model.specs.declared.task.Task.{Task}

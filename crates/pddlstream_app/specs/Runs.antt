@@ -4,7 +4,7 @@ use Rattle.std.proofs.Common.{inl, inr}
 use Rattle.std.specs.Io.KnownBytes.{Appends}
 use Rattle.io_world.specs.Faults.{Rose}
 use Rattle.round_run.specs.Calls.{LogStops}
-use Rattle.level_run.specs.Reports.{last_begins}
+use Rattle.turn_run.specs.Reports.{last_begins}
 use Rattle.task_model.specs.declared.task.Task.{Task}
 use Rattle.transcript_model.specs.Legal.{asks_of}
 use Rattle.transcript_model.specs.declared.entry.Entry.{Entry}

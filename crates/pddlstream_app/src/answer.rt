@@ -15,8 +15,8 @@ use crate::said::Said;
 use command_files::{Status, Stop};
 use command_line::{PlayConfig, ReplayConfig};
 use io_world::{Files, Sink, write_all};
-use level_run::RunFault;
 use std::alloc::Global;
+use turn_run::RunFault;
 
 /// The words of a command that answers.
 #[derive(Drop)]

@@ -16,9 +16,9 @@ use crate::job::{Job, job_of};
 use command_files::{MEMORY, Status, Stop};
 use command_line::{WordsFault, read_words};
 use io_world::{Files, Host, Sink, write_all};
-use level_run::RunFault;
 use run_command::{make, solve};
 use std::alloc::Global;
+use turn_run::RunFault;
 
 /// Writes the last line of a run that ends so.
 fn tell<O: Sink>(out: &mut O, text: &[u8], status: Status) -> Status

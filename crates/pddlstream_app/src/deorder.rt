@@ -18,13 +18,13 @@ use command_files::{Status, Stop, read_reported};
 use command_line::ReplayConfig;
 use fact_store::Facts;
 use io_world::Files;
-use level_run::RunFault;
 use order_text::order_text;
 use plan_deorder::{OrderFault, deorder};
 use replay_check::{Judged, RightReport, Verdict, plan_of, replay_whole};
 use std::alloc::{AllocError, Global};
 use task_model::Task;
 use transcript_model::{Call, Outcome};
+use turn_run::RunFault;
 
 /// Tells the order of a plan, or that it has too many steps. Fails only where memory is wanting.
 fn order_said(alloc: Global, task: &Task, facts: &Facts, calls: &[Call]) -> Result<Said, AllocError>

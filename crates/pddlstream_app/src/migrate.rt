@@ -11,12 +11,12 @@ use crate::replay::said_of;
 use crate::said::Said;
 use command_files::{FileRole, Status, Stop, read_file};
 use io_world::Files;
-use level_run::RunFault;
 use replay_check::{BreachKind, Verdict};
 use report_reader::read_report;
 use report_text::{ReportFault, migrated};
 use std::alloc::{AllocError, Global};
 use transcript_model::Report;
+use turn_run::RunFault;
 
 /// A report in version 2. Fails only where memory is wanting.
 fn report_said(alloc: Global, report: &Report) -> Result<Said, AllocError>

@@ -18,11 +18,11 @@ use command_line::PlayConfig;
 use grid_play::{PlayVerdict, act, play_text};
 use grid_text::Grid;
 use io_world::Files;
-use level_run::RunFault;
 use replay_check::{Judged, Verdict, replay_whole};
 use std::alloc::{AllocError, Global};
 use task_model::Task;
 use transcript_model::{Call, Outcome, Report};
+use turn_run::RunFault;
 
 /// How a run ends that tells this.
 fn status_of(verdict: &PlayVerdict) -> Status

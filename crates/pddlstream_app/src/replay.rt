@@ -17,11 +17,11 @@ use crate::said::Said;
 use command_files::{Status, Stop, TaskPaths, read_reported};
 use command_line::ReplayConfig;
 use io_world::Files;
-use level_run::RunFault;
 use optimal_check::replay_optimal;
 use replay_check::{BreachKind, Verdict, replay};
 use std::alloc::{AllocError, Global};
 use task_model::Task;
+use turn_run::RunFault;
 
 /// How a run ends that says this.
 fn status_of(verdict: Verdict) -> Status

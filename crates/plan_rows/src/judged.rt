@@ -2,13 +2,13 @@
 //! answered.
 ghost use Rattle.std.specs.Prelude.{ℕ, List};
 ghost use Rattle.task_model.specs.Fit.{IsFit};
-ghost use Rattle.learning.specs.Ledgers.{IsLedger};
+ghost use Rattle.learning.specs.Knowledge.{IsKnowledge};
 ghost use Rattle.transcript_model.specs.declared.entry.Entry.{Entry as AnyEntry};
 
 use crate::fault::Fault;
 use crate::story::Bounds;
 use dream_check::{Dreamed, judge_dream, judge_none};
-use learning::Ledger;
+use learning::Knowledge;
 use optimistic_set::Tried;
 use report_reader::{REPORT_BYTES, read_report};
 use report_text::ReportFault;
@@ -66,24 +66,24 @@ fn add_entry(
     alloc: Global,
     out: &mut String,
     task: &Task,
-    ledger: &Ledger,
+    knowledge: &Knowledge,
     tried: &Tried,
     bounds: Bounds,
     entry: &Entry,
 ) -> Result<(), Fault>
     requires { (version : ℕ) × (before : List AnyEntry)
-        × IsLedger version task.now before ledger.now }
+        × IsKnowledge version task.now before knowledge.now }
 {
     match entry {
         Entry::Dream { uses, steps } if !uses.is_empty() => {
             let (uses, steps) = (uses.as_slice(), steps.as_slice());
-            let found = judge_dream(alloc, task, ledger, tried, bounds.depth, uses, steps)?;
+            let found = judge_dream(alloc, task, knowledge, tried, bounds.depth, uses, steps)?;
             Ok(push_dreamed(out, found)?)
         }
         Entry::Nothing => {
             let states = bounds.states.clamp(1, 200_000);
             let limit = bounds.limit.clamp(1, 200_000);
-            let found = judge_none(alloc, task, ledger, tried, bounds.depth, states, limit)?;
+            let found = judge_none(alloc, task, knowledge, tried, bounds.depth, states, limit)?;
             Ok(push_none(out, found)?)
         }
         _ => Err(Fault::Unfit),
@@ -95,16 +95,16 @@ fn add_entries(
     alloc: Global,
     out: &mut String,
     task: &Task,
-    ledger: &Ledger,
+    knowledge: &Knowledge,
     tried: &Tried,
     bounds: Bounds,
     entries: &[Entry],
 ) -> Result<(), Fault>
     requires { (version : ℕ) × (before : List AnyEntry)
-        × IsLedger version task.now before ledger.now }
+        × IsKnowledge version task.now before knowledge.now }
 {
     for entry in entries {
-        add_entry(alloc, out, task, ledger, tried, bounds, entry)?;
+        add_entry(alloc, out, task, knowledge, tried, bounds, entry)?;
     }
     Ok(())
 }
@@ -121,7 +121,7 @@ pub(crate) fn add_judged(
     requires { IsFit task.now }
 {
     let report = report_of(alloc, lines)?;
-    let ledger = Ledger::new(alloc, task)?;
+    let knowledge = Knowledge::new(alloc, task)?;
     let entries = report.entries.as_slice();
-    add_entries(alloc, out, task, &ledger, tried, bounds, entries)
+    add_entries(alloc, out, task, &knowledge, tried, bounds, entries)
 }

@@ -5,8 +5,8 @@ use Rattle.std.proofs.lemmas.Option.{same_Some}
 use Rattle.std.specs.declared.alloc.Global.{Global}
 use Rattle.io_world.specs.Talks.{silence, spelled}
 use Rattle.lemmas.proofs.Options.{none_at}
-use Rattle.level_run.specs.Reports.{IsRun}
-use Rattle.level_run.specs.Turns.{IsSure}
+use Rattle.turn_run.specs.Reports.{IsRun}
+use Rattle.turn_run.specs.Turns.{IsSure}
 use Rattle.mode_turns.specs.Lazy.{IsFewDue, IsLazy, IsLazyEnd, begins}
 use Rattle.run_command.specs.Heads.{IsHeadOf}
 use Rattle.run_command.specs.Runs.{ProgramRun}

@@ -2,7 +2,7 @@
 -- public function of `laws.rt`.
 use Rattle.std.specs.Prelude.{◌<◌}
 use Rattle.io_world.specs.Faults.{Rose, last_count}
-use Rattle.level_run.specs.Reports.{IsRun}
+use Rattle.turn_run.specs.Reports.{IsRun}
 use Rattle.pddlstream_app.specs.Complete.{AreGivenAnswers, GoesWell}
 use Rattle.run_command.specs.Runs.{ProgramRun}
 use Rattle.round_run.specs.Dialogue.{Dialogue, workers_in}

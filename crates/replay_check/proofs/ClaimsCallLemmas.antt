@@ -10,9 +10,9 @@ use Rattle.transcript_model.specs.Transcript.{known_of, notes_of}
 use Rattle.transcript_model.specs.declared.entry.Entry.{Entry}
 use Rattle.transcript_model.specs.declared.outcome.LimitKind.TheVariants.{Calls}
 use Rattle.transcript_model.specs.declared.outcome.Outcome.TheVariants as outcome
-use Rattle.learning.specs.Ledgers.{IsLedger}
+use Rattle.learning.specs.Knowledge.{IsKnowledge}
 use Rattle.lemmas.specs.Lists.{has_number}
-use Rattle.learning.specs.declared.ledger.Ledger.{Ledger}
+use Rattle.learning.specs.declared.knowledge.Knowledge.{Knowledge}
 use Rattle.replay_check.proofs.ClaimsLemmas.{more_due, none_due_at, some_due}
 use Rattle.replay_check.specs.Claims.{IsJudged, claim_of}
 use Rattle.replay_check.specs.Standings.{limits_by}
@@ -37,7 +37,7 @@ none_among (m ∷ ms) empty n = absurd (omega (arith, empty))
 
 -- ---- the claim
 
-module _ (b : Bounds) (limit : ℕ) (task : Task) (entries : List Entry) (l : Ledger) (h : IsLedger b.version task entries l) where
+module _ (b : Bounds) (limit : ℕ) (task : Task) (entries : List Entry) (l : Knowledge) (h : IsKnowledge b.version task entries l) where
   abbrev IsSaid : Claim → Type 0
   IsSaid = IsJudged (limits_by b) limit task entries (outcome.Limit Calls)
 

@@ -12,8 +12,8 @@ use Rattle.task_model.specs.Plans.{IsReached, IsSolvable, MoreThan}
 use Rattle.task_model.specs.Streams.{AreDue, IsDue, MoreAreDue, NothingIsDue}
 use Rattle.task_model.specs.declared.stream.Instance.{Instance}
 use Rattle.task_model.specs.declared.task.Task.{Task}
-use Rattle.learning.specs.Ledgers.{IsLedger}
-use Rattle.learning.specs.declared.ledger.Ledger.{Ledger}
+use Rattle.learning.specs.Knowledge.{IsKnowledge}
+use Rattle.learning.specs.declared.knowledge.Knowledge.{Knowledge}
 use Rattle.transcript_model.specs.Legal.{HasNoneOpen}
 use Rattle.transcript_model.specs.Rounds.{Limits}
 use Rattle.transcript_model.specs.Transcript.{known_of, notes_of}
@@ -22,7 +22,7 @@ use Rattle.transcript_model.specs.declared.outcome.Outcome.TheVariants as outcom
 use Rattle.replay_check.specs.Claims.{IsJudged, claim_of}
 use Rattle.replay_check.specs.declared.claims.Claim.TheVariants.{Open}
 
-module _ (version : ℕ) (task : Task) (entries : List Entry) (l : Ledger) (h : IsLedger version task entries l) where
+module _ (version : ℕ) (task : Task) (entries : List Entry) (l : Knowledge) (h : IsKnowledge version task entries l) where
   -- too much is due after the entries
   pub more_due : MoreAreDue 1000000 task l.facts.known l.queue
       → MoreAreDue 1000000 task (known_of task entries) (notes_of task entries)
@@ -105,8 +105,8 @@ module _ (version : ℕ) (task : Task) (entries : List Entry) (l : Ledger) (h : 
 
 -- ---- that there is no plan
 
-module _ (limits : Limits) (limit : ℕ) (task : Task) (entries : List Entry) (l : Ledger)
-    (h : IsLedger limits.version task entries l) where
+module _ (limits : Limits) (limit : ℕ) (task : Task) (entries : List Entry) (l : Knowledge)
+    (h : IsKnowledge limits.version task entries l) where
   abbrev NoneDue : Type 0
   NoneDue = NothingIsDue task (known_of task entries) (notes_of task entries)
 

@@ -13,7 +13,7 @@ use Rattle.pools.specs.Pools.{HaveWorkers}
 use Rattle.task_model.proofs.StreamsLemmas.{due_once}
 use Rattle.task_model.specs.Streams.{MoreAreDue}
 use Rattle.task_model.specs.declared.task.Task.{Task}
-use Rattle.learning.specs.declared.ledger.Ledger.{Ledger}
+use Rattle.learning.specs.declared.knowledge.Knowledge.{Knowledge}
 use Rattle.transcript_model.specs.Legal.{asks_of}
 use Rattle.transcript_model.specs.Rounds.{Limits}
 use Rattle.transcript_model.specs.Transcript.{known_of, notes_of}
@@ -49,7 +49,7 @@ none_where skeletons (Some place) some none false is =
 none_where skeletons None some none true is = (λ empty. none, λ all. refl)
 none_where skeletons None some none false is = absurd (cc)
 
-module _ (limits : Limits) (task : Task) (entries : List Entry) (l : Ledger) (a : ModeAgenda)
+module _ (limits : Limits) (task : Task) (entries : List Entry) (l : Knowledge) (a : ModeAgenda)
     (s : StandsBehind limits task entries l a) where
   module _ (dues : List Due) (turn : AreDueInTurn task l.facts.known l.queue dues) where
     long : length (due_instances dues) ≡ length dues
@@ -62,7 +62,7 @@ module _ (limits : Limits) (task : Task) (entries : List Entry) (l : Ledger) (a 
         let count = long in (
           record {
             list = due_instances dues;
-            due = all_due limits.version task entries l s.ledger dues turn;
+            due = all_due limits.version task entries l s.knowledge dues turn;
             some = omega (arith, some, count);
             few = omega (arith, few, count);
             left = left;
@@ -73,7 +73,7 @@ module _ (limits : Limits) (task : Task) (entries : List Entry) (l : Ledger) (a 
     -- where nothing is due, no turn begins
     pub none_begins : length dues ≡ 0 → ¬ (MayBegin limits task entries)
     none_begins none may =
-        let due = all_due limits.version task entries l s.ledger dues turn in
+        let due = all_due limits.version task entries l s.knowledge dues turn in
         let same : due_instances dues ≡ may.list =
         due_once task (known_of task entries) (notes_of task entries) (due_instances dues) may.list due may.due in
         let lists = ap length same in
@@ -84,7 +84,7 @@ module _ (limits : Limits) (task : Task) (entries : List Entry) (l : Ledger) (a 
   -- where too much is due, none begins either
   pub many_begin : MoreAreDue 1000000 task l.facts.known l.queue → ¬ (MayBegin limits task entries)
   many_begin more may =
-      let all = more_due limits.version task entries l s.ledger more in
+      let all = more_due limits.version task entries l s.knowledge more in
       let le = pigeons all.0 may.list all.2 (λ i m. (may.due.each i).1 (all.3 i m)) in
       let many = all.1 in
       let few = may.few in

@@ -55,7 +55,7 @@ module _ (b : Bounds) (bounds : AreBounds b) (entries : List Entry) (s : Standin
   abbrev limits : Limits
   limits = limits_by b
 
-  abbrev stands : StandsBehind limits task entries s.ledger s.course
+  abbrev stands : StandsBehind limits task entries s.knowledge s.course
   stands = standing.stands
 
   abbrev here : ModePlace

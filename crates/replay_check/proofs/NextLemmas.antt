@@ -7,7 +7,7 @@ use Rattle.mode_course.specs.Places.{AwaitsPhase, AwaitsLine, AwaitsPick, IsBatc
 use Rattle.task_model.specs.Streams.{yields_of}
 use Rattle.task_model.specs.declared.stream.Instance.{Instance}
 use Rattle.task_model.specs.declared.task.Task.{Task}
-use Rattle.learning.specs.declared.ledger.Ledger.{Ledger}
+use Rattle.learning.specs.declared.knowledge.Knowledge.{Knowledge}
 use Rattle.transcript_model.specs.Legal.{answered_number, asks_of, is_answer_to, is_mark}
 use Rattle.transcript_model.specs.Names.{call_of_instance}
 use Rattle.transcript_model.specs.Rounds.{Limits, requests_from}
@@ -85,7 +85,7 @@ module _ (task : Task) (entries : List Entry) (a : ModeAgenda) where
 
 -- ---- turns
 
-module _ (limits : Limits) (task : Task) (entries : List Entry) (l : Ledger) (a : ModeAgenda)
+module _ (limits : Limits) (task : Task) (entries : List Entry) (l : Knowledge) (a : ModeAgenda)
     (s : StandsBehind limits task entries l a) where
   abbrev pub here : ModePlace
   here = mode_place_in task entries a
@@ -115,8 +115,8 @@ module _ (limits : Limits) (task : Task) (entries : List Entry) (l : Ledger) (a 
             head = first.1;
             is =
                 first.2
-                ∙ (λ k. entry.Ask (sym s.ledger.counted k + 1)
-                (yields_of (sym s.ledger.notes k) first.0) (call_of_instance task (sym s.ledger.known k).names first.0));
+                ∙ (λ k. entry.Ask (sym s.knowledge.counted k + 1)
+                (yields_of (sym s.knowledge.notes k) first.0) (call_of_instance task (sym s.knowledge.known k).names first.0));
           }
       by (d, inr g) = absurd (let to = g.to in cc)
 

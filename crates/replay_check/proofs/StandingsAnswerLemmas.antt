@@ -17,9 +17,9 @@ use Rattle.learning.proofs.LearningLemmas.{answers_to}
 use Rattle.task_model.specs.Dreams as dreams
 use Rattle.task_model.specs.declared.stream.Instance.{Instance}
 use Rattle.task_model.specs.declared.task.Task.{Task}
-use Rattle.learning.proofs.LedgersLemmas.{asked_here}
-use Rattle.learning.specs.Ledgers.{IsLedger}
-use Rattle.learning.specs.declared.ledger.Ledger.{Ledger}
+use Rattle.learning.proofs.KnowledgeLemmas.{asked_here}
+use Rattle.learning.specs.Knowledge.{IsKnowledge}
+use Rattle.learning.specs.declared.knowledge.Knowledge.{Knowledge}
 use Rattle.transcript_model.proofs.LegalStepLemmas.{answer_adds}
 use Rattle.transcript_model.specs.Dreaming.{Sent}
 use Rattle.transcript_model.specs.Laws.{AddsAnswer}
@@ -73,7 +73,7 @@ behind_dreams over false real entries sent (s ∷ next) other = refl
 
 -- ---- one answer more
 
-module _ (limits : Limits) (task : Task) (entries : List Entry) (l : Ledger) (a : ModeAgenda) (s : StandsBehind limits task entries l a)
+module _ (limits : Limits) (task : Task) (entries : List Entry) (l : Knowledge) (a : ModeAgenda) (s : StandsBehind limits task entries l a)
     (n : ℕ) (e : Entry) (is : answered_number e ≡ Some n) (next : n ≡ a.batch.next) (none : a.batch.to_ask ≡ [])
     (some : 0 < a.batch.answers) (may : MayFollow limits.version task entries e) (workers : HaveWorkers limits.pools)
     (few : limits.calls ≤ 100000) where
@@ -85,13 +85,13 @@ module _ (limits : Limits) (task : Task) (entries : List Entry) (l : Ledger) (a 
 
   few_asked : length l.asked.items ≤ 100000
   few_asked =
-      let counted = s.ledger.counted in let left = s.counts.left in omega (arith, counted, left, few)
+      let counted = s.knowledge.counted in let left = s.counts.left in omega (arith, counted, left, few)
 
   here : (r : Asked) × (asked task entries n ≡ Some r)
-  here = asked_here limits.version task entries l e n s.ledger few_asked is may
+  here = asked_here limits.version task entries l e n s.knowledge few_asked is may
 
   gives : AddsAnswer task entries e n here.0
-  gives = answer_adds limits.version task entries s.ledger.fit.problem.objects.names.distinct s.ledger.legal n here.0 here.1 e
+  gives = answer_adds limits.version task entries s.knowledge.fit.problem.objects.names.distinct s.knowledge.legal n here.0 here.1 e
       (answers_to e n is)
 
   still_waits : (m : ℕ) → a.batch.next + 1 ≤ m → m ≤ asks_of after → is_open after m ≡ true
@@ -206,14 +206,14 @@ module _ (limits : Limits) (task : Task) (entries : List Entry) (l : Ledger) (a 
 
     -- ---- where the place has moved on by itself
 
-    module _ (new : Ledger) (c : ModeAgenda) (ledger : IsLedger limits.version task after new)
+    module _ (new : Knowledge) (c : ModeAgenda) (knowledge : IsKnowledge limits.version task after new)
         (settled : HasSettled task new.facts.known new.queue after limits.pools limits.calls (with_agenda a b) c) where
       settled_leads : LeadsOn limits task at_start [] after (mode_place_in task after c)
       settled_leads =
           one_step limits task entries l a s e (mode_place_in task after c)
           (goes_on (place_in task after b) (inr gives_answer)
-          (settle_made limits task after (with_agenda a b) c limits.version new.facts.known new.queue ledger.fit ledger.legal
-          ledger.known ledger.notes keeps workers settled))
+          (settle_made limits task after (with_agenda a b) c limits.version new.facts.known new.queue knowledge.fit knowledge.legal
+          knowledge.known knowledge.notes keeps workers settled))
 
       -- nothing is open where the next batch begins
       moved_counts : is_to_settle (with_agenda a b) ≡ true → IsCounted limits.calls after c.batch
@@ -259,7 +259,7 @@ module _ (limits : Limits) (task : Task) (entries : List Entry) (l : Ledger) (a 
       pub answer_onward : StandsBehind limits task after new c
       answer_onward =
           record {
-            ledger = ledger;
+            knowledge = knowledge;
             leads = settled_leads;
             counts = settled_counts;
             run = run_settled limits.pools workers limits.calls after task new.facts.known new.queue (with_agenda a b) c keeps settled;

@@ -12,8 +12,8 @@ use Rattle.task_model.specs.Known.{Known}
 use Rattle.task_model.specs.Streams.{yields_of}
 use Rattle.task_model.specs.declared.stream.Instance.{Instance}
 use Rattle.task_model.specs.declared.task.Task.{Task}
-use Rattle.learning.specs.Ledgers.{IsLedger}
-use Rattle.learning.specs.declared.ledger.Ledger.{Ledger}
+use Rattle.learning.specs.Knowledge.{IsKnowledge}
+use Rattle.learning.specs.declared.knowledge.Knowledge.{Knowledge}
 use Rattle.transcript_model.proofs.LegalNumberLemmas.{next_is_fresh}
 use Rattle.transcript_model.proofs.LegalStepLemmas.{request_adds}
 use Rattle.transcript_model.specs.Laws.{AddsRequest}
@@ -45,11 +45,11 @@ requests_same task before after number (i ∷ is) names notes =
 
 -- ---- before the first entry
 
-pub stands_first : (limits : Limits) (task : Task) (l : Ledger) → IsLedger limits.version task [] l
+pub stands_first : (limits : Limits) (task : Task) (l : Knowledge) → IsKnowledge limits.version task [] l
     → StandsBehind limits task [] l nothing_begun
-stands_first limits task l ledger =
+stands_first limits task l knowledge =
     record {
-      ledger = ledger;
+      knowledge = knowledge;
       leads = refl;
       counts = record {
         count = refl;
@@ -64,7 +64,7 @@ stands_first limits task l ledger =
 
 -- ---- one entry more
 
-module _ (limits : Limits) (task : Task) (entries : List Entry) (l : Ledger) (a : ModeAgenda)
+module _ (limits : Limits) (task : Task) (entries : List Entry) (l : Knowledge) (a : ModeAgenda)
     (s : StandsBehind limits task entries l a) where
   pub one_step : (e : Entry) (after : ModePlace) → IsModeStep limits task entries (mode_place_in task entries a) e after
       → LeadsOn limits task at_start [] (entries ++ e ∷ []) after
@@ -93,15 +93,15 @@ module _ (limits : Limits) (task : Task) (entries : List Entry) (l : Ledger) (a 
         (call_of_instance task (names_of task entries) n.instance)
     request_is =
         n.is
-        ∙ (λ k. entry.Ask (s.ledger.counted k + 1)
-        (yields_of (s.ledger.notes k) n.instance) (call_of_instance task (s.ledger.known k).names n.instance))
+        ∙ (λ k. entry.Ask (s.knowledge.counted k + 1)
+        (yields_of (s.knowledge.notes k) n.instance) (call_of_instance task (s.knowledge.known k).names n.instance))
 
     adds : AddsRequest task entries (entries ++ request ∷ []) number
         (record { stream = right.due.stream; instance = right.instance })
     adds =
         let fresh : list_any (is_ask_of number) entries ≡ false =
-        ap (λ m. list_any (is_ask_of m) entries) right.next ∙ next_is_fresh limits.version task entries s.ledger.legal in
-        request_adds limits.version task entries s.ledger.fit.problem.objects.names.distinct s.ledger.legal number turn call
+        ap (λ m. list_any (is_ask_of m) entries) right.next ∙ next_is_fresh limits.version task entries s.knowledge.legal in
+        request_adds limits.version task entries s.knowledge.fit.problem.objects.names.distinct s.knowledge.legal number turn call
         right.due.stream right.instance right fresh right.named right.due.named
 
     some_answer : 0 < a.batch.answers
@@ -173,12 +173,12 @@ module _ (limits : Limits) (task : Task) (entries : List Entry) (l : Ledger) (a 
           answered = ask_answered;
         }
 
-    pub ask_onward : (new : Ledger)
-        → IsLedger limits.version task (entries ++ entry.Ask number turn call ∷ []) new
+    pub ask_onward : (new : Knowledge)
+        → IsKnowledge limits.version task (entries ++ entry.Ask number turn call ∷ []) new
         → StandsBehind limits task (entries ++ entry.Ask number turn call ∷ []) new (with_agenda a (with_asked a.batch))
-    ask_onward new ledger =
+    ask_onward new knowledge =
         record {
-          ledger = ledger;
+          knowledge = knowledge;
           leads = ask_leads;
           counts = ask_counts;
           run = λ is. run_asked limits.calls entries request a (s.run is) refl (omega (arith, is_longer)) some_answer;

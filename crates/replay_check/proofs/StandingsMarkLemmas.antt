@@ -17,8 +17,8 @@ use Rattle.task_model.specs.Known.{Known}
 use Rattle.task_model.specs.Streams.{AreDue, Note}
 use Rattle.task_model.specs.declared.stream.Instance.{Instance}
 use Rattle.task_model.specs.declared.task.Task.{Task}
-use Rattle.learning.specs.Ledgers.{IsLedger}
-use Rattle.learning.specs.declared.ledger.Ledger.{Ledger}
+use Rattle.learning.specs.Knowledge.{IsKnowledge}
+use Rattle.learning.specs.declared.knowledge.Knowledge.{Knowledge}
 use Rattle.transcript_model.proofs.LegalLemmas.{grows, mark_answers, mark_follows}
 use Rattle.transcript_model.proofs.LegalPrefixLemmas.{asked-kept}
 use Rattle.transcript_model.proofs.LegalStepLemmas.{mark_adds}
@@ -32,15 +32,15 @@ use Rattle.replay_check.proofs.StandingsAnswerLemmas.{behind_dreams, starts_coun
 use Rattle.replay_check.proofs.StandingsAskLemmas.{one_step}
 use Rattle.replay_check.specs.Standings.{StandsBehind}
 
-module _ (limits : Limits) (task : Task) (entries : List Entry) (l : Ledger) (a : ModeAgenda)
+module _ (limits : Limits) (task : Task) (entries : List Entry) (l : Knowledge) (a : ModeAgenda)
     (s : StandsBehind limits task entries l a) (e : Entry) (mark : is_mark e ≡ true) where
   pub adds : AddsMark task entries (entries ++ e ∷ [])
-  adds = mark_adds limits.version task entries s.ledger.fit.problem.objects.names.distinct s.ledger.legal e mark
+  adds = mark_adds limits.version task entries s.knowledge.fit.problem.objects.names.distinct s.knowledge.legal e mark
 
   -- it tells nothing
-  pub mark_ledger : IsLedger limits.version task (entries ++ e ∷ []) l
-  mark_ledger =
-      let h = s.ledger in
+  pub mark_knowledge : IsKnowledge limits.version task (entries ++ e ∷ []) l
+  mark_knowledge =
+      let h = s.knowledge in
       record {
         fit = h.fit;
         legal = (grows limits.version task entries).next e h.legal (mark_follows limits.version task entries e mark);
@@ -96,7 +96,7 @@ module _ (limits : Limits) (task : Task) (entries : List Entry) (l : Ledger) (a 
     batch_onward list number cut begins next bound run dreams =
         let same = adds.asks in
         record {
-          ledger = mark_ledger;
+          knowledge = mark_knowledge;
           leads = one_step limits task entries l a s e (mode_place_in task (entries ++ e ∷ []) b) step;
           counts = starts_counted limits.pools limits.calls (entries ++ e ∷ []) list number cut b.batch begins
               (omega (arith, next, same)) (omega (arith, bound, same)) (λ m waits. none_waits idle m waits);
@@ -149,7 +149,7 @@ module _ (limits : Limits) (task : Task) (entries : List Entry) (l : Ledger) (a 
         let b_asks = ap (λ (x : Agenda). length x.to_ask) batch in
         let b_later = ap (λ (x : Agenda). length x.later) batch in
         record {
-          ledger = mark_ledger;
+          knowledge = mark_knowledge;
           leads = one_step limits task entries l a s e (mode_place_in task (entries ++ e ∷ []) b) step;
           counts = record {
             count = omega (arith, b_next, b_answers, b_asks, same, count);

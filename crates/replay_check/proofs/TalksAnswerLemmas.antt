@@ -1,4 +1,4 @@
--- Whether an answer may be given, by the tests of a ledger.
+-- Whether an answer may be given, by the tests of what is known.
 use Rattle.std.proofs.Common.{◌≡◌, ℕ, ◌+◌, ◌-◌, ◌*◌, ◌==◌, Bool, true, false, not, List, [], ◌∷◌, length, refl, sym, ap, subst, ◌∙◌, arith, Some, slice_get, is_none, All, eqb-true, eq-eqb}
 use Rattle.std.proofs.lemmas.List.Elements.{All-head, All-tail}
 use Rattle.std.specs.Cmp.{first_so, second_so}
@@ -11,10 +11,10 @@ use Rattle.transcript_model.specs.Transcript.{Asked, asked}
 use Rattle.transcript_model.specs.declared.entry.Entry.{Entry}
 use Rattle.transcript_model.specs.declared.entry.Entry.TheVariants as entry
 use Rattle.replay_check.proofs.TalksAskLemmas.{opened}
-use Rattle.learning.specs.Ledgers.{IsLedger}
+use Rattle.learning.specs.Knowledge.{IsKnowledge}
 use Rattle.lemmas.specs.Lists.{has_number}
 use Rattle.replay_check.specs.Talks.{may_answer, may_give}
-use Rattle.learning.specs.declared.ledger.Ledger.{Ledger}
+use Rattle.learning.specs.declared.knowledge.Knowledge.{Knowledge}
 use Rattle.std.proofs.lemmas.Bool.{and_from, not-true, false≢true}
 use Rattle.lemmas.proofs.Options.{same_some}
 use Rattle.lemmas.proofs.ListTests.{get_there}
@@ -45,8 +45,8 @@ right version tuples width values formed count = record {
   valid = all_pass is_value values formed.each;
 }
 
-module _ (version : ℕ) (task : Task) (before : List Entry) (l : Ledger) (h : IsLedger version task before l) where
-  -- what an open request asks, as the ledger has it
+module _ (version : ℕ) (task : Task) (before : List Entry) (l : Knowledge) (h : IsKnowledge version task before l) where
+  -- what an open request asks, as the knowledge has it
   pub record Found (n : ℕ) : Type 0 where
     pub request : Asked
     pub at : slice_get l.asked.items (n - 1) ≡ Some request.instance

@@ -66,7 +66,7 @@ module _ (b : Bounds) (r : Report) (bounds : AreBounds b)
       → BreaksEntry (limits_by b) task (take place es) e offset k → ⊥
   none_wrong es s stands place e offset k at wrong =
       let t = stops (limits_by b) task es (mode_place_in task es s.course) stands.stands.leads bounds.workers in
-      entry_right (limits_by b) task es t.stage bounds.workers stands.stands.ledger.legal t.turns place e offset k at wrong
+      entry_right (limits_by b) task es t.stage bounds.workers stands.stands.knowledge.legal t.turns place e offset k at wrong
 
   by_bounds : (before : List Entry) (e : Entry) (offset : ℕ) (k : BreachKind)
       → BreaksEntry (reported_limits task r) task before e offset k
@@ -229,7 +229,7 @@ module _ (b : Bounds) (r : Report) (bounds : AreBounds b)
         stage = end.stage;
         legal =
             subst (λ ls. IsModeLegal ls task r.entries end.stage) (sym limits)
-            (record { legal = stands.stands.ledger.legal; turns = end.turns });
+            (record { legal = stands.stands.knowledge.legal; turns = end.turns });
         stands = end.stands;
         true = subst (λ ls. IsTrueOutcome ls task r.entries r.outcome) (sym limits) end.true;
       },

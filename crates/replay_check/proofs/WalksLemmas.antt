@@ -9,9 +9,9 @@ use Rattle.pools.specs.Pools.{shares_of}
 use Rattle.report_text.specs.Forms.{IsFormedEntry}
 use Rattle.task_model.specs.declared.stream.Instance.{Instance}
 use Rattle.task_model.specs.declared.task.Task.{Task}
-use Rattle.learning.specs.Ledgers.{IsLedger}
+use Rattle.learning.specs.Knowledge.{IsKnowledge}
 use Rattle.replay_check.specs.Talks.{IsAskedBy}
-use Rattle.learning.specs.declared.ledger.Ledger.{Ledger}
+use Rattle.learning.specs.declared.knowledge.Knowledge.{Knowledge}
 use Rattle.transcript_model.specs.Legal.{IsRightAsk, MayFollow, answered_number, is_answer, is_ask}
 use Rattle.transcript_model.specs.Rounds.{Limits}
 use Rattle.transcript_model.specs.declared.entry.Call.{Call}
@@ -70,7 +70,7 @@ module _ (b : Bounds) (entries : List Entry) (place : ℕ) (s : Standing) (can :
 
   -- the judge stands behind it
   pub is_taken : (new : Standing)
-      → StandsBehind (limits_by b) b.task.now (take place entries ++ e ∷ []) new.ledger new.course
+      → StandsBehind (limits_by b) b.task.now (take place entries ++ e ∷ []) new.knowledge new.course
       → (e ≡ entry.Nothing → ¬ (IsOpenNone b.limit (limits_by b) b.task.now (take place entries)))
       → IsStanding b (take (place + 1) entries) new
   is_taken new stands closed =
@@ -80,9 +80,9 @@ module _ (b : Bounds) (entries : List Entry) (place : ℕ) (s : Standing) (can :
         decided = decided_more b.limit (limits_by b) b.task.now (take place entries) e can.standing.decided closed;
       })
 
-  pub few_asked : length s.ledger.asked.items ≤ 100000
+  pub few_asked : length s.knowledge.asked.items ≤ 100000
   few_asked =
-      let counted = can.standing.stands.ledger.counted in
+      let counted = can.standing.stands.knowledge.counted in
       let left = can.standing.stands.counts.left in
       let few = can.bounds.calls in
       omega (arith, counted, left, few)
@@ -101,37 +101,37 @@ module _ (b : Bounds) (entries : List Entry) (place : ℕ) (s : Standing) (can :
 
   pub ask_out_of_order : (i : Instance)
       → IsAskedBy b.calls b.task.now (take place entries) number turn call (Some i)
-      → ¬ (IsNextRequest b.task.now s.ledger s.course.batch number turn call) → IsWrongAt b entries place 0 kind.Order
+      → ¬ (IsNextRequest b.task.now s.knowledge s.course.batch number turn call) → IsWrongAt b entries place 0 kind.Order
   ask_out_of_order i said other =
       is_wrong b entries place s can (entry.Ask number turn call) there 0 kind.Order
       (wrong_order b.limit (limits_by b) b.task.now (take place entries) (entry.Ask number turn call)
       (λ is. (said.0, said.1)) (λ is. absurd (false≢true is))
       (λ begun. other
-      (next_request (limits_by b) b.task.now (take place entries) s.ledger s.course can.standing.stands number turn call
+      (next_request (limits_by b) b.task.now (take place entries) s.knowledge s.course can.standing.stands number turn call
       begun)))
 
   -- the request has the next number, of which there are as many as calls at the most
   pub ask_number : (i : Instance)
       → IsAskedBy b.calls b.task.now (take place entries) number turn call (Some i)
-      → (number ≡ length s.ledger.asked.items + 1) × (length s.ledger.asked.items < 100000)
+      → (number ≡ length s.knowledge.asked.items + 1) × (length s.knowledge.asked.items < 100000)
   ask_number i said =
       let next = said.0.next in
-      let counted = can.standing.stands.ledger.counted in
+      let counted = can.standing.stands.knowledge.counted in
       let few = can.bounds.calls in
       let most = said.1 in
       (omega (arith, next, counted), omega (arith, next, counted, few, most))
 
-  pub ask_taken : (new : Standing) → IsNextRequest b.task.now s.ledger s.course.batch number turn call
+  pub ask_taken : (new : Standing) → IsNextRequest b.task.now s.knowledge s.course.batch number turn call
       → IsRightAsk b.task.now (take place entries) number turn call
-      → IsLedger b.version b.task.now (take place entries ++ entry.Ask number turn call ∷ []) new.ledger
+      → IsKnowledge b.version b.task.now (take place entries ++ entry.Ask number turn call ∷ []) new.knowledge
       → new.course ≡ with_agenda s.course (with_asked s.course.batch)
       → IsStanding b (take (place + 1) entries) new
-  ask_taken new next right ledger course =
+  ask_taken new next right knowledge course =
       is_taken b entries place s can (entry.Ask number turn call) there new
       (subst (λ (a : ModeAgenda).
-      StandsBehind (limits_by b) b.task.now (take place entries ++ entry.Ask number turn call ∷ []) new.ledger a) (sym course)
-      (ask_onward (limits_by b) b.task.now (take place entries) s.ledger s.course can.standing.stands number turn call next right
-      new.ledger ledger)) (λ is. absurd (cc))
+      StandsBehind (limits_by b) b.task.now (take place entries ++ entry.Ask number turn call ∷ []) new.knowledge a) (sym course)
+      (ask_onward (limits_by b) b.task.now (take place entries) s.knowledge s.course can.standing.stands number turn call next right
+      new.knowledge knowledge)) (λ is. absurd (cc))
 
 -- ---- answers
 
@@ -154,7 +154,7 @@ module _ (b : Bounds) (entries : List Entry) (place : ℕ) (s : Standing) (can :
       (λ ask. absurd (false≢true (sym kinds.1 ∙ ask))) (λ answer. may)
       (out_of_order b.limit (limits_by b) b.task.now (take place entries) e (answer_no_mark e n is)
       (λ begun. other
-      (next_answer (limits_by b) b.task.now (take place entries) s.ledger s.course can.standing.stands e n is begun))))
+      (next_answer (limits_by b) b.task.now (take place entries) s.knowledge s.course can.standing.stands e n is begun))))
 
   -- the batch went on behind it
   pub record Answers (course : ModeAgenda) : Type 0 where
@@ -171,13 +171,13 @@ module _ (b : Bounds) (entries : List Entry) (place : ℕ) (s : Standing) (can :
     answer_keeps =
         subst (λ (x : ModeAgenda). KeepsRun b.calls (take (place + 1) entries) x) (sym a.rest)
         (subst (λ es. KeepsRun b.calls es (with_agenda s.course course.batch)) (sym (next_taken entries place e there))
-        (keeps (limits_by b) b.task.now (take place entries) s.ledger s.course can.standing.stands n e is a.next a.none a.some a.may
+        (keeps (limits_by b) b.task.now (take place entries) s.knowledge s.course can.standing.stands n e is a.next a.none a.some a.may
         can.bounds.workers can.bounds.calls course.batch a.batch))
 
-    pub answer_taken : (l : Ledger) (new : Standing) → IsLedger b.version b.task.now (take (place + 1) entries) l
-        → SettlesOn b (take (place + 1) entries) (record { ledger = l; course = course }) new
+    pub answer_taken : (l : Knowledge) (new : Standing) → IsKnowledge b.version b.task.now (take (place + 1) entries) l
+        → SettlesOn b (take (place + 1) entries) (record { knowledge = l; course = course }) new
         → IsStanding b (take (place + 1) entries) new
-    answer_taken l new ledger h =
+    answer_taken l new knowledge h =
         let task = b.task.now in
         let known = l.facts.known in
         let after = take place entries ++ e ∷ [] in
@@ -187,10 +187,10 @@ module _ (b : Bounds) (entries : List Entry) (place : ℕ) (s : Standing) (can :
         (subst (λ (x : ModeAgenda). HasSettled task known l.queue (take (place + 1) entries) (shares_of b.pools.now) b.calls x new.course)
         a.rest h.settled) in
         is_taken b entries place s can e there new
-        (subst (λ (x : Ledger). StandsBehind (limits_by b) task after x new.course) (sym h.ledger_is)
-        (answer_onward (limits_by b) task (take place entries) s.ledger s.course can.standing.stands n e is a.next a.none a.some a.may
+        (subst (λ (x : Knowledge). StandsBehind (limits_by b) task after x new.course) (sym h.knowledge_is)
+        (answer_onward (limits_by b) task (take place entries) s.knowledge s.course can.standing.stands n e is a.next a.none a.some a.may
         can.bounds.workers can.bounds.calls course.batch a.batch l new.course
-        (subst (λ es. IsLedger b.version task es l) (next_taken entries place e there) ledger) settled))
+        (subst (λ es. IsKnowledge b.version task es l) (next_taken entries place e there) knowledge) settled))
         (λ nothing. absurd (true≢false (sym (answer_is e n is).0 ∙ (λ k. is_answer (nothing k)))))
 
 -- ---- all other entries

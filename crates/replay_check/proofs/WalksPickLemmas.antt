@@ -10,7 +10,7 @@ use Rattle.mode_course.specs.Places.{AwaitsPick, ModePlace, is_repeated, picks, 
 use Rattle.task_model.specs.Known.{Known}
 use Rattle.task_model.specs.Streams.{Note}
 use Rattle.task_model.specs.declared.task.Task.{Task}
-use Rattle.learning.specs.declared.ledger.Ledger.{Ledger}
+use Rattle.learning.specs.declared.knowledge.Knowledge.{Knowledge}
 use Rattle.transcript_model.specs.Laws.{AddsMark}
 use Rattle.transcript_model.specs.Legal.{asks_of}
 use Rattle.transcript_model.specs.Rounds.{Limits}
@@ -20,7 +20,7 @@ use Rattle.transcript_model.specs.declared.entry.Entry.{Entry}
 use Rattle.transcript_model.specs.declared.entry.Entry.TheVariants as entry
 use Rattle.replay_check.proofs.DueLemmas.{none_picked}
 use Rattle.replay_check.proofs.NextLemmas.{PicksIt, next_pick, next_retire}
-use Rattle.replay_check.proofs.StandingsMarkLemmas.{adds, closed_behind, idle_asks, mark_ledger, mark_onward, moves_onward}
+use Rattle.replay_check.proofs.StandingsMarkLemmas.{adds, closed_behind, idle_asks, mark_knowledge, mark_onward, moves_onward}
 use Rattle.replay_check.proofs.WalksLemmas.{is_taken, is_wrong}
 use Rattle.replay_check.proofs.WalksTurnLemmas.{line_length}
 use Rattle.replay_check.proofs.WrongLemmas.{mark_order}
@@ -41,7 +41,7 @@ module _ (b : Bounds) (entries : List Entry) (place : ℕ) (s : Standing) (can :
   abbrev limits : Limits
   limits = limits_by b
 
-  abbrev stands : StandsBehind limits task before s.ledger s.course
+  abbrev stands : StandsBehind limits task before s.knowledge s.course
   stands = can.standing.stands
 
   abbrev here : ModePlace
@@ -50,11 +50,11 @@ module _ (b : Bounds) (entries : List Entry) (place : ℕ) (s : Standing) (can :
   -- ---- picks
 
   pick_refused : (n : ℕ) → slice_get entries place ≡ Some (entry.Pick n)
-      → (PicksIt limits task before s.ledger s.course stands n → ⊥) → IsWrongAt b entries place 0 kind.Order
+      → (PicksIt limits task before s.knowledge s.course stands n → ⊥) → IsWrongAt b entries place 0 kind.Order
   pick_refused n there other =
       is_wrong b entries place s can (entry.Pick n) there 0 kind.Order
       (mark_order b.limit limits task before (entry.Pick n) refl
-      (λ begun. other (next_pick limits task before s.ledger s.course stands n begun)))
+      (λ begun. other (next_pick limits task before s.knowledge s.course stands n begun)))
 
   -- none is to be picked here
   pub no_pick : (n : ℕ) → slice_get entries place ≡ Some (entry.Pick n)
@@ -75,10 +75,10 @@ module _ (b : Bounds) (entries : List Entry) (place : ℕ) (s : Standing) (can :
   awaits_pick (mode, inr none) = inr (undreamt_awaits task before s.course none)
 
   -- a call is left
-  pub pick_left : PicksNext b.mode s.course → length s.ledger.asked.items < b.calls
+  pub pick_left : PicksNext b.mode s.course → length s.knowledge.asked.items < b.calls
   pick_left comes =
       let left = call_left limits task before here stands.leads (awaits_pick comes) in
-      let counted = stands.ledger.counted in
+      let counted = stands.knowledge.counted in
       omega (arith, left, counted)
 
   -- it was picked no more often than something was asked
@@ -106,18 +106,18 @@ module _ (b : Bounds) (entries : List Entry) (place : ℕ) (s : Standing) (can :
     marked = before ++ line ∷ []
 
     abbrev known : Known
-    known = s.ledger.facts.known
+    known = s.knowledge.facts.known
 
     abbrev notes : List Note
-    notes = s.ledger.queue
+    notes = s.knowledge.queue
 
     adds_line : AddsMark task before marked
-    adds_line = adds limits task before s.ledger s.course stands line refl
+    adds_line = adds limits task before s.knowledge s.course stands line refl
 
     -- it is picked behind so many entries and so many requests
     picked_counted : HasPicked task known notes limits.pools k skeleton (length marked) (asks_of marked) limits.calls s.course new.course
     picked_counted =
-        let counted : length s.ledger.asked.items ≡ asks_of marked = stands.ledger.counted ∙ sym adds_line.asks in
+        let counted : length s.knowledge.asked.items ≡ asks_of marked = stands.knowledge.counted ∙ sym adds_line.asks in
         subst (λ n. HasPicked task known notes limits.pools k skeleton n (asks_of marked) limits.calls s.course new.course)
         (line_length b entries place s can line there)
         (subst (λ n. HasPicked task known notes limits.pools k skeleton (place + 1) n limits.calls s.course new.course) counted
@@ -128,27 +128,27 @@ module _ (b : Bounds) (entries : List Entry) (place : ℕ) (s : Standing) (can :
         let same = adds_line.asks in
         let left = stands.counts.left in
         run_picked limits.pools can.bounds.workers limits.calls marked task known notes
-        (closed_behind limits task before s.ledger s.course stands line refl (idle_here comes))
+        (closed_behind limits task before s.knowledge s.course stands line refl (idle_here comes))
         (omega (arith, same, left)) s.course new.course k skeleton picked_counted
 
-    picked_stands : StandsBehind limits task marked s.ledger new.course
+    picked_stands : StandsBehind limits task marked s.knowledge new.course
     picked_stands =
         let p = picked_counted in
         let idle = idle_here comes in
-        let closed = closed_behind limits task before s.ledger s.course stands line refl idle in
-        let ledger = mark_ledger limits task before s.ledger s.course stands line refl in
-        let known_behind : known ≡ known_of task marked = stands.ledger.known ∙ sym adds_line.same.known in
-        let notes_behind : notes ≡ notes_of task marked = stands.ledger.notes ∙ sym adds_line.same.notes in
-        moves_onward limits task before s.ledger s.course stands line refl new.course idle
+        let closed = closed_behind limits task before s.knowledge s.course stands line refl idle in
+        let knowledge = mark_knowledge limits task before s.knowledge s.course stands line refl in
+        let known_behind : known ≡ known_of task marked = stands.knowledge.known ∙ sym adds_line.same.known in
+        let notes_behind : notes ≡ notes_of task marked = stands.knowledge.notes ∙ sym adds_line.same.notes in
+        moves_onward limits task before s.knowledge s.course stands line refl new.course idle
         (picks (pick_made limits task before s.course new.course can.bounds.workers limits.version can.bounds.fit known notes comes.0
-        (awaits_pick comes) k skeleton picked ledger.legal closed known_behind notes_behind (length marked) (asks_of marked) refl p))
+        (awaits_pick comes) k skeleton picked knowledge.legal closed known_behind notes_behind (length marked) (asks_of marked) refl p))
         known notes (unasked k) skeleton.entries skeleton.real (length marked) (asks_of marked) p.middle refl adds_line.asks p.moves
         p.batch_is p.phase_is keeps_run
 
     pub pick_taken : IsStanding b (take (place + 1) entries) new
     pick_taken =
         is_taken b entries place s can line there new
-        (subst (λ (l : Ledger). StandsBehind limits task marked l new.course) (sym h.ledger_is) picked_stands) (λ is. absurd (cc))
+        (subst (λ (l : Knowledge). StandsBehind limits task marked l new.course) (sym h.knowledge_is) picked_stands) (λ is. absurd (cc))
 
   -- ---- skeletons that are given up
 
@@ -157,17 +157,17 @@ module _ (b : Bounds) (entries : List Entry) (place : ℕ) (s : Standing) (can :
   retire_refused n there other =
       is_wrong b entries place s can (entry.Retire n) there 0 kind.Order
       (mark_order b.limit limits task before (entry.Retire n) refl
-      (λ begun. let t = next_retire limits task before s.ledger s.course stands n begun in other t.0 t.1 t.2 t.3))
+      (λ begun. let t = next_retire limits task before s.knowledge s.course stands n begun in other t.0 t.1 t.2 t.3))
 
   pub retire_taken : (k : ℕ) → slice_get entries place ≡ Some (entry.Retire (k + 1)) → s.course.phase ≡ unasked k
-      → is_over s.course.batch ≡ true → (new : Standing) → new.ledger ≡ s.ledger → new.course.batch ≡ s.course.batch
+      → is_over s.course.batch ≡ true → (new : Standing) → new.knowledge ≡ s.knowledge → new.course.batch ≡ s.course.batch
       → new.course.phase ≡ resting → new.course.kept ≡ s.course.kept → IsStanding b (take (place + 1) entries) new
-  retire_taken k there is over new ledger batch phase kept =
+  retire_taken k there is over new knowledge batch phase kept =
       let line = entry.Retire (k + 1) in
       let awaits = awaits_where task before s.course (unasked k) over is in
-      let idle = idle_asks limits task before s.ledger s.course stands line refl awaits.answered in
+      let idle = idle_asks limits task before s.knowledge s.course stands line refl awaits.answered in
       is_taken b entries place s can line there new
-      (subst (λ (l : Ledger). StandsBehind limits task (before ++ line ∷ []) l new.course) (sym ledger)
-      (mark_onward limits task before s.ledger s.course stands line refl new.course awaits.answered
+      (subst (λ (l : Knowledge). StandsBehind limits task (before ++ line ∷ []) l new.course) (sym knowledge)
+      (mark_onward limits task before s.knowledge s.course stands line refl new.course awaits.answered
       (retires (retire_made limits task before s.course new.course idle k awaits batch phase kept)) batch (ap is_repeated phase)
       (λ is. absurd (phases_differ (sym phase ∙ is))))) (λ is. absurd (cc))

@@ -19,7 +19,7 @@ use Rattle.task_model.specs.Dreams as dreams
 use Rattle.task_model.specs.Known.{Known}
 use Rattle.task_model.specs.Streams.{AreDue}
 use Rattle.task_model.specs.declared.task.Task.{Task}
-use Rattle.learning.specs.declared.ledger.Ledger.{Ledger}
+use Rattle.learning.specs.declared.knowledge.Knowledge.{Knowledge}
 use Rattle.transcript_model.specs.Dreaming.{HasNoDreamAfter, IsDreamAfter, sent_instances}
 use Rattle.transcript_model.specs.Laws.{AddsMark}
 use Rattle.transcript_model.specs.Legal.{asks_of, is_mark}
@@ -34,7 +34,7 @@ use Rattle.transcript_model.specs.declared.head.Mode.{Mode}
 use Rattle.transcript_model.specs.declared.head.Mode.TheVariants.{Adaptive, Binding, Focused, Incremental}
 use Rattle.replay_check.proofs.NextLemmas.{next_level, next_reset}
 use Rattle.replay_check.proofs.PlacesLemmas.{may_here}
-use Rattle.replay_check.proofs.StandingsMarkLemmas.{adds, begun_onward, closed_behind, idle_asks, mark_ledger, mark_onward, may_behind, moves_onward}
+use Rattle.replay_check.proofs.StandingsMarkLemmas.{adds, begun_onward, closed_behind, idle_asks, mark_knowledge, mark_onward, may_behind, moves_onward}
 use Rattle.replay_check.proofs.WalksLemmas.{is_taken, is_wrong}
 use Rattle.replay_check.proofs.WrongLemmas.{mark_order, open_none, wrong_dream, wrong_none}
 use Rattle.replay_check.specs.Breaches.{BeginsTurn}
@@ -60,18 +60,18 @@ module _ (b : Bounds) (entries : List Entry) (place : ℕ) (s : Standing) (can :
   abbrev limits : Limits
   limits = limits_by b
 
-  abbrev stands : StandsBehind limits task before s.ledger s.course
+  abbrev stands : StandsBehind limits task before s.knowledge s.course
   stands = can.standing.stands
 
   abbrev here : ModePlace
   here = mode_place_in task before s.course
 
   -- the batch begins behind so many requests
-  pub begins_counted : (dues : List Due) (n : ℕ) (new : ModeAgenda) (kept : ℕ → Kept) → n ≡ length s.ledger.asked.items
+  pub begins_counted : (dues : List Due) (n : ℕ) (new : ModeAgenda) (kept : ℕ → Kept) → n ≡ length s.knowledge.asked.items
       → BeginsBatch limits.pools dues n b.calls (kept n) new
       → BeginsBatch limits.pools dues (asks_of before) limits.calls (kept (asks_of before)) new
   begins_counted dues n new kept is begins =
-      subst (λ m. BeginsBatch limits.pools dues m b.calls (kept m) new) (is ∙ stands.ledger.counted) begins
+      subst (λ m. BeginsBatch limits.pools dues m b.calls (kept m) new) (is ∙ stands.knowledge.counted) begins
 
   -- the line is the last of so many entries
   pub line_length : (e : Entry) → slice_get entries place ≡ Some e → place + 1 ≡ length (before ++ e ∷ [])
@@ -83,14 +83,14 @@ module _ (b : Bounds) (entries : List Entry) (place : ℕ) (s : Standing) (can :
   -- a dream's batches begin behind so many entries and so many requests
   moves_counted : (e : Entry) → slice_get entries place ≡ Some e → is_mark e ≡ true → (needs : List dreams.SupposedEntry) (real : ℕ)
       (new : ModeAgenda) (over : Phase)
-      → MovesOn task s.ledger.facts.known s.ledger.queue [] limits.pools over limits.calls
-      (with_run s.course needs real (place + 1) (length s.ledger.asked.items)) new
-      → MovesOn task s.ledger.facts.known s.ledger.queue [] limits.pools over limits.calls
+      → MovesOn task s.knowledge.facts.known s.knowledge.queue [] limits.pools over limits.calls
+      (with_run s.course needs real (place + 1) (length s.knowledge.asked.items)) new
+      → MovesOn task s.knowledge.facts.known s.knowledge.queue [] limits.pools over limits.calls
       (with_run s.course needs real (length (before ++ e ∷ [])) (asks_of (before ++ e ∷ []))) new
   moves_counted e there mark needs real new over moves =
-      let counted : length s.ledger.asked.items ≡ asks_of (before ++ e ∷ []) =
-      stands.ledger.counted ∙ sym (adds limits task before s.ledger s.course stands e mark).asks in
-      subst (λ (old : ModeAgenda). MovesOn task s.ledger.facts.known s.ledger.queue [] limits.pools over limits.calls old new)
+      let counted : length s.knowledge.asked.items ≡ asks_of (before ++ e ∷ []) =
+      stands.knowledge.counted ∙ sym (adds limits task before s.knowledge s.course stands e mark).asks in
+      subst (λ (old : ModeAgenda). MovesOn task s.knowledge.facts.known s.knowledge.queue [] limits.pools over limits.calls old new)
       (λ i. with_run s.course needs real (line_length e there i) (counted i)) moves
 
   -- ---- levels
@@ -100,28 +100,28 @@ module _ (b : Bounds) (entries : List Entry) (place : ℕ) (s : Standing) (can :
     level_refused bad =
         is_wrong b entries place s can entry.Level there 0 kind.Order
         (mark_order b.limit limits task before entry.Level refl
-        (λ begun. bad (next_level limits task before s.ledger s.course stands begun).0))
+        (λ begun. bad (next_level limits task before s.knowledge s.course stands begun).0))
 
     pub level_not_due : ¬ (MayBegin limits task before) → IsWrongAt b entries place 0 kind.Order
     level_not_due bad =
         is_wrong b entries place s can entry.Level there 0 kind.Order
         (mark_order b.limit limits task before entry.Level refl
-        (λ begun. bad (next_level limits task before s.ledger s.course stands begun).1))
+        (λ begun. bad (next_level limits task before s.knowledge s.course stands begun).1))
 
-    module _ (new : Standing) (dues : List Due) (ledger : new.ledger ≡ s.ledger) (due : AreDueFor limits task before dues)
+    module _ (new : Standing) (dues : List Due) (knowledge : new.knowledge ≡ s.knowledge) (due : AreDueFor limits task before dues)
         (begins : BeginsBatch limits.pools dues (asks_of before) limits.calls s.course.kept new.course) where
       level_stands : AsksLevel b.mode s.course
-          → StandsBehind limits task (before ++ entry.Level ∷ []) s.ledger new.course
+          → StandsBehind limits task (before ++ entry.Level ∷ []) s.knowledge new.course
       level_stands (inl (mode, between)) =
           let awaits = between_awaits task before s.course between in
-          begun_onward limits task before s.ledger s.course stands entry.Level refl new.course awaits.answered
+          begun_onward limits task before s.knowledge s.course stands entry.Level refl new.course awaits.answered
           (begins_level (level_made limits task before s.course new.course can.bounds.workers dues mode awaits due.0 due.1 begins))
           dues s.course.kept begins
       level_stands (inr (nothing, untried)) =
           let awaits = undreamt_awaits task before s.course nothing.0 in
           let all : AreDue task (known_of task before) (notes_of task before) (due_instances dues) =
           subst (AreDue task (known_of task before) (notes_of task before)) (sym due.1) due.0.due in
-          begun_onward limits task before s.ledger s.course stands entry.Level refl new.course awaits.answered
+          begun_onward limits task before s.knowledge s.course stands entry.Level refl new.course awaits.answered
           (falls_back
           (fallback_made limits task before s.course new.course can.bounds.workers dues awaits nothing.1 untried all begins))
           dues s.course.kept begins
@@ -129,7 +129,7 @@ module _ (b : Bounds) (entries : List Entry) (place : ℕ) (s : Standing) (can :
       pub level_taken : AsksLevel b.mode s.course → IsStanding b (take (place + 1) entries) new
       level_taken asks =
           is_taken b entries place s can entry.Level there new
-          (subst (λ (l : Ledger). StandsBehind limits task (before ++ entry.Level ∷ []) l new.course) (sym ledger) (level_stands asks))
+          (subst (λ (l : Knowledge). StandsBehind limits task (before ++ entry.Level ∷ []) l new.course) (sym knowledge) (level_stands asks))
           (λ is. absurd (cc))
 
   -- ---- resets
@@ -140,18 +140,18 @@ module _ (b : Bounds) (entries : List Entry) (place : ℕ) (s : Standing) (can :
     reset_refused bad =
         is_wrong b entries place s can entry.Reset there 0 kind.Order
         (mark_order b.limit limits task before entry.Reset refl
-        (λ begun. bad (next_reset limits task before s.ledger s.course stands begun)))
+        (λ begun. bad (next_reset limits task before s.knowledge s.course stands begun)))
 
     pub reset_taken : (new : Standing) → HasNothing b.mode s.course
-        → 0 < length s.course.kept.tried → new.ledger ≡ s.ledger → new.course.batch ≡ s.course.batch
+        → 0 < length s.course.kept.tried → new.knowledge ≡ s.knowledge → new.course.batch ≡ s.course.batch
         → new.course.phase ≡ resting → new.course.kept ≡ forgetting s.course.kept
         → IsStanding b (take (place + 1) entries) new
-    reset_taken new nothing some ledger batch phase kept =
+    reset_taken new nothing some knowledge batch phase kept =
         let awaits = undreamt_awaits task before s.course nothing.0 in
-        let idle = idle_asks limits task before s.ledger s.course stands entry.Reset refl awaits.answered in
+        let idle = idle_asks limits task before s.knowledge s.course stands entry.Reset refl awaits.answered in
         is_taken b entries place s can entry.Reset there new
-        (subst (λ (l : Ledger). StandsBehind limits task (before ++ entry.Reset ∷ []) l new.course) (sym ledger)
-        (mark_onward limits task before s.ledger s.course stands entry.Reset refl new.course awaits.answered
+        (subst (λ (l : Knowledge). StandsBehind limits task (before ++ entry.Reset ∷ []) l new.course) (sym knowledge)
+        (mark_onward limits task before s.knowledge s.course stands entry.Reset refl new.course awaits.answered
         (resets (reset_made limits task before s.course new.course idle awaits nothing.1 some batch phase kept)) batch
         (ap is_repeated phase) (λ is. absurd (phases_differ (sym phase ∙ is))))) (λ is. absurd (cc))
 
@@ -168,7 +168,7 @@ module _ (b : Bounds) (entries : List Entry) (place : ℕ) (s : Standing) (can :
     alone k there = (left_kept limits task before here stands.leads k there).1
 
     idle : s.course.batch.to_ask ≡ []
-    idle = idle_asks limits task before s.ledger s.course stands entry.Nothing refl may.awaits.answered
+    idle = idle_asks limits task before s.knowledge s.course stands entry.Nothing refl may.awaits.answered
 
     -- ---- dreams
 
@@ -189,23 +189,23 @@ module _ (b : Bounds) (entries : List Entry) (place : ℕ) (s : Standing) (can :
         marked = before ++ line ∷ []
 
         adds_line : AddsMark task before marked
-        adds_line = adds limits task before s.ledger s.course stands line refl
+        adds_line = adds limits task before s.knowledge s.course stands line refl
 
-        known_behind : s.ledger.facts.known ≡ known_of task marked
-        known_behind = stands.ledger.known ∙ sym adds_line.same.known
+        known_behind : s.knowledge.facts.known ≡ known_of task marked
+        known_behind = stands.knowledge.known ∙ sym adds_line.same.known
 
-        notes_behind : s.ledger.queue ≡ notes_of task marked
-        notes_behind = stands.ledger.notes ∙ sym adds_line.same.notes
+        notes_behind : s.knowledge.queue ≡ notes_of task marked
+        notes_behind = stands.knowledge.notes ∙ sym adds_line.same.notes
 
-        real_is : length s.ledger.facts.known.names ≡ length (names_of task before)
-        real_is = ap (λ (k : Known). length k.names) stands.ledger.known
+        real_is : length s.knowledge.facts.known.names ≡ length (names_of task before)
+        real_is = ap (λ (k : Known). length k.names) stands.knowledge.known
 
         -- the judge stands behind the dream's line
-        dream_onward : new.ledger ≡ s.ledger → StandsBehind limits task marked s.ledger new.course
+        dream_onward : new.knowledge ≡ s.knowledge → StandsBehind limits task marked s.knowledge new.course
             → IsStanding b (take (place + 1) entries) new
         dream_onward same there_stands =
             is_taken b entries place s can line there new
-            (subst (λ (l : Ledger). StandsBehind limits task marked l new.course) (sym same) there_stands) (λ is. absurd (cc))
+            (subst (λ (l : Knowledge). StandsBehind limits task marked l new.course) (sym same) there_stands) (λ is. absurd (cc))
 
         -- ---- its one batch
 
@@ -220,9 +220,9 @@ module _ (b : Bounds) (entries : List Entry) (place : ℕ) (s : Standing) (can :
           once_taken : b.mode ≡ Focused → IsStanding b (take (place + 1) entries) new
           once_taken mode =
               let kept = λ (n : ℕ). joining s.course.kept (take (b.calls - n) (due_instances h.dues)) in
-              let begun = begins_counted h.dues (length s.ledger.asked.items) new.course kept refl h.begins in
-              dream_onward h.ledger_is
-              (begun_onward limits task before s.ledger s.course stands line refl new.course may.awaits.answered
+              let begun = begins_counted h.dues (length s.knowledge.asked.items) new.course kept refl h.begins in
+              dream_onward h.knowledge_is
+              (begun_onward limits task before s.knowledge s.course stands line refl new.course may.awaits.answered
               (tells_dream (dream_made limits task before s.course new.course can.bounds.workers h.dues mode uses steps needs may dream
               asked_first begun)) h.dues (kept (asks_of before)) begun)
 
@@ -230,22 +230,22 @@ module _ (b : Bounds) (entries : List Entry) (place : ℕ) (s : Standing) (can :
 
         run_taken : b.mode ≡ Binding → RunsDream b (place + 1) needs s new → IsStanding b (take (place + 1) entries) new
         run_taken mode h =
-            let known = s.ledger.facts.known in
-            let notes = s.ledger.queue in
+            let known = s.knowledge.facts.known in
+            let notes = s.knowledge.queue in
             let real = length known.names in
             let same = adds_line.asks in
             let left = stands.counts.left in
-            let closed = closed_behind limits task before s.ledger s.course stands line refl may.awaits.answered in
-            let ledger = mark_ledger limits task before s.ledger s.course stands line refl in
+            let closed = closed_behind limits task before s.knowledge s.course stands line refl may.awaits.answered in
+            let knowledge = mark_knowledge limits task before s.knowledge s.course stands line refl in
             let moves : MovesOn task known notes [] limits.pools resting limits.calls
             (with_run s.course needs real (length marked) (asks_of marked)) new.course =
             moves_counted line there refl needs real new.course resting h.moves in
             let run = run_followed limits.pools can.bounds.workers limits.calls marked task known notes closed
             (omega (arith, same, left)) s.course new.course needs real moves in
-            dream_onward h.ledger_is
-            (moves_onward limits task before s.ledger s.course stands line refl new.course may.awaits.answered
+            dream_onward h.knowledge_is
+            (moves_onward limits task before s.knowledge s.course stands line refl new.course may.awaits.answered
             (tells_dream (run_made limits task before s.course new.course can.bounds.workers limits.version can.bounds.fit known notes
-            mode uses steps needs may dream ledger.legal closed known_behind notes_behind real (length marked) (asks_of marked) real_is
+            mode uses steps needs may dream knowledge.legal closed known_behind notes_behind real (length marked) (asks_of marked) real_is
             refl moves)) known notes resting needs real (length marked) (asks_of marked) new.course refl same moves refl refl run)
 
         -- ---- it is kept
@@ -254,8 +254,8 @@ module _ (b : Bounds) (entries : List Entry) (place : ℕ) (s : Standing) (can :
         keep_taken mode h =
             let kept : new.course.kept ≡ keeping s.course.kept needs (length (names_of task before)) =
             h.kept_is ∙ ap (keeping s.course.kept needs) real_is in
-            dream_onward h.ledger_is
-            (mark_onward limits task before s.ledger s.course stands line refl new.course may.awaits.answered
+            dream_onward h.knowledge_is
+            (mark_onward limits task before s.knowledge s.course stands line refl new.course may.awaits.answered
             (tells_dream (keep_made limits task before s.course new.course mode idle uses steps needs may dream h.batch_is h.phase_is
             kept)) h.batch_is (ap is_repeated h.phase_is)
             (λ is. absurd (let both : dreamt ≡ undreamt = sym h.phase_is ∙ is in cc)))
@@ -293,20 +293,20 @@ module _ (b : Bounds) (entries : List Entry) (place : ℕ) (s : Standing) (can :
       }
 
       pub none_taken : (new : Standing) → HasNoDreamAfter limits task before s.course.kept.tried
-          → ¬ (IsUndecidedNone limits task before s.course.kept.tried b.limit) → new.ledger ≡ s.ledger
+          → ¬ (IsUndecidedNone limits task before s.course.kept.tried b.limit) → new.knowledge ≡ s.knowledge
           → new.course.batch ≡ s.course.batch → new.course.phase ≡ undreamt → new.course.kept ≡ s.course.kept
           → IsStanding b (take (place + 1) entries) new
-      none_taken new no_dream decided ledger batch phase kept =
+      none_taken new no_dream decided knowledge batch phase kept =
           let awaits : AwaitsPhase (mode_place_in task (before ++ entry.Nothing ∷ []) new.course) undreamt = record {
             phase_is = phase;
             answered = ap (λ x. x.answers) batch ∙ may.awaits.answered;
             uncut = ap (λ x. x.is_cut) batch ∙ may.awaits.uncut;
           } in
           is_taken b entries place s can entry.Nothing there new
-          (subst (λ (l : Ledger). StandsBehind limits task (before ++ entry.Nothing ∷ []) l new.course) (sym ledger)
-          (mark_onward limits task before s.ledger s.course stands entry.Nothing refl new.course may.awaits.answered
+          (subst (λ (l : Knowledge). StandsBehind limits task (before ++ entry.Nothing ∷ []) l new.course) (sym knowledge)
+          (mark_onward limits task before s.knowledge s.course stands entry.Nothing refl new.course may.awaits.answered
           (tells_none (none_made limits task before s.course new.course idle may no_dream batch phase kept)) batch
-          (ap is_repeated phase) (λ is. (awaits, may_behind limits task before s.ledger s.course stands entry.Nothing refl may.may))))
+          (ap is_repeated phase) (λ is. (awaits, may_behind limits task before s.knowledge s.course stands entry.Nothing refl may.may))))
           (λ is. closed decided)
 
   -- ---- turns that may not begin

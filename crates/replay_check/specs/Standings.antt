@@ -9,8 +9,8 @@ use Rattle.task_model.specs.Streams.{yields_of}
 use Rattle.task_model.specs.declared.limits.TheConstants.{MOST_STATES}
 use Rattle.task_model.specs.declared.stream.Instance.{Instance}
 use Rattle.task_model.specs.declared.task.Task.{Task}
-use Rattle.learning.specs.Ledgers.{IsLedger}
-use Rattle.learning.specs.declared.ledger.Ledger.{Ledger}
+use Rattle.learning.specs.Knowledge.{IsKnowledge}
+use Rattle.learning.specs.declared.knowledge.Knowledge.{Knowledge}
 use Rattle.transcript_model.specs.Legal.{asks_of, is_open}
 use Rattle.transcript_model.specs.Names.{call_of_instance}
 use Rattle.transcript_model.specs.Rounds.{Limits}
@@ -57,11 +57,11 @@ pub record IsCounted (calls : ℕ) (entries : List Entry) (a : Agenda) : Type 0 
   pub waiting : (n : ℕ) → a.next ≤ n → n ≤ asks_of entries → is_open entries n ≡ true
   pub answered : (n : ℕ) → is_open entries n ≡ true → (a.next ≤ n) × (n ≤ asks_of entries)
 
--- The judge's ledger is that of the entries, and what is to be done is what may come behind them. Behind the want of a
+-- The judge's knowledge is that of the entries, and what is to be done is what may come behind them. Behind the want of a
 -- dream nothing is open, and what is due is still so.
-pub record StandsBehind (limits : Limits) (task : Task) (entries : List Entry) (l : Ledger)
+pub record StandsBehind (limits : Limits) (task : Task) (entries : List Entry) (l : Knowledge)
     (a : ModeAgenda) : Type 0 where
-  pub ledger : IsLedger limits.version task entries l
+  pub knowledge : IsKnowledge limits.version task entries l
   pub leads : LeadsOn limits task at_start [] entries (mode_place_in task entries a)
   pub counts : IsCounted limits.calls entries a.batch
   pub run : KeepsRun limits.calls entries a
@@ -75,7 +75,7 @@ AreDecided limit limits task entries =
     → ¬ (IsOpenNone limit limits task (take place entries))
 
 pub record IsStanding (b : Bounds) (entries : List Entry) (s : Standing) : Type 0 where
-  pub stands : StandsBehind (limits_by b) b.task.now entries s.ledger s.course
+  pub stands : StandsBehind (limits_by b) b.task.now entries s.knowledge s.course
   pub decided : AreDecided b.limit (limits_by b) b.task.now entries
 
 -- ---- what is wrong with an entry
@@ -103,7 +103,7 @@ pub record IsOpenEntry (limit : ℕ) (limits : Limits) (task : Task) (before : L
 -- ---- what comes next
 
 -- the request is the next of the open round
-pub record IsNextRequest (task : Task) (l : Ledger) (a : Agenda) (number turn : ℕ) (call : Call) : Type 0 where
+pub record IsNextRequest (task : Task) (l : Knowledge) (a : Agenda) (number turn : ℕ) (call : Call) : Type 0 where
   pub instance : Instance
   pub head : slice_get a.to_ask 0 ≡ Some instance
   pub is : entry.Ask number turn call

@@ -43,26 +43,26 @@ PicksNext mode a =
 -- The one batch begins over what may be asked first of these entries, which joins what was tried.
 pub record AsksOnce (b : Bounds) (entries : List dreams.SupposedEntry) (old new : Standing) : Type 0 where
   pub dues : List Due
-  pub asks : AreFirstAsks b.task.now old.ledger.facts.known old.ledger.queue
-      (length old.ledger.facts.known.names) entries dues
-  pub begins : BeginsBatch (shares_of b.pools.now) dues (length old.ledger.asked.items) b.calls
-      (joining old.course.kept (take (b.calls - length old.ledger.asked.items) (due_instances dues)))
+  pub asks : AreFirstAsks b.task.now old.knowledge.facts.known old.knowledge.queue
+      (length old.knowledge.facts.known.names) entries dues
+  pub begins : BeginsBatch (shares_of b.pools.now) dues (length old.knowledge.asked.items) b.calls
+      (joining old.course.kept (take (b.calls - length old.knowledge.asked.items) (due_instances dues)))
       new.course
-  pub ledger_is : new.ledger ≡ old.ledger
+  pub knowledge_is : new.knowledge ≡ old.knowledge
 
 -- The first of the batches begins, behind a line that is the last of so many entries.
 pub record RunsDream (b : Bounds) (from : ℕ) (entries : List dreams.SupposedEntry) (old new : Standing) : Type 0 where
-  pub moves : MovesOn b.task.now old.ledger.facts.known old.ledger.queue [] (shares_of b.pools.now) resting b.calls
-      (with_run old.course entries (length old.ledger.facts.known.names) from (length old.ledger.asked.items))
+  pub moves : MovesOn b.task.now old.knowledge.facts.known old.knowledge.queue [] (shares_of b.pools.now) resting b.calls
+      (with_run old.course entries (length old.knowledge.facts.known.names) from (length old.knowledge.asked.items))
       new.course
-  pub ledger_is : new.ledger ≡ old.ledger
+  pub knowledge_is : new.knowledge ≡ old.knowledge
 
 -- The dream becomes the last skeleton, and one is picked next.
 pub record KeepsDream (entries : List dreams.SupposedEntry) (old new : Standing) : Type 0 where
   pub batch_is : new.course.batch ≡ old.course.batch
   pub phase_is : new.course.phase ≡ dreamt
-  pub kept_is : new.course.kept ≡ keeping old.course.kept entries (length old.ledger.facts.known.names)
-  pub ledger_is : new.ledger ≡ old.ledger
+  pub kept_is : new.course.kept ≡ keeping old.course.kept entries (length old.knowledge.facts.known.names)
+  pub knowledge_is : new.knowledge ≡ old.knowledge
 
 -- the judge goes on behind a dream with these entries, whose line is the last of so many entries
 abbrev pub GoesOnBehind : Mode → Bounds → ℕ → List dreams.SupposedEntry → Standing → Standing → Type 0
@@ -75,12 +75,12 @@ GoesOnBehind Adaptive b from entries old new = KeepsDream entries old new
 
 -- The skeleton at this place is picked, by a line that is the last of so many entries.
 pub record RunsPick (b : Bounds) (from place : ℕ) (s : Skeleton) (old new : Standing) : Type 0 where
-  pub picked : HasPicked b.task.now old.ledger.facts.known old.ledger.queue (shares_of b.pools.now) place s from
-      (length old.ledger.asked.items) b.calls old.course new.course
-  pub ledger_is : new.ledger ≡ old.ledger
+  pub picked : HasPicked b.task.now old.knowledge.facts.known old.knowledge.queue (shares_of b.pools.now) place s from
+      (length old.knowledge.asked.items) b.calls old.course new.course
+  pub knowledge_is : new.knowledge ≡ old.knowledge
 
 -- The dream's next batch begins behind these entries, or its turn is over, where that is due.
 pub record SettlesOn (b : Bounds) (entries : List Entry) (old new : Standing) : Type 0 where
-  pub settled : HasSettled b.task.now old.ledger.facts.known old.ledger.queue entries (shares_of b.pools.now) b.calls
+  pub settled : HasSettled b.task.now old.knowledge.facts.known old.knowledge.queue entries (shares_of b.pools.now) b.calls
       old.course new.course
-  pub ledger_is : new.ledger ≡ old.ledger
+  pub knowledge_is : new.knowledge ≡ old.knowledge

@@ -21,21 +21,21 @@ use transcript_model::{Call, Entry};
 impl Standing {
     /// Whether the request is the next of the open round.
     fn is_next(&self, bounds: &Bounds<'_>, number: u32, turn: u32, call: &Call) -> bool
-        requires { length self.now.ledger.asked.items ≤ MOST_CALLS }
+        requires { length self.now.knowledge.asked.items ≤ MOST_CALLS }
         ensures yes { IsTrue result
-            → IsNextRequest bounds.now.task.now self.now.ledger self.now.course.batch number turn
+            → IsNextRequest bounds.now.task.now self.now.knowledge self.now.course.batch number turn
             call.now }
-        ensures no { IsNextRequest bounds.now.task.now self.now.ledger self.now.course.batch number
+        ensures no { IsNextRequest bounds.now.task.now self.now.knowledge self.now.course.batch number
             turn call.now → IsTrue result }
     {
-        let ledger = &self.ledger;
-        let due = ledger.asked.len() as u32 + 1;
-        let names = ledger.facts.names();
+        let knowledge = &self.knowledge;
+        let due = knowledge.asked.len() as u32 + 1;
+        let names = knowledge.facts.names();
         match self.course.next_asked() {
             Some(next) => is_request(
                 bounds.task,
                 names,
-                &ledger.queue,
+                &knowledge.queue,
                 due,
                 next,
                 number,
@@ -60,11 +60,11 @@ impl Standing {
         requires here { slice_get entries.now place ≡ Some (entry.Ask number turn call.now) }
         ensures { IfOk result (IsEntryTaken bounds.now entries.now place self.new) }
     {
-        let ledger = &self.ledger;
+        let knowledge = &self.knowledge;
         let asked = asked_by(
             bounds.alloc,
             bounds.task,
-            ledger,
+            knowledge,
             bounds.calls,
             number,
             turn,
@@ -76,7 +76,7 @@ impl Standing {
         if !self.is_next(bounds, number, turn, call) {
             return Ok(Finding::Breaks(0, BreachKind::Order));
         }
-        self.ledger.ask(instance)?;
+        self.knowledge.ask(instance)?;
         self.course.ask();
         Ok(Finding::Holds)
     }
@@ -88,11 +88,11 @@ impl Standing {
         requires run { KeepsRun bounds.now.calls entries.now self.old.course }
         ensures { OnOk result (SettlesOn bounds.now entries.now self.old self.new) }
     {
-        let ledger = &self.ledger;
+        let knowledge = &self.knowledge;
         self.course.settle(
             bounds.task,
-            &ledger.facts,
-            &ledger.queue,
+            &knowledge.facts,
+            &knowledge.queue,
             entries,
             bounds.pools,
             bounds.calls,
@@ -111,14 +111,14 @@ impl Standing {
         requires here { IfSome (slice_get entries.now place) (λ e. number_in e ≡ Some number) }
         ensures { IfOk result (IsEntryTaken bounds.now entries.now place self.new) }
     {
-        if !may_answer(bounds.task, &self.ledger, number, &entries[place]) {
+        if !may_answer(bounds.task, &self.knowledge, number, &entries[place]) {
             return Ok(Finding::Breaks(0, BreachKind::Answer));
         }
         match self.course.next_answered() {
             Some(next) if next == number => {}
             _ => return Ok(Finding::Breaks(0, BreachKind::Order)),
         }
-        self.ledger.answer(
+        self.knowledge.answer(
             bounds.alloc,
             bounds.task,
             bounds.version,

@@ -1,7 +1,7 @@
 //! What outcomes claim, besides plans.
 ghost use Rattle.std.specs.Prelude.{◌≡◌, ◌↔◌, ℕ, List, IfOk, IsTrue};
 ghost use Rattle.replay_check.specs.Claims.{IsJudged, claim_of};
-ghost use Rattle.learning.specs.Ledgers.{IsLedger};
+ghost use Rattle.learning.specs.Knowledge.{IsKnowledge};
 ghost use Rattle.replay_check.specs.Standings.{AreBounds, limits_by};
 ghost use Rattle.task_model.specs.Streams.{NothingIsDue};
 ghost use Rattle.transcript_model.specs.Legal.{HasNoneOpen};
@@ -13,7 +13,7 @@ ghost use Rattle.transcript_model.specs.declared.outcome.Outcome.TheVariants as 
 
 use crate::bounds::Bounds;
 use best_first::{exceeds, is_solvable_within};
-use learning::{Ledger, dues_of};
+use learning::{Knowledge, dues_of};
 use std::alloc::AllocError;
 use transcript_model::Mode;
 
@@ -36,48 +36,50 @@ fn decided(is_true: bool) -> Claim
 }
 
 /// Whether nothing is due.
-fn is_nothing_due(bounds: &Bounds<'_>, ledger: &Ledger) -> Result<bool, AllocError>
+fn is_nothing_due(bounds: &Bounds<'_>, knowledge: &Knowledge) -> Result<bool, AllocError>
     requires bounds { AreBounds bounds.now }
     ensures { (entries : List AnyEntry)
-        → IsLedger bounds.now.version bounds.now.task.now entries ledger.now
+        → IsKnowledge bounds.now.version bounds.now.task.now entries knowledge.now
         → IfOk result (λ yes. IsTrue yes ↔ NothingIsDue bounds.now.task.now
         (known_of bounds.now.task.now entries) (notes_of bounds.now.task.now entries)) }
 {
-    match dues_of(bounds.task, ledger)? {
+    match dues_of(bounds.task, knowledge)? {
         Some(dues) => Ok(dues.as_slice().is_empty()),
         None => Ok(false),
     }
 }
 
 /// That there is no plan, and nothing is due.
-pub(crate) fn judge_no_plan(bounds: &Bounds<'_>, ledger: &Ledger) -> Result<Claim, AllocError>
+pub(crate) fn judge_no_plan(bounds: &Bounds<'_>, knowledge: &Knowledge) -> Result<Claim, AllocError>
     requires bounds { AreBounds bounds.now }
     ensures { (entries : List AnyEntry)
-        → IsLedger bounds.now.version bounds.now.task.now entries ledger.now → HasNoneOpen entries
+        → IsKnowledge bounds.now.version bounds.now.task.now entries knowledge.now → HasNoneOpen entries
         → IfOk result (IsJudged (limits_by bounds.now) bounds.now.limit bounds.now.task.now entries
         outcome.NoPlan) }
 {
-    if !is_nothing_due(bounds, ledger)? {
+    if !is_nothing_due(bounds, knowledge)? {
         return Ok(Claim::False);
     }
-    match is_solvable_within(bounds.alloc, bounds.task, &ledger.facts, bounds.limit)? {
+    match is_solvable_within(bounds.alloc, bounds.task, &knowledge.facts, bounds.limit)? {
         None => Ok(Claim::Open),
         Some(solvable) => Ok(decided(!solvable)),
     }
 }
 
 /// That all calls are made and answered, and an instance is still due.
-pub(crate) fn judge_calls(bounds: &Bounds<'_>, ledger: &Ledger) -> Result<Claim, AllocError>
+pub(crate) fn judge_calls(bounds: &Bounds<'_>, knowledge: &Knowledge) -> Result<Claim, AllocError>
     requires bounds { AreBounds bounds.now }
     ensures { (limit : ℕ) (entries : List AnyEntry)
-        → IsLedger bounds.now.version bounds.now.task.now entries ledger.now
+        → IsKnowledge bounds.now.version bounds.now.task.now entries knowledge.now
         → IfOk result (IsJudged (limits_by bounds.now) limit bounds.now.task.now entries
         (outcome.Limit Calls)) }
 {
-    if ledger.asked.len() != bounds.calls as usize || !ledger.unanswered.as_slice().is_empty() {
+    if knowledge.asked.len() != bounds.calls as usize
+        || !knowledge.unanswered.as_slice().is_empty()
+    {
         return Ok(Claim::False);
     }
-    let Some(dues) = dues_of(bounds.task, ledger)? else {
+    let Some(dues) = dues_of(bounds.task, knowledge)? else {
         return Ok(Claim::True);
     };
     Ok(decided(!dues.as_slice().is_empty()))
@@ -85,10 +87,10 @@ pub(crate) fn judge_calls(bounds: &Bounds<'_>, ledger: &Ledger) -> Result<Claim,
 
 /// Whether it may be claimed that too many states are reached, as far as what is due goes: in
 /// incremental mode that doesn't matter, and in the others nothing may be due.
-fn may_be_past_states(bounds: &Bounds<'_>, ledger: &Ledger) -> Result<bool, AllocError>
+fn may_be_past_states(bounds: &Bounds<'_>, knowledge: &Knowledge) -> Result<bool, AllocError>
     requires bounds { AreBounds bounds.now }
     ensures { (entries : List AnyEntry)
-        → IsLedger bounds.now.version bounds.now.task.now entries ledger.now
+        → IsKnowledge bounds.now.version bounds.now.task.now entries knowledge.now
         → IfOk result (λ yes. IsTrue yes ↔ (¬ (bounds.now.mode ≡ Incremental)
         → NothingIsDue bounds.now.task.now (known_of bounds.now.task.now entries)
         (notes_of bounds.now.task.now entries))) }
@@ -96,40 +98,43 @@ fn may_be_past_states(bounds: &Bounds<'_>, ledger: &Ledger) -> Result<bool, Allo
     if bounds.mode == Mode::Incremental {
         return Ok(true);
     }
-    is_nothing_due(bounds, ledger)
+    is_nothing_due(bounds, knowledge)
 }
 
 /// That more states are reached than the report's limit allows, and, outside incremental mode, that
 /// nothing is due.
-pub(crate) fn judge_states(bounds: &Bounds<'_>, ledger: &Ledger) -> Result<Claim, AllocError>
+pub(crate) fn judge_states(bounds: &Bounds<'_>, knowledge: &Knowledge) -> Result<Claim, AllocError>
     requires bounds { AreBounds bounds.now }
     ensures { (entries : List AnyEntry)
-        → IsLedger bounds.now.version bounds.now.task.now entries ledger.now → HasNoneOpen entries
+        → IsKnowledge bounds.now.version bounds.now.task.now entries knowledge.now → HasNoneOpen entries
         → IfOk result (IsJudged (limits_by bounds.now) bounds.now.limit bounds.now.task.now entries
         (outcome.Limit States)) }
 {
-    if !may_be_past_states(bounds, ledger)? {
+    if !may_be_past_states(bounds, knowledge)? {
         return Ok(Claim::False);
     }
     if bounds.limit >= bounds.states {
-        let more = exceeds(bounds.alloc, bounds.task, &ledger.facts, bounds.states)?;
+        let more = exceeds(bounds.alloc, bounds.task, &knowledge.facts, bounds.states)?;
         return Ok(decided(more));
     }
-    if exceeds(bounds.alloc, bounds.task, &ledger.facts, bounds.limit)? {
+    if exceeds(bounds.alloc, bounds.task, &knowledge.facts, bounds.limit)? {
         return Ok(Claim::Open);
     }
     Ok(Claim::False)
 }
 
 /// That more than 1,000,000 instances are due.
-pub(crate) fn judge_instances(bounds: &Bounds<'_>, ledger: &Ledger) -> Result<Claim, AllocError>
+pub(crate) fn judge_instances(
+    bounds: &Bounds<'_>,
+    knowledge: &Knowledge,
+) -> Result<Claim, AllocError>
     requires bounds { AreBounds bounds.now }
     ensures { (limit : ℕ) (entries : List AnyEntry)
-        → IsLedger bounds.now.version bounds.now.task.now entries ledger.now
+        → IsKnowledge bounds.now.version bounds.now.task.now entries knowledge.now
         → IfOk result (IsJudged (limits_by bounds.now) limit bounds.now.task.now entries
         (outcome.Limit Instances)) }
 {
-    let Some(dues) = dues_of(bounds.task, ledger)? else {
+    let Some(dues) = dues_of(bounds.task, knowledge)? else {
         return Ok(Claim::True);
     };
     drop(dues);

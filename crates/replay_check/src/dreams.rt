@@ -19,20 +19,20 @@ impl Standing {
     /// Begins the one batch of a dream with these entries.
     fn ask_once(&mut self, bounds: &Bounds<'_>, dream: &[OptEntry]) -> Result<(), AllocError>
         requires bounds { AreBounds bounds.now }
-        requires left { length self.old.ledger.asked.items < bounds.now.calls }
+        requires left { length self.old.knowledge.asked.items < bounds.now.calls }
         ensures { OnOk result (AsksOnce bounds.now dream.now self.old self.new) }
     {
-        let ledger = &self.ledger;
-        let real = ledger.facts.name_count();
+        let knowledge = &self.knowledge;
+        let real = knowledge.facts.name_count();
         let asks = first_asks(
             bounds.alloc,
             bounds.task,
-            &ledger.facts,
-            &ledger.queue,
+            &knowledge.facts,
+            &knowledge.queue,
             dream,
             real,
         )?;
-        let before = ledger.asked.len() as u32;
+        let before = knowledge.asked.len() as u32;
         self.course
             .begin_dream(bounds.pools, asks, before, bounds.calls)
     }
@@ -46,16 +46,16 @@ impl Standing {
         from: usize,
     ) -> Result<(), AllocError>
         requires bounds { AreBounds bounds.now }
-        requires left { length self.old.ledger.asked.items < bounds.now.calls }
+        requires left { length self.old.knowledge.asked.items < bounds.now.calls }
         ensures { OnOk result (RunsDream bounds.now from dream.items self.old self.new) }
     {
-        let ledger = &self.ledger;
-        let real = ledger.facts.name_count();
-        let before = ledger.asked.len() as u32;
+        let knowledge = &self.knowledge;
+        let real = knowledge.facts.name_count();
+        let before = knowledge.asked.len() as u32;
         self.course.follow_dream(
             bounds.task,
-            &ledger.facts,
-            &ledger.queue,
+            &knowledge.facts,
+            &knowledge.queue,
             bounds.pools,
             dream,
             real,
@@ -74,7 +74,7 @@ impl Standing {
         from: usize,
     ) -> Result<(), AllocError>
         requires bounds { AreBounds bounds.now }
-        requires left { length self.old.ledger.asked.items < bounds.now.calls }
+        requires left { length self.old.knowledge.asked.items < bounds.now.calls }
         ensures { OnOk result (GoesOnBehind bounds.now.mode bounds.now from dream.items self.old
             self.new) }
     {
@@ -82,7 +82,7 @@ impl Standing {
             Mode::Incremental | Mode::Focused => self.ask_once(bounds, dream.as_slice()),
             Mode::Binding => self.run_dream(bounds, dream, from),
             Mode::Adaptive => {
-                let real = self.ledger.facts.name_count();
+                let real = self.knowledge.facts.name_count();
                 self.course.keep_dream(dream, real)
             }
         }
@@ -105,11 +105,11 @@ impl Standing {
             return Ok(Finding::Breaks(0, BreachKind::Order));
         }
         let tried = self.course.tried();
-        let ledger = &self.ledger;
+        let knowledge = &self.knowledge;
         let dreamed = judge_dream(
             bounds.alloc,
             bounds.task,
-            ledger,
+            knowledge,
             tried,
             bounds.depth,
             uses,

@@ -8,7 +8,7 @@ use crate::bounds::Bounds;
 use crate::finding::Finding;
 use crate::standing::Standing;
 use crate::verdict::BreachKind;
-use learning::{Ledger, answered};
+use learning::{Knowledge, answered};
 use mode_course::ModeCourse;
 use std::alloc::AllocError;
 use transcript_model::Entry;
@@ -65,7 +65,7 @@ pub(crate) fn walk(bounds: &Bounds<'_>, entries: &[Entry]) -> Result<Walked, All
     ensures { IfOk result (IsWalked bounds.now entries.now) }
 {
     let mut standing = Standing {
-        ledger: Ledger::new(bounds.alloc, bounds.task)?,
+        knowledge: Knowledge::new(bounds.alloc, bounds.task)?,
         course: ModeCourse::new(bounds.alloc),
     };
     for place in 0..entries.len() {

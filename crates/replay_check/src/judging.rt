@@ -56,7 +56,7 @@ fn judge_end(bounds: &Bounds<'_>, report: &Report, standing: Standing) -> Result
     let entries = report.entries.as_slice();
     let first = report.pools.len() + 3 + lines_of(entries);
     match standing.judge_outcome(bounds, entries, &report.outcome)? {
-        Finding::Holds => Ok(Ended::Valid(standing.ledger.facts)),
+        Finding::Holds => Ok(Ended::Valid(standing.knowledge.facts)),
         Finding::Open => Ok(Ended::Limit),
         Finding::Breaks(line, kind) => Ok(invalid(first + line, kind)),
     }

@@ -93,13 +93,13 @@ impl Standing {
                     cost: *cost,
                     from: from.as_slice(),
                 };
-                let found = judge_plan(bounds, &self.ledger, &plan)?;
+                let found = judge_plan(bounds, &self.knowledge, &plan)?;
                 return Ok(planned(steps.len(), found));
             }
-            Outcome::NoPlan => judge_no_plan(bounds, &self.ledger)?,
-            Outcome::Limit(LimitKind::Calls) => judge_calls(bounds, &self.ledger)?,
-            Outcome::Limit(LimitKind::States) => judge_states(bounds, &self.ledger)?,
-            Outcome::Limit(LimitKind::Instances) => judge_instances(bounds, &self.ledger)?,
+            Outcome::NoPlan => judge_no_plan(bounds, &self.knowledge)?,
+            Outcome::Limit(LimitKind::Calls) => judge_calls(bounds, &self.knowledge)?,
+            Outcome::Limit(LimitKind::States) => judge_states(bounds, &self.knowledge)?,
+            Outcome::Limit(LimitKind::Instances) => judge_instances(bounds, &self.knowledge)?,
         };
         Ok(claimed(claim))
     }

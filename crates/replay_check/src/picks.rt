@@ -34,16 +34,16 @@ impl Standing {
         requires place { (s : Skeleton)
             × (slice_get self.old.course.kept.skeletons skeleton ≡ Some s)
             × (s.picks < LARGEST_COUNT) }
-        requires left { length self.old.ledger.asked.items < bounds.now.calls }
+        requires left { length self.old.knowledge.asked.items < bounds.now.calls }
         ensures { (s : Skeleton) → slice_get self.old.course.kept.skeletons skeleton ≡ Some s
             → OnOk result (RunsPick bounds.now from skeleton s self.old self.new) }
     {
-        let ledger = &self.ledger;
-        let before = ledger.asked.len() as u32;
+        let knowledge = &self.knowledge;
+        let before = knowledge.asked.len() as u32;
         self.course.pick(
             bounds.task,
-            &ledger.facts,
-            &ledger.queue,
+            &knowledge.facts,
+            &knowledge.queue,
             bounds.pools,
             skeleton,
             from,

@@ -1,6 +1,6 @@
 //! Whether the plan that a report shows is valid, costs what it says, and has its origins.
 ghost use Rattle.std.specs.Prelude.{IfOk};
-ghost use Rattle.learning.specs.Ledgers.{IsLedger};
+ghost use Rattle.learning.specs.Knowledge.{IsKnowledge};
 ghost use Rattle.transcript_model.specs.Legal.{IsLegal};
 ghost use Rattle.transcript_model.specs.Transcript.{known_of};
 ghost use Rattle.shown_steps.specs.Plans.{IsPlan};
@@ -9,7 +9,7 @@ ghost use Rattle.replay_check.specs.Standings.{AreBounds};
 
 use crate::bounds::Bounds;
 use crate::origins::first_difference;
-use learning::Ledger;
+use learning::Knowledge;
 use shown_plan::plan_origins;
 use shown_steps::{Ran, run_steps};
 use std::alloc::AllocError;
@@ -59,12 +59,12 @@ fn judge_origins(bounds: &Bounds<'_>, plan: &ShownPlan<'_>) -> Result<Planned, A
 /// Judges the plan over what is known.
 pub(crate) fn judge_plan(
     bounds: &Bounds<'_>,
-    ledger: &Ledger,
+    knowledge: &Knowledge,
     plan: &ShownPlan<'_>,
 ) -> Result<Planned, AllocError>
     requires bounds { AreBounds bounds.now }
-    requires ledger { IsLedger bounds.now.version bounds.now.task.now plan.now.entries.now
-        ledger.now }
+    requires knowledge { IsKnowledge bounds.now.version bounds.now.task.now plan.now.entries.now
+        knowledge.now }
     ensures said { IfOk result (IsPlanned bounds.now.version bounds.now.task.now
         plan.now.entries.now plan.now.calls.now plan.now.cost plan.now.from.now) }
     ensures near { IfOk result IsNear }
@@ -72,14 +72,14 @@ pub(crate) fn judge_plan(
     let run = match run_steps(
         bounds.alloc,
         bounds.task,
-        &ledger.facts,
-        &ledger.facts,
+        &knowledge.facts,
+        &knowledge.facts,
         plan.calls,
     )? {
         Ran::Stops(place) => return Ok(Planned::Stuck(place)),
         Ran::Ends(run) => run,
     };
-    if !run.reaches_goal(bounds.task, &ledger.facts) {
+    if !run.reaches_goal(bounds.task, &knowledge.facts) {
         return Ok(Planned::NoGoal);
     }
     if !run.costs(plan.cost) {

@@ -9,7 +9,7 @@ ghost use Rattle.transcript_model.specs.declared.entry.Entry.{Entry as AnyEntry}
 
 use crate::bounds::Bounds;
 use instance_queue::Due;
-use learning::{Ledger, dues_of};
+use learning::{Knowledge, dues_of};
 use mode_course::ModeCourse;
 use std::alloc::AllocError;
 use transcript_model::Mode;
@@ -17,7 +17,7 @@ use transcript_model::Mode;
 /// What the entries so far come to: what is kept of them, and what may come next.
 #[derive(Drop)]
 pub(crate) struct Standing {
-    pub(crate) ledger: Ledger,
+    pub(crate) knowledge: Knowledge,
     pub(crate) course: ModeCourse,
 }
 
@@ -27,20 +27,20 @@ impl Standing {
     pub(crate) fn turn_dues(&self, bounds: &Bounds<'_>) -> Result<Option<Vec<Due>>, AllocError>
         requires bounds { AreBounds bounds.now }
         requires standing { (entries : List AnyEntry) × StandsBehind (limits_by bounds.now)
-            bounds.now.task.now entries self.now.ledger self.now.course }
+            bounds.now.task.now entries self.now.knowledge self.now.course }
         ensures some { (entries : List AnyEntry) → StandsBehind (limits_by bounds.now)
-            bounds.now.task.now entries self.now.ledger self.now.course → IfOk result
+            bounds.now.task.now entries self.now.knowledge self.now.course → IfOk result
             (λ found. IfSome found (λ dues. AreDueFor (limits_by bounds.now) bounds.now.task.now
             entries dues.items)) }
         ensures none { (entries : List AnyEntry) → StandsBehind (limits_by bounds.now)
-            bounds.now.task.now entries self.now.ledger self.now.course → IfOk result
+            bounds.now.task.now entries self.now.knowledge self.now.course → IfOk result
             (λ found. IfNone found
             (¬ (MayBegin (limits_by bounds.now) bounds.now.task.now entries))) }
     {
-        if self.ledger.asked.len() >= bounds.calls as usize {
+        if self.knowledge.asked.len() >= bounds.calls as usize {
             return Ok(None);
         }
-        match dues_of(bounds.task, &self.ledger)? {
+        match dues_of(bounds.task, &self.knowledge)? {
             Some(dues) if !dues.as_slice().is_empty() => Ok(Some(dues)),
             _ => Ok(None),
         }
@@ -50,9 +50,9 @@ impl Standing {
     pub(crate) fn may_dream(&self, bounds: &Bounds<'_>) -> Result<bool, AllocError>
         requires bounds { AreBounds bounds.now }
         requires standing { (entries : List AnyEntry) × StandsBehind (limits_by bounds.now)
-            bounds.now.task.now entries self.now.ledger self.now.course }
+            bounds.now.task.now entries self.now.knowledge self.now.course }
         ensures { (entries : List AnyEntry) → StandsBehind (limits_by bounds.now)
-            bounds.now.task.now entries self.now.ledger self.now.course → IfOk result
+            bounds.now.task.now entries self.now.knowledge self.now.course → IfOk result
             (λ yes. IsTrue yes ↔ BeginsTurn (limits_by bounds.now) bounds.now.task.now entries) }
     {
         if bounds.mode == Mode::Incremental || !self.course.is_between() {

@@ -30,7 +30,7 @@ impl Standing {
         let Some(dues) = self.turn_dues(bounds)? else {
             return Ok(Finding::Breaks(0, BreachKind::Order));
         };
-        let before = self.ledger.asked.len() as u32;
+        let before = self.knowledge.asked.len() as u32;
         self.course
             .begin_level(bounds.pools, dues, before, bounds.calls);
         Ok(Finding::Holds)
@@ -53,7 +53,7 @@ impl Standing {
         let is_true = judge_none(
             bounds.alloc,
             bounds.task,
-            &self.ledger,
+            &self.knowledge,
             self.course.tried(),
             bounds.depth,
             bounds.states,

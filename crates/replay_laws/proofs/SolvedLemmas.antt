@@ -1,20 +1,20 @@
 -- What the program writes of a run with an outcome, it finds valid where it judges it.
 use Rattle.std.proofs.Common.{◌≡◌, ◌⊎◌, ℕ, ◌<◌, ◌≤◌, ◌^◌, Bool, false, true, List, length, refl, sym, subst, ap, ◌∙◌, arith, Option, Some, inl, inr}
 use Rattle.io_world.specs.FileMap.{FileMap}
-use Rattle.level_run.specs.Reports.{whole_text}
+use Rattle.turn_run.specs.Reports.{whole_text}
 use Rattle.command_line.proofs.RangesLemmas.{in_range}
 use Rattle.command_line.specs.Ranges.{AreInRange}
 use Rattle.command_line.specs.Words.{ReplayWords, SolveWords, TaskFiles, command_of, replay, solve}
 use Rattle.run_command.proofs.HeadsLemmas.{head_runs}
-use Rattle.level_run.proofs.ReportsLemmas.{whole_is}
-use Rattle.level_run.specs.Turns.{IsSure}
+use Rattle.turn_run.proofs.ReportsLemmas.{whole_is}
+use Rattle.turn_run.specs.Turns.{IsSure}
 use Rattle.optimal_check.specs.Verdicts.{IsOutcomeSaid}
 use Rattle.pddlstream_app.specs.AnswerOf.{HasAnswer, IsVerdictFor}
 use Rattle.command_files.specs.Files.{FileHolds}
 use Rattle.run_command.specs.Heads.{IsHeadOf}
 use Rattle.command_files.specs.Inputs.{IsTaskOf}
 use Rattle.pddlstream_app.specs.Replays.{kind_of_verdict, verdict_text}
-use Rattle.level_run.specs.Reports.{report_of}
+use Rattle.turn_run.specs.Reports.{report_of}
 use Rattle.command_files.specs.Outside.{Outside}
 use Rattle.run_command.specs.Runs.{HasOutcome, ProgramRun, shown_text}
 use Rattle.command_files.specs.declared.status.Status.{Status}

@@ -33,7 +33,7 @@ use Rattle.transcript_model.specs.declared.outcome.Outcome.{Outcome}
 use Rattle.replay_laws.proofs.PoolSumLemmas.{together}
 use Rattle.run_laws.proofs.StreamNameLemmas.{stream_found}
 use Rattle.run_laws.specs.Reports.{IsHeadOfReports}
-use Rattle.level_run.specs.Reports.{report_of}
+use Rattle.turn_run.specs.Reports.{report_of}
 
 -- the streams are the task's
 abbrev AreStreams : Task → List ℕ → Type 0

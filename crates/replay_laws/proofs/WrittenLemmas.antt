@@ -1,7 +1,7 @@
 -- The report that a run writes is right, and its claim is decided.
 use Rattle.std.proofs.Common.{◌≡◌, ℕ, ◌<◌, ◌≤◌, ◌^◌, inl, inr, List, length, refl, sym, subst, arith}
-use Rattle.level_run.specs.Reports.{IsRun, whole_text}
-use Rattle.level_run.specs.Turns.{IsSure}
+use Rattle.turn_run.specs.Reports.{IsRun, whole_text}
+use Rattle.turn_run.specs.Turns.{IsSure}
 use Rattle.report_text.specs.Forms.{IsFormed}
 use Rattle.replay_check.proofs.OneVerdictLemmas.{right_valid}
 use Rattle.replay_check.specs.Heads.{reported_limits}
@@ -25,8 +25,8 @@ use Rattle.replay_laws.proofs.WrittenHeadLemmas.{head_fits, limits_same}
 use Rattle.run_laws.proofs.FormedReportLemmas.{formed}
 use Rattle.run_laws.proofs.ShortTextLemmas.{short_counted}
 use Rattle.run_laws.specs.Reports.{IsHeadOfReports}
-use Rattle.level_run.proofs.ReportsLemmas.{whole_is}
-use Rattle.level_run.specs.Reports.{report_of}
+use Rattle.turn_run.proofs.ReportsLemmas.{whole_is}
+use Rattle.turn_run.specs.Reports.{report_of}
 
 -- ---- what is decided
 

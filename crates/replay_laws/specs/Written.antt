@@ -1,7 +1,7 @@
 -- What a run writes is valid, in each mode that is replayed. Each law is the contract of a public function of `lib.rt`,
 -- and so is proved.
 use Rattle.std.specs.Prelude.{◌≡◌, ◌⊎◌, ℕ, ◌^◌, ◌<◌, ◌≤◌, List, [], ◌∷◌, length}
-use Rattle.level_run.specs.Reports.{IsRun, whole_text}
+use Rattle.turn_run.specs.Reports.{IsRun, whole_text}
 use Rattle.replay_check.specs.Verdicts.{IsVerdict}
 use Rattle.replay_check.specs.declared.verdict.Verdict.{Verdict}
 use Rattle.replay_check.specs.declared.verdict.Verdict.TheVariants.{Valid}

@@ -5,7 +5,7 @@ use Rattle.command_line.specs.Words.{SolveWords}
 use Rattle.grid_text.specs.Tasks.{grid_task}
 use Rattle.io_world.specs.FileMap.{StoredFile, map_or_empty}
 use Rattle.io_world.specs.Talks.{Event, Talk}
-use Rattle.level_run.specs.declared.mode_run.Ran.{Ran}
+use Rattle.turn_run.specs.declared.whole_run.Ran.{Ran}
 use Rattle.command_files.specs.Outside.{FilesSeen, Outside, Written, unread}
 use Rattle.command_files.specs.declared.stop.Stop.{Stop}
 use Rattle.run_command.specs.Making.{IsLined, MakesRun}

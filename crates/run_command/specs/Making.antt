@@ -1,7 +1,7 @@
 -- What is done to solve the task of a number: it is made, solved over a sink that keeps nothing, and told in one line.
 use Rattle.std.specs.Prelude.{◌≡◌, ◌⊎◌, ℕ, ◌<◌, List, [], length, take, Result, Ok, Err}
 use Rattle.std.specs.Io.KnownBytes.{Appends}
-use Rattle.level_run.specs.declared.mode_run.Ran.{Ran}
+use Rattle.turn_run.specs.declared.whole_run.Ran.{Ran}
 use Rattle.round_run.specs.Calls.{LogStops}
 use Rattle.round_run.specs.declared.fault.RunFault.TheVariants as fault
 use Rattle.command_files.specs.Outside.{Outside, Written}

@@ -5,11 +5,11 @@ use Rattle.gen_lines.specs.declared.answer.Why.{Why}
 use Rattle.round_run.specs.Breaking.{LogBroken}
 use Rattle.round_run.specs.Calls.{LogRan, LogStops}
 use Rattle.round_run.specs.Dialogue.{BrokenOff, Dialogue, HasBadLine, workers_in}
-use Rattle.level_run.specs.Reports as reports
-use Rattle.level_run.specs.Reports.{text_so_far, report_of}
+use Rattle.turn_run.specs.Reports as reports
+use Rattle.turn_run.specs.Reports.{text_so_far, report_of}
 use Rattle.round_run.specs.Rolling.{Blames}
 use Rattle.round_run.specs.TurnLines.{HasTurnLine}
-use Rattle.level_run.specs.Turns.{IsFrontOfRun}
+use Rattle.turn_run.specs.Turns.{IsFrontOfRun}
 use Rattle.table_runs.specs.Tabled.{IsTabled}
 use Rattle.task_model.specs.Fit.{IsFit}
 use Rattle.task_model.specs.declared.task.Task.{Task}

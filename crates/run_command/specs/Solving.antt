@@ -3,9 +3,9 @@ use Rattle.std.specs.Prelude.{◌≡◌, ◌⊎◌, Option, Err, Ok, Result, ⊤
 use Rattle.command_line.specs.Words.{SolveWords, solve}
 use Rattle.io_world.specs.FileMap.{FileMap}
 use Rattle.round_run.specs.Calls.{LogStops}
-use Rattle.level_run.specs.Reports.{IsBroken, IsReported}
+use Rattle.turn_run.specs.Reports.{IsBroken, IsReported}
 use Rattle.round_run.specs.declared.fault.RunFault.{RunFault}
-use Rattle.level_run.specs.declared.mode_run.Ran.{Ran}
+use Rattle.turn_run.specs.declared.whole_run.Ran.{Ran}
 use Rattle.task_model.specs.Fit.{IsFit}
 use Rattle.task_model.specs.declared.task.Task.{Task}
 use Rattle.transcript_model.specs.declared.head.Head.{Head}

@@ -18,7 +18,7 @@ use command_files::{Status, Stop};
 use command_line::{DEFAULT_CALLS, DEFAULT_DEPTH, DEFAULT_STATES, SolveConfig};
 use grid_text::grid_task;
 use io_world::{Host, Sink, SureFiles, SureSink, write_all};
-use level_run::{Ran, RunFault};
+use mode_run::{Ran, RunFault};
 use std::alloc::{AllocError, Global};
 use task_model::Seq;
 use transcript_model::{LimitKind, Mode, Outcome};

@@ -1,11 +1,9 @@
 //! The run of a mode.
-ghost use Rattle.level_run.specs.Reporting.{EndsRun, MayRun};
+ghost use Rattle.turn_run.specs.Reporting.{EndsRun, MayRun};
 ghost use Rattle.round_run.specs.Told.{stretch};
 
-use binding_run::{adaptive, binding};
-use focused_run::focused;
 use io_world::{Host, Sink};
-use level_run::{Ran, RunFault, incremental};
+use mode_run::{Ran, RunFault, adaptive, binding, focused, incremental};
 use std::alloc::Global;
 use task_model::Task;
 use transcript_model::{Head, Mode};

@@ -15,7 +15,7 @@ use crate::modes::run_in_mode;
 use command_files::{Status, Stop, TaskPaths, meant_pools, place_grid, read_task};
 use command_line::SolveConfig;
 use io_world::{Files, Host, Sink};
-use level_run::Ran;
+use mode_run::Ran;
 use std::alloc::Global;
 use transcript_model::Outcome;
 

@@ -7,7 +7,7 @@ use Rattle.std.specs.List.{list_any, position}
 use Rattle.std.specs.Option.{option_map}
 use Rattle.std.proofs.lemmas.Bool.{true≢false}
 use Rattle.gen_lines.specs.Reply.{is_value}
-use Rattle.level_run.specs.Turns.{HasFewSteps, IsCostInRange}
+use Rattle.turn_run.specs.Turns.{HasFewSteps, IsCostInRange}
 use Rattle.shown_plan.proofs.ShownLemmas.{valid_named}
 use Rattle.task_model.proofs.KnownLemmas.{numbers_decided}
 use Rattle.lemmas.proofs.Members.{member_at, place_of}

@@ -2,7 +2,7 @@
 use Rattle.std.proofs.Common.{◌≡◌, ℕ, zero, suc, ◌<◌, ◌≤◌, ◌⊎◌, inl, inr, List, [], length, take, All, refl, sym, ◌∙◌, Some, slice_get, arith, ap}
 use Rattle.std.proofs.lemmas.List.{length-map}
 use Rattle.std.proofs.lemmas.List.Elements.{All-contains, All-map, All-weaker}
-use Rattle.level_run.specs.Reports.{IsRun, report_of}
+use Rattle.turn_run.specs.Reports.{IsRun, report_of}
 use Rattle.mode_turns.proofs.CountsLemmas.{turn_keeps, turns_keep}
 use Rattle.mode_turns.proofs.ModesLemmas.{as_family}
 use Rattle.mode_turns.specs.Modes.{TurnOf, nothing_kept}
@@ -29,8 +29,8 @@ use Rattle.run_laws.proofs.TurnMarkLemmas.{AreRight, IsRightMark, turns_right}
 use Rattle.run_laws.specs.Reports.{HasCountedSteps, IsHeadOfReports, TextsNameRuns}
 use Rattle.run_laws.proofs.SkeletonLemmas.{none_carried}
 use Rattle.transcript_model.proofs.LegalPrefixLemmas.{legal_take}
-use Rattle.level_run.proofs.ReportsLemmas.{whole_is}
-use Rattle.level_run.proofs.TabledLemmas.{resting}
+use Rattle.turn_run.proofs.ReportsLemmas.{whole_is}
+use Rattle.turn_run.proofs.TabledLemmas.{resting}
 use Rattle.report_text.proofs.LineTextLemmas.{lines_read, read_lines}
 use Rattle.report_text.proofs.FormsLemmas.{report_clear, report_lines, report_text}
 use Rattle.report_text.proofs.ReportsReadBack.{lines_determine}

@@ -5,7 +5,7 @@ use Rattle.std.proofs.lemmas.List.{length-append}
 use Rattle.std.proofs.lemmas.Option.{same_Some}
 use Rattle.std.specs.Fmt.{decimal}
 use Rattle.std.specs.List.{flat_map}
-use Rattle.level_run.specs.Reports.{text_of_end, text_so_far}
+use Rattle.turn_run.specs.Reports.{text_of_end, text_so_far}
 use Rattle.report_text.specs.Texts.{fields_text, line, line_text, lines_text, step_line, text_of_entry, text_of_head, use_line}
 use Rattle.run_laws.specs.Reports.{ShortReportsCountSteps}
 use Rattle.transcript_model.specs.declared.entry.Call.{Call}

@@ -2,7 +2,7 @@
 use Rattle.std.specs.Prelude.{◌≡◌, ℕ, ◌^◌, ◌<◌, ◌≤◌, List, length, All, Some, slice_get}
 use Rattle.std.specs.List.{flat_map}
 use Rattle.lemmas.specs.Lists.{AreDistinct}
-use Rattle.level_run.specs.Reports.{IsRun, report_of, whole_text}
+use Rattle.turn_run.specs.Reports.{IsRun, report_of, whole_text}
 use Rattle.report_text.specs.Forms.{IsFormed, IsNumber}
 use Rattle.round_run.specs.Batches.{IsRunnable}
 use Rattle.task_model.specs.Fit.{IsFit}

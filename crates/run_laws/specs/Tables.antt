@@ -1,7 +1,7 @@
 -- Runs whose generators answer by a table. Each law is the contract of a public function of `laws.rt`, and so is proved.
 use Rattle.std.specs.Prelude.{◌≡◌, ℕ, List, Option}
 use Rattle.io_world.specs.Talks.{Talk}
-use Rattle.level_run.specs.Reports.{IsRun}
+use Rattle.turn_run.specs.Reports.{IsRun}
 use Rattle.round_run.specs.Batches.{IsRunnable}
 use Rattle.round_run.specs.Dialogue.{Dialogue, workers_in}
 use Rattle.table_runs.specs.Asking.{AnsweredBy, SpeaksBy}

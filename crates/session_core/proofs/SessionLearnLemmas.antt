@@ -10,9 +10,9 @@ use Rattle.learning.specs.Learning.{CanLearn}
 use Rattle.session_core.specs.Session.{IsSession, after_learn}
 use Rattle.session_core.specs.State.{State, with_learnt}
 
--- the state with what another ledger keeps, of so many entries
-abbrev pub ledger_becomes : State → List Instance → Known → List Note → ℕ → Bool → State
-ledger_becomes s asked known notes learnt failed =
+-- the state with what another knowledge keeps, of so many entries
+abbrev pub knowledge_becomes : State → List Instance → Known → List Note → ℕ → Bool → State
+knowledge_becomes s asked known notes learnt failed =
     record s { asked = asked; known = known; notes = notes; learnt = learnt; failed = failed }
 
 learnt_kept : (task : Task) (s : State) (known : Known) (notes : List Note) (learnt : ℕ) (failed : Bool)

@@ -1,8 +1,8 @@
 -- The session in which nothing was asked.
 use Rattle.std.proofs.Common.{◌≡◌, ℕ, ◌+◌, ◌≤◌, true, false, List, [], length, map, take, refl, sym, ap, ◌∙◌, subst, arith, count_by, slice_get}
 use Rattle.learning.specs.Learning.{Asks}
-use Rattle.learning.specs.Ledgers.{IsLedger}
-use Rattle.learning.specs.declared.ledger.Ledger.{Ledger}
+use Rattle.learning.specs.Knowledge.{IsKnowledge}
+use Rattle.learning.specs.declared.knowledge.Knowledge.{Knowledge}
 use Rattle.lemmas.proofs.Members.{distinct_nil}
 use Rattle.lemmas.specs.Lists.{AreDistinct}
 use Rattle.pools.specs.Pools.{AreFitPools}
@@ -14,8 +14,8 @@ use Rattle.session_core.specs.Session.{IsFitHead, IsOf, IsSession}
 use Rattle.session_core.specs.Slots.{Slot}
 use Rattle.session_core.specs.State.{State, IsSound}
 
--- Of a fit head, over the ledger of no entry, with no round open.
-pub new_session : (task : Task) (head : Head) (s : State) (l : Ledger) → IsLedger s.version task [] l
+-- Of a fit head, over the knowledge of no entry, with no round open.
+pub new_session : (task : Task) (head : Head) (s : State) (l : Knowledge) → IsKnowledge s.version task [] l
     → IsFitHead task head
     → IsOf head s → s.entries ≡ [] → s.asked ≡ l.asked.items
     → s.learnt ≡ 0 → s.known ≡ l.facts.known → s.notes ≡ l.queue → s.is_open ≡ false → IsSession task s

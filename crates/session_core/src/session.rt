@@ -3,7 +3,7 @@ use crate::fault::{CoreFault, Heard};
 use crate::round::{Round, Scene, are_answered, cell_of, place_of, put_answers, round_of};
 use fact_store::Facts;
 use instance_queue::{Due, Queue, QueueFault};
-use learning::Ledger;
+use learning::Knowledge;
 use pools::{Workers, longest_front, workers_in};
 use std::alloc::{AllocError, Global};
 use std::marker::Model;
@@ -25,7 +25,7 @@ pub struct Session {
     entries: Vec<Entry>,
     /// What is known and noted is of the learnt front. A round's requests and answers come into the
     /// transcript together, so that none is unanswered.
-    ledger: Ledger,
+    knowledge: Knowledge,
     learnt: usize,
     is_open: bool,
     round: Round,
@@ -45,7 +45,7 @@ impl Model for Session {
     ghost view = { shown_session };
 
     ghost invariant = { λ s. IsSound (shown_session s) (vec_capacity s.entries)
-        (vec_capacity s.ledger.asked) };
+        (vec_capacity s.knowledge.asked) };
 }
 
 impl Session {
@@ -76,13 +76,13 @@ impl Session {
         ensures session { IfOk result (IsSession task.now) }
     {
         let pools = workers_in(alloc, head.pools.as_slice(), task.streams.len())?;
-        let ledger = Ledger::new(alloc, task)?;
+        let knowledge = Knowledge::new(alloc, task)?;
         Ok(Session {
             version: head.version,
             calls: head.calls,
             pools,
             entries: Vec::new(alloc),
-            ledger,
+            knowledge,
             learnt: 0,
             is_open: false,
             round: Round::empty(alloc),
@@ -103,7 +103,7 @@ impl Session {
             → IsLearnt self.now → AreReady task self.now.entries dues.now
             → MayBeginRound task self.now (take result dues.now) }
     {
-        let left = self.calls as usize - self.ledger.asked.len();
+        let left = self.calls as usize - self.knowledge.asked.len();
         let most = dues.len().min(left);
         longest_front(self.pools.as_slice(), &dues[..most])
     }
@@ -128,15 +128,15 @@ impl Session {
             return Err(CoreFault::Failed);
         }
         self.entries.reserve(2 * dues.len())?;
-        self.ledger.asked.reserve(dues.len())?;
+        self.knowledge.asked.reserve(dues.len())?;
         let scene = Scene {
             alloc: self.alloc,
             task,
-            facts: &self.ledger.facts,
+            facts: &self.knowledge.facts,
             pools: self.pools.as_slice(),
             version: self.version,
         };
-        let round = round_of(&scene, self.ledger.asked.len() as u32 + 1, dues)?;
+        let round = round_of(&scene, self.knowledge.asked.len() as u32 + 1, dues)?;
         self.round = round;
         self.is_open = true;
         Ok(dues.len())
@@ -275,7 +275,7 @@ impl Session {
             cells,
         } = round;
         let _ = self.entries.append(&mut asks);
-        let _ = self.ledger.asked.append(&mut instances);
+        let _ = self.knowledge.asked.append(&mut instances);
         put_answers(&mut self.entries, cells);
         self.is_open = false;
     }
@@ -302,7 +302,7 @@ impl Session {
             return Err(CoreFault::Failed);
         }
         let entries = self.entries.as_slice();
-        let learnt = self.ledger.learn(self.alloc, task, entries, self.learnt);
+        let learnt = self.knowledge.learn(self.alloc, task, entries, self.learnt);
         match learnt {
             Ok(()) => {
                 self.learnt = self.entries.len();
@@ -349,7 +349,7 @@ impl Session {
             (level.HasLevelCause task.now (known_of task.now self.now.entries)
             (notes_of task.now self.now.entries)) }
     {
-        self.ledger.queue.next_level(task, &self.ledger.facts)
+        self.knowledge.queue.next_level(task, &self.knowledge.facts)
     }
 
     /// The transcript.
@@ -363,21 +363,21 @@ impl Session {
     pub fn facts(&self) -> &Facts
         ensures { result.now.known ≡ self.now.known }
     {
-        &self.ledger.facts
+        &self.knowledge.facts
     }
 
     /// What the instances were told.
     pub fn queue(&self) -> &Queue
         ensures { result.now ≡ self.now.notes }
     {
-        &self.ledger.queue
+        &self.knowledge.queue
     }
 
     /// How many requests were made, those of the open round left out.
     pub fn asks(&self) -> u32
         ensures { result ≡ length self.now.asked }
     {
-        self.ledger.asked.len() as u32
+        self.knowledge.asked.len() as u32
     }
 
     /// Whether a line was no answer or too long, or a `learn` found no memory.

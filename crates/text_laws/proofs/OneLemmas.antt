@@ -3,7 +3,7 @@ use Rattle.std.proofs.Common.{◌≡◌, ℕ, List, Some, sym, ap, subst, ◌∙
 use Rattle.command_line.proofs.RangesLemmas.{in_range}
 use Rattle.command_line.specs.Words.{SolveWords, command_of, solve}
 use Rattle.grid_laws.proofs.ProgramLemmas.{program_runs}
-use Rattle.level_run.specs.Reports.{report_of}
+use Rattle.turn_run.specs.Reports.{report_of}
 use Rattle.run_command.specs.Heads.{IsHeadOf}
 use Rattle.command_files.specs.Outside.{Outside}
 use Rattle.run_command.specs.Runs.{HasOutcome, shown_text}

@@ -7,8 +7,8 @@ use Rattle.lemmas.proofs.Pigeonhole.{pigeons}
 use Rattle.level_course.proofs.CoursesStepLemmas.{LeadsTo, turns_lead}
 use Rattle.level_course.specs.Courses.{Course, course_at_first}
 use Rattle.level_course.specs.Laws.{IsAt}
-use Rattle.level_run.proofs.TabledLemmas.{resting}
-use Rattle.level_run.specs.Turns.{IsSure}
+use Rattle.turn_run.proofs.TabledLemmas.{resting}
+use Rattle.turn_run.specs.Turns.{IsSure}
 use Rattle.mode_turns.specs.Lazy.{IsTurnNeeded, begins}
 use Rattle.plain_runs.proofs.OneLemmas.{as_one}
 use Rattle.plain_runs.proofs.OwnLemmas.{own_agrees}

@@ -2,8 +2,8 @@
 use Rattle.std.proofs.Common.{◌≡◌, ℕ, ◌≤◌, List, length, Some, refl, sym, ap, subst, ◌∙◌}
 use Rattle.grid_laws.proofs.ProgramLemmas.{program_runs}
 use Rattle.io_world.specs.Talks.{Talk}
-use Rattle.level_run.specs.Reports.{IsRun}
-use Rattle.level_run.specs.Turns.{HasFewSteps, IsPast}
+use Rattle.turn_run.specs.Reports.{IsRun}
+use Rattle.turn_run.specs.Turns.{HasFewSteps, IsPast}
 use Rattle.mode_turns.specs.Lazy.{IsLazy, IsLazyEnd}
 use Rattle.command_files.specs.Outside.{Outside}
 use Rattle.run_command.specs.Runs.{HasOutcome}

@@ -2,7 +2,7 @@
 use Rattle.std.specs.Prelude.{◌≡◌, ℕ, ◌<◌, List, [], ◌∷◌, Option, Some}
 use Rattle.command_line.specs.Words.{command_of, generate}
 use Rattle.io_world.specs.Talks.{Talk}
-use Rattle.level_run.specs.Reports.{IsRun}
+use Rattle.turn_run.specs.Reports.{IsRun}
 use Rattle.command_files.specs.Outside.{Outside}
 use Rattle.run_command.specs.Runs.{HasOutcome}
 use Rattle.command_files.specs.declared.status.Status.{Status}

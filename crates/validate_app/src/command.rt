@@ -41,8 +41,8 @@ fn judge_files<F: Files>(
         Ok(task) => task,
         Err(stop) => return Err(stop),
     };
-    let ledger = match read_report(alloc, files, paths, &task) {
-        Ok(ledger) => ledger,
+    let knowledge = match read_report(alloc, files, paths, &task) {
+        Ok(knowledge) => knowledge,
         Err(stop) => return Err(stop),
     };
     let plan = match read_plan(alloc, files, paths) {
@@ -52,7 +52,7 @@ fn judge_files<F: Files>(
     let scene = Scene {
         alloc,
         task: &task,
-        facts: &ledger.facts,
+        facts: &knowledge.facts,
     };
     match scene.judge(plan.calls.as_slice()) {
         Ok(verdict) => Ok(JudgedPlan {

@@ -9,7 +9,7 @@ use crate::stop::{FileRole, Stop, boxed};
 use crate::texts::read_file;
 use crate::words::{Paths, ReportPaths};
 use io_world::Files;
-use learning::Ledger;
+use learning::Knowledge;
 use legal_report::{Certified, certify};
 use std::alloc::Global;
 use task_model::Task;
@@ -21,12 +21,12 @@ fn read_named_report<F: Files>(
     paths: &Paths<'_>,
     report: &ReportPaths<'_>,
     task: &Task,
-) -> Result<Box<Ledger>, Stop>
+) -> Result<Box<Knowledge>, Stop>
     requires named { (held_paths paths.now).certified ≡ Some (held_report report.now) }
     requires fit { IsFit task.now }
     requires task { IsPlainTaskOf (F.told files.old) (held_paths paths.now) task.now }
-    ensures known { IfOk result (λ ledger. IsCertain (F.told files.old) (held_paths paths.now)
-        task.now ledger.value.facts.known) }
+    ensures known { IfOk result (λ knowledge. IsCertain (F.told files.old) (held_paths paths.now)
+        task.now knowledge.value.facts.known) }
     ensures stop { IfErr result (StopsAtText (texts_seen_of F.told F.faults files.old files.new)
         (held_paths paths.now)) }
     ensures same { F.told files.new ≡ F.told files.old }
@@ -37,7 +37,7 @@ fn read_named_report<F: Files>(
         Err(stop) => return Err(stop),
     };
     match certify(alloc, task, bytes.as_slice()) {
-        Ok(Certified::Legal(ledger)) => boxed(alloc, ledger),
+        Ok(Certified::Legal(knowledge)) => boxed(alloc, knowledge),
         Ok(Certified::Flawed(line, flaw)) => Err(Stop::Flawed { line, flaw }),
         Err(_) => Err(Stop::Memory),
     }
@@ -49,11 +49,11 @@ pub(crate) fn read_report<F: Files>(
     files: &mut F,
     paths: &Paths<'_>,
     task: &Task,
-) -> Result<Box<Ledger>, Stop>
+) -> Result<Box<Knowledge>, Stop>
     requires fit { IsFit task.now }
     requires task { IsPlainTaskOf (F.told files.old) (held_paths paths.now) task.now }
-    ensures known { IfOk result (λ ledger. IsCertain (F.told files.old) (held_paths paths.now)
-        task.now ledger.value.facts.known) }
+    ensures known { IfOk result (λ knowledge. IsCertain (F.told files.old) (held_paths paths.now)
+        task.now knowledge.value.facts.known) }
     ensures stop { IfErr result (StopsAtText (texts_seen_of F.told F.faults files.old files.new)
         (held_paths paths.now)) }
     ensures same { F.told files.new ≡ F.told files.old }
@@ -61,8 +61,8 @@ pub(crate) fn read_report<F: Files>(
 {
     match &paths.certified {
         Some(report) => read_named_report(alloc, files, paths, report, task),
-        None => match Ledger::new(alloc, task) {
-            Ok(ledger) => boxed(alloc, ledger),
+        None => match Knowledge::new(alloc, task) {
+            Ok(knowledge) => boxed(alloc, knowledge),
             Err(_) => Err(Stop::Memory),
         },
     }

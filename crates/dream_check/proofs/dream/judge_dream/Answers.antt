@@ -6,44 +6,44 @@ use Rattle.optimistic_set.specs.Faults.{HasListCause}
 use Rattle.optimistic_set.specs.declared.fault.OptimisticFault.{OptimisticFault}
 use Rattle.task_model.specs.Known.{Known}
 use Rattle.transcript_model.proofs.CoherentLemmas.{coherent}
-use Rattle.dream_check.proofs.AfterLedgerLemmas.{more_after, supposed_after}
+use Rattle.dream_check.proofs.AfterKnowledgeLemmas.{more_after, supposed_after}
 use Rattle.dream_check.proofs.LinesLemmas.{dream_judged, too_many_used}
 use Rattle.dream_check.specs.Judged.{IsDreamJudged}
 use Rattle.dream_check.specs.Listed.{IsJudgedOver}
 use Rattle.dream_check.proofs.dream.judge_dream.Goals as goal
 
 pub optimistic-requires-clause-fit : goal.optimistic-requires-clause-fit
-optimistic-requires-clause-fit c = c.requires.ledger.2.fit
+optimistic-requires-clause-fit c = c.requires.knowledge.2.fit
 
 pub optimistic-requires-clause-declared : goal.optimistic-requires-clause-declared
 optimistic-requires-clause-declared c =
     let task = c.args.task.now in
-    subst (λ (k : Known). length task.problem.objects ≤ length k.names) (sym c.requires.ledger.2.known)
-    (names_enough task c.requires.ledger.1)
+    subst (λ (k : Known). length task.problem.objects ≤ length k.names) (sym c.requires.knowledge.2.known)
+    (names_enough task c.requires.knowledge.1)
 
 pub optimistic-requires-clause-names : goal.optimistic-requires-clause-names
 optimistic-requires-clause-names c =
     let task = c.args.task.now in
-    subst (λ (k : Known). AreReal k.names) (sym c.requires.ledger.2.known)
-    (names_real task c.requires.ledger.2.fit c.requires.ledger.1)
+    subst (λ (k : Known). AreReal k.names) (sym c.requires.knowledge.2.known)
+    (names_real task c.requires.knowledge.2.fit c.requires.knowledge.1)
 
 pub judge_over-requires : goal.judge_over-requires
 judge_over-requires c = record {
-  listed = listed c.args.task.now c.args.ledger.now.facts.known c.args.ledger.now.queue c.args.tried.now c.from-depth.result
+  listed = listed c.args.task.now c.args.knowledge.now.facts.known c.args.knowledge.now.queue c.args.tried.now c.from-depth.result
       c.in-Ok.supposed c.in-Ok.ensures.base c.in-Ok.ensures.list c.in-Ok.ensures.known c.in-Ok.ensures.plain;
 }
 
 pub returns-in-Ok : goal.returns-in-Ok
 returns-in-Ok c = λ limits before deep h.
     let task = c.args.task.now in
-    let ledger = c.args.ledger.now in
+    let knowledge = c.args.knowledge.now in
     let tried = c.args.tried.now in
     let d = c.in-Ok.supposed in
     let all =
-    listed task ledger.facts.known ledger.queue tried c.from-depth.result d c.in-Ok.ensures.base c.in-Ok.ensures.list c.in-Ok.ensures.known
+    listed task knowledge.facts.known knowledge.queue tried c.from-depth.result d c.in-Ok.ensures.base c.in-Ok.ensures.list c.in-Ok.ensures.known
     c.in-Ok.ensures.plain in
     let so =
-    supposed_after limits task before tried ledger h c.from-depth.result (deep ∙ sym c.from-depth.ensures) d.list c.in-Ok.ensures.list in
+    supposed_after limits task before tried knowledge h c.from-depth.result (deep ∙ sym c.from-depth.ensures) d.list c.in-Ok.ensures.list in
     IfOk-weaker c.judge_over.result (IsJudgedOver task d c.args.uses.now c.args.steps.now)
     (IsDreamJudged limits task before tried c.args.uses.now c.args.steps.now)
     (λ x said. dream_judged limits task before tried d all (c.in-Ok.ensures.base ∙ h.known) so
@@ -52,9 +52,9 @@ returns-in-Ok c = λ limits before deep h.
 pub returns-in-Err-TooManyEntries : goal.returns-in-Err-TooManyEntries
 returns-in-Err-TooManyEntries c = λ limits before deep h.
     let task = c.args.task.now in
-    let ledger = c.args.ledger.now in
+    let knowledge = c.args.knowledge.now in
     let tried = c.args.tried.now in
     too_many_used limits task before tried c.args.uses.now c.args.steps.now
-    (more_after limits task before tried ledger h c.from-depth.result (deep ∙ sym c.from-depth.ensures)
-    (subst (λ (f : OptimisticFault). HasListCause task ledger.facts.known ledger.queue tried c.from-depth.result f)
+    (more_after limits task before tried knowledge h c.from-depth.result (deep ∙ sym c.from-depth.ensures)
+    (subst (λ (f : OptimisticFault). HasListCause task knowledge.facts.known knowledge.queue tried c.from-depth.result f)
     c.in-Err-TooManyEntries.field-0-is c.in-Err-TooManyEntries.ensures.fault)) c.requires.some

@@ -1,6 +1,6 @@
 use Rattle.std.proofs.Common.{◌∙◌, List, ap, arith, length, refl, subst, sym}
 use Rattle.std.proofs.lemmas.Option.{slice_get_within}
-use Rattle.learning.specs.declared.ledger.Ledger.{Ledger}
+use Rattle.learning.specs.declared.knowledge.Knowledge.{Knowledge}
 use Rattle.transcript_model.specs.declared.entry.Entry.{Entry}
 use Rattle.legal_report.proofs.ReportsLemmas.{walk_ends}
 use Rattle.legal_report.specs.Reports.{IsCertifiedReport}
@@ -12,8 +12,8 @@ use Rattle.legal_report.proofs.report.certify_report.Goals as goal
 pub walk-requires-clause-stands : goal.walk-requires-clause-stands
 walk-requires-clause-stands c =
     let counted = (c.in_ok-new.ensures 1).counted in
-    subst (StandsAtEntry _ 0) (sym (c.deref_mut.ensures.value ∙ c.in_ok-ledger.ensures.ok))
-    (record { ledger = c.in_ok-new.ensures c.args.report.now.version; few = omega (arith, counted) })
+    subst (StandsAtEntry _ 0) (sym (c.deref_mut.ensures.value ∙ c.in_ok-knowledge.ensures.ok))
+    (record { knowledge = c.in_ok-new.ensures c.args.report.now.version; few = omega (arith, counted) })
 
 pub line_of-requires-clause-within : goal.line_of-requires-clause-within
 line_of-requires-clause-within c =
@@ -28,5 +28,5 @@ returns-in-Ends c =
     let w : Walk =
     record { alloc = c.args.alloc; task = c.args.task; version = r.version; entries = c.as_slice.result } in
     let stands = subst (IsWalkDone _ _) c.in-Ends.is c.in_ok-walk.ensures in
-    subst (λ (l : Ledger). IsCertifiedReport c.args.task.now r (Legal l)) (sym c.into_inner.ensures)
-    (walk_ends w r refl c.as_slice.ensures c.walk.new.ledger (record { ledger = stands.ledger; few = stands.few }))
+    subst (λ (l : Knowledge). IsCertifiedReport c.args.task.now r (Legal l)) (sym c.into_inner.ensures)
+    (walk_ends w r refl c.as_slice.ensures c.walk.new.knowledge (record { knowledge = stands.knowledge; few = stands.few }))

@@ -7,7 +7,7 @@ use Rattle.legal_report.proofs.TalksAskLemmas.{passes, must_pass}
 use Rattle.legal_report.proofs.right_asks.asked_by.Goals as goal
 
 pub instance_of-requires-clause-distinct : goal.instance_of-requires-clause-distinct
-instance_of-requires-clause-distinct c = c.args.ledger.now.facts.coherent.names
+instance_of-requires-clause-distinct c = c.args.knowledge.now.facts.coherent.names
 
 pub returns-then-may_ask : goal.returns-then-may_ask
 returns-then-may_ask c = λ version before h.
@@ -15,7 +15,7 @@ returns-then-may_ask c = λ version before h.
     let i = c.in-Some.instance in
     let named : instance_of task (names_of task before) c.args.call.now ≡ Some i =
     ap (λ (k : Known). instance_of task k.names c.args.call.now) (sym h.known) ∙ sym c.in_ok-instance.ensures ∙ c.in-Some.is in (
-      passes version task before c.args.ledger.now h c.args.number c.args.turn c.args.call.now i named
+      passes version task before c.args.knowledge.now h c.args.number c.args.turn c.args.call.now i named
           (sym c.may_ask.ensures ∙ c.if-may_ask.true),
       c.if-number-calls.false,
       named,
@@ -28,4 +28,4 @@ returns-else-may_ask c = λ version before h right.
     let named : instance_of task (names_of task before) c.args.call.now ≡ Some i =
     ap (λ (k : Known). instance_of task k.names c.args.call.now) (sym h.known) ∙ sym c.in_ok-instance.ensures ∙ c.in-Some.is in
     false≢true (sym c.if-may_ask.false ∙ c.may_ask.ensures
-    ∙ must_pass version task before c.args.ledger.now h c.args.number c.args.turn c.args.call.now i named right.0)
+    ∙ must_pass version task before c.args.knowledge.now h c.args.number c.args.turn c.args.call.now i named right.0)

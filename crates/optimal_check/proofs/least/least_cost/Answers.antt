@@ -8,4 +8,4 @@ unreachable-requires c =
     let task = c.args.task.now in
     let r = c.args.report.now in
     unflawed task r c.requires.formed c.requires.sound c.in-Flawed.field-0 c.in-Flawed.field-1
-    (subst (IsCertifiedReport task r) c.in-Flawed.is c.in_ok-ledger.ensures)
+    (subst (IsCertifiedReport task r) c.in-Flawed.is c.in_ok-knowledge.ensures)

@@ -11,7 +11,7 @@ use Rattle.replay_check.proofs.claims.judge_calls.Goals as goal
 pub returns-then-len-bounds : goal.returns-then-len-bounds
 returns-then-len-bounds c = λ limit entries h.
     let b = c.args.bounds.now in
-    let l = c.args.ledger.now in
+    let l = c.args.knowledge.now in
     elim c.then-len-bounds.branch [
       | then-len-bounds-via-then-len-bounds w ↦
           other_calls b limit b.task.now entries l h (λ all. grind (arith, common_steps))
@@ -23,7 +23,7 @@ returns-then-len-bounds c = λ limit entries h.
 pub returns-in_default : goal.returns-in_default
 returns-in_default c = λ limit entries h.
     let b = c.args.bounds.now in
-    let l = c.args.ledger.now in
+    let l = c.args.knowledge.now in
     let all : length l.asked.items ≡ b.calls = grind (arith, common_steps) in
     let empty : length l.unanswered.items ≡ 0 = grind (arith, common_steps) in
     past_many b limit b.task.now entries l h all empty (rw c.in_default.is at c.in_ok-dues.ensures.none)
@@ -31,7 +31,7 @@ returns-in_default c = λ limit entries h.
 pub returns : goal.returns
 returns c = λ limit entries h.
     let b = c.args.bounds.now in
-    let l = c.args.ledger.now in
+    let l = c.args.knowledge.now in
     let all : length l.asked.items ≡ b.calls = grind (arith, common_steps) in
     let empty : length l.unanswered.items ≡ 0 = grind (arith, common_steps) in
     let dues = c.in-Some.dues.items in

@@ -17,14 +17,14 @@ returns-then-not-branch c = λ entries h closed.
 pub returns-in-None : goal.returns-in-None
 returns-in-None c = λ entries h closed.
     let b = c.args.bounds.now in
-    no_plan_open (limits_by b) b.limit b.task.now entries c.args.ledger.now h
+    no_plan_open (limits_by b) b.limit b.task.now entries c.args.knowledge.now h
     ((c.in_ok-is_nothing_due.ensures entries h).0 c.if-not-branch.false)
-    (subst (IsSolvableWithin b.task.now c.args.ledger.now.facts.known b.limit) c.in-None.is c.in_ok-is_solvable_within.ensures)
+    (subst (IsSolvableWithin b.task.now c.args.knowledge.now.facts.known b.limit) c.in-None.is c.in_ok-is_solvable_within.ensures)
 
 pub returns-in-Some : goal.returns-in-Some
 returns-in-Some c = λ entries h closed.
     let b = c.args.bounds.now in
     subst (IsJudged (limits_by b) b.limit b.task.now entries outcome.NoPlan) (sym c.decided.ensures)
-    (no_plan_said (limits_by b) b.limit b.task.now entries c.args.ledger.now h closed
+    (no_plan_said (limits_by b) b.limit b.task.now entries c.args.knowledge.now h closed
     ((c.in_ok-is_nothing_due.ensures entries h).0 c.if-not-branch.false) c.in-Some.solvable
-    (subst (IsSolvableWithin b.task.now c.args.ledger.now.facts.known b.limit) c.in-Some.is c.in_ok-is_solvable_within.ensures))
+    (subst (IsSolvableWithin b.task.now c.args.knowledge.now.facts.known b.limit) c.in-Some.is c.in_ok-is_solvable_within.ensures))

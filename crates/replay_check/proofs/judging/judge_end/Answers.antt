@@ -27,7 +27,7 @@ returns-in-Holds c =
       right_end b r c.requires.bounds c.requires.head c.requires.limits c.args.standing c.requires.standing
           (subst (λ (es : List Entry). IsRightFinding (limits_by b) b.limit b.task.now es r.outcome finding.Holds) c.as_slice-entries.ensures
           found),
-      c.requires.standing.stands.ledger.known,
+      c.requires.standing.stands.knowledge.known,
     )
 
 pub returns-in-Open : goal.returns-in-Open

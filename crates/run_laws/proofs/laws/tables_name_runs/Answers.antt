@@ -1,4 +1,4 @@
-use Rattle.level_run.proofs.TabledLemmas.{run_tabled}
+use Rattle.turn_run.proofs.TabledLemmas.{run_tabled}
 use Rattle.table_runs.proofs.TabledLemmas.{workers_matter_not}
 use Rattle.run_laws.proofs.laws.tables_name_runs.Goals as goal
 

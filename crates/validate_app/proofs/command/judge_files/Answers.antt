@@ -1,5 +1,5 @@
 use Rattle.std.proofs.Common.{◌∙◌, ap, sym, subst}
-use Rattle.learning.specs.declared.ledger.Ledger.{Ledger}
+use Rattle.learning.specs.declared.knowledge.Knowledge.{Knowledge}
 use Rattle.task_model.specs.Fit.{IsFit}
 use Rattle.task_model.specs.Known.{Known}
 use Rattle.task_model.specs.declared.task.Task.{Task}
@@ -46,13 +46,13 @@ judge-requires-clause-fit g c = subst IsFit (sym c.deref-2.ensures) c.in-Ok.ensu
 pub returns-in-Ok-judge-clause-said : goal.returns-in-Ok-judge-clause-said
 returns-in-Ok-judge-clause-said g c =
     let task = c.in-Ok.task.value in
-    let known = c.in-Ok-read_report.ledger.value.facts.known in
+    let known = c.in-Ok-read_report.knowledge.value.facts.known in
     let calls = c.as_slice.result.now in
     let verdict = c.in-Ok-judge.verdict in
     let certain = certain_kept _ (held_paths c.args.paths.now) _ _ known c.deref.ensures c.in-Ok-read_report.ensures.known in
     let said = subst (λ (t : Task). IsPlanVerdict t known calls verdict) c.deref-2.ensures
     (subst (λ (k : Known). IsPlanVerdict c.deref-2.result.now k calls verdict)
-    (ap (λ (l : Ledger). l.facts.known) c.deref-3.ensures) c.in-Ok-judge.ensures) in
+    (ap (λ (l : Knowledge). l.facts.known) c.deref-3.ensures) c.in-Ok-judge.ensures) in
     is_judged _ (held_paths c.args.paths.now) task c.in-Ok.ensures.task _ c.read_task.ensures.same known certain _
     (c.read_report.ensures.same ∙ c.read_task.ensures.same) c.in-Ok-read_plan.plan.calls.items
     c.in-Ok-read_plan.plan.claimed c.in-Ok-read_plan.ensures.plan calls c.as_slice.ensures.value verdict said

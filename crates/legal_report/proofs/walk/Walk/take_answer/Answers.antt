@@ -22,13 +22,13 @@ module _ (c : After-may_answer) where
   decides : IsTrue c.may_answer.result
       ↔ MayFollow c.args.self.now.version c.args.self.now.task.now (take c.args.place c.args.self.now.entries.now)
       e
-  decides = c.may_answer.ensures c.args.self.now.version (take c.args.place c.args.self.now.entries.now) c.requires.stands.ledger
+  decides = c.may_answer.ensures c.args.self.now.version (take c.args.place c.args.self.now.entries.now) c.requires.stands.knowledge
       (entry_formed c.args.self.now c.requires.readable c.args.place e there) is_number
 
 pub returns-then-not-may_answer : goal.returns-then-not-may_answer
 returns-then-not-may_answer c =
     let a = (goal.at.returns-then-not-may_answer c).After-may_answer in
-    answer_refused c.args.self.now c.args.place c.args.ledger.now c.requires.stands (e a) (there a) c.args.number
+    answer_refused c.args.self.now c.args.place c.args.knowledge.now c.requires.stands (e a) (there a) c.args.number
     (is_number a) (λ may. false≢true (sym c.if-not-may_answer.true ∙ (decides a).1 may))
 
 pub answer-requires-clause-there : goal.answer-requires-clause-there
@@ -39,5 +39,5 @@ answer-requires-clause-there c =
 pub returns : goal.returns
 returns c =
     let a = (goal.at.returns c).After-may_answer in
-    answer_taken c.args.self.now c.args.place c.args.ledger.now c.requires.stands (e a) (there a) c.args.number
+    answer_taken c.args.self.now c.args.place c.args.knowledge.now c.requires.stands (e a) (there a) c.args.number
     (is_number a) c.answer.new.self c.in_ok-answer.ensures

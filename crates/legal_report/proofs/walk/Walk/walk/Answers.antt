@@ -9,4 +9,4 @@ pub returns : goal.returns
 returns c =
     let w = c.args.self.now in
     let all : c.loop-place.place ≡ length w.entries.now = omega (arith, c.loop-place-test.false, c.loop-place.auto.place-end) in
-    subst (λ n. StandsAtEntry w n c.loop-place.ledger) all c.loop-place.invariant
+    subst (λ n. StandsAtEntry w n c.loop-place.knowledge) all c.loop-place.invariant

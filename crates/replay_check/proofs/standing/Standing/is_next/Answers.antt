@@ -12,8 +12,8 @@ module _ (c : After-is_request) where
   head_is : slice_get c.args.self.now.course.batch.to_ask 0 ≡ Some c.in-Some.next.now
   head_is = sym c.next_asked.ensures ∙ ap option_copied c.in-Some.is
 
-  number_is : c.len.result + 1 ≡ length c.args.self.now.ledger.asked.items + 1
-  number_is = omega (arith, c.len.ensures, c.args.self.now.ledger.asked.ok)
+  number_is : c.len.result + 1 ≡ length c.args.self.now.knowledge.asked.items + 1
+  number_is = omega (arith, c.len.ensures, c.args.self.now.knowledge.asked.ok)
 
 some_is : (i j : Instance) → Some i ≡ Some j → i ≡ j
 some_is i j e = cc
@@ -21,7 +21,7 @@ some_is i j e = cc
 pub returns-in-Some-clause-yes : goal.returns-in-Some-clause-yes
 returns-in-Some-clause-yes c = λ e.
     let task = c.args.bounds.now.task.now in
-    let l = c.args.self.now.ledger in
+    let l = c.args.self.now.knowledge in
     let next = c.in-Some.next.now in
     record {
       instance = next;
@@ -34,7 +34,7 @@ returns-in-Some-clause-yes c = λ e.
 pub returns-in-Some-clause-no : goal.returns-in-Some-clause-no
 returns-in-Some-clause-no c = λ n.
     let task = c.args.bounds.now.task.now in
-    let l = c.args.self.now.ledger in
+    let l = c.args.self.now.knowledge in
     let next = c.in-Some.next.now in
     let same : n.instance ≡ next = some_is n.instance next (sym n.head ∙ head_is c) in
     c.is_request.ensures

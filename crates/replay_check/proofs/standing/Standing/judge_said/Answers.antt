@@ -23,7 +23,7 @@ returns-in-Plan c =
     let placed = subst (IsEndPlaced (limits_by b) b.limit task entries) p.is c.requires.placed in
     let found =
     c.planned.ensures (limits_by b) b.limit task entries p.steps p.cost p.from
-    (sym c.len.ensures) c.requires.standing.stands.ledger.legal placed over_calls in
+    (sym c.len.ensures) c.requires.standing.stands.knowledge.legal placed over_calls in
     subst (λ o. IsRightFinding (limits_by b) b.limit task entries o c.planned.result) (sym p.is) found
 
 pub returns : goal.returns
@@ -32,10 +32,10 @@ returns c =
     let task = b.task.now in
     let entries = c.args.entries.now in
     let limit = b.limit in
-    let ledger = c.requires.standing.stands.ledger in
+    let knowledge = c.requires.standing.stands.knowledge in
     elim c.match-outcome.branch [
       | in-NoPlan+in_ok-claim-in-NoPlan w ↦
-          let judged = w.in_ok-claim-in-NoPlan.ensures entries ledger (c.requires.resting (λ e.
+          let judged = w.in_ok-claim-in-NoPlan.ensures entries knowledge (c.requires.resting (λ e.
           absurd (let both : said.NoPlan ≡ said.Limit Calls = sym w.in-NoPlan.is ∙ e in cc))) in
           let placed = subst (IsEndPlaced (limits_by b) limit task entries) w.in-NoPlan.is c.requires.placed in
           let found =
@@ -44,7 +44,7 @@ returns c =
           subst (λ o. IsRightFinding (limits_by b) limit task entries o c.claimed.result) (sym w.in-NoPlan.is) found
       | in-Limit-Calls+in_ok-claim-in-Limit-Calls w ↦
           let is : c.args.outcome.now ≡ said.Limit Calls = search rules in
-          let judged = w.in_ok-claim-in-Limit-Calls.ensures limit entries ledger in
+          let judged = w.in_ok-claim-in-Limit-Calls.ensures limit entries knowledge in
           let placed = subst (IsEndPlaced (limits_by b) limit task entries) is c.requires.placed in
           let found =
           c.claimed.ensures (limits_by b) limit task entries (said.Limit Calls) tt placed
@@ -52,7 +52,7 @@ returns c =
           subst (λ o. IsRightFinding (limits_by b) limit task entries o c.claimed.result) (sym is) found
       | in-Limit-States+in_ok-claim-in-Limit-States w ↦
           let is : c.args.outcome.now ≡ said.Limit States = search rules in
-          let judged = w.in_ok-claim-in-Limit-States.ensures entries ledger (c.requires.resting (λ e.
+          let judged = w.in_ok-claim-in-Limit-States.ensures entries knowledge (c.requires.resting (λ e.
           absurd (let both : said.Limit States ≡ said.Limit Calls = sym is ∙ e in cc))) in
           let placed = subst (IsEndPlaced (limits_by b) limit task entries) is c.requires.placed in
           let found =
@@ -61,7 +61,7 @@ returns c =
           subst (λ o. IsRightFinding (limits_by b) limit task entries o c.claimed.result) (sym is) found
       | in-Limit-Instances+in_ok-claim-in-Limit-Instances w ↦
           let is : c.args.outcome.now ≡ said.Limit Instances = search rules in
-          let judged = w.in_ok-claim-in-Limit-Instances.ensures limit entries ledger in
+          let judged = w.in_ok-claim-in-Limit-Instances.ensures limit entries knowledge in
           let placed = subst (IsEndPlaced (limits_by b) limit task entries) is c.requires.placed in
           let found =
           c.claimed.ensures (limits_by b) limit task entries (said.Limit Instances) tt placed

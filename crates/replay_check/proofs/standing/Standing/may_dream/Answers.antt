@@ -18,7 +18,7 @@ returns-then-eq c = λ entries s. (
         | then-eq-via-then-eq w ↦ let is : b.mode ≡ Incremental = search (rules, tests) in absurd (begins.0 is)
         | then-eq-via-else-eq+then-not-is_between w ↦
             absurd (false≢true (sym w.if-not-is_between.true ∙ w.is_between.ensures
-            ∙ begins_between (limits_by b) b.task.now entries self.ledger self.course s begins))
+            ∙ begins_between (limits_by b) b.task.now entries self.knowledge self.course s begins))
       ],
 )
 
@@ -34,7 +34,7 @@ returns c = λ entries s.
     let same = there_where c.in_ok-dues.dues (λ dues. AreDueFor limits task entries dues.items) (MayBegin limits task entries)
     (c.in_ok-dues.ensures.some entries s) (c.in_ok-dues.ensures.none entries s) (λ dues due. due.0) in (
       λ yes.
-          begins_turn limits task entries self.ledger self.course s c.requires.bounds.workers dreams
+          begins_turn limits task entries self.knowledge self.course s c.requires.bounds.workers dreams
           (sym c.is_between.ensures ∙ c.if-not-is_between.false) (same.0 (sym c.is_some.ensures ∙ yes)),
       λ begins. c.is_some.ensures ∙ same.1 begins.1,
     )

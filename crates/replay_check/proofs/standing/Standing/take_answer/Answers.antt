@@ -16,7 +16,7 @@ module _ (c : After-may_answer) where
 
   decides : IsTrue c.may_answer.result
       ↔ MayFollow c.args.bounds.now.version c.args.bounds.now.task.now (take c.args.place c.args.entries.now) c.index-entries-place.result
-  decides = c.may_answer.ensures c.args.bounds.now.version (take c.args.place c.args.entries.now) c.requires.can.standing.stands.ledger
+  decides = c.may_answer.ensures c.args.bounds.now.version (take c.args.place c.args.entries.now) c.requires.can.standing.stands.knowledge
       (entry_formed c.args.bounds.now c.args.entries.now c.args.place c.args.self.now c.index-entries-place.result c.requires.can there)
       is_number
 

@@ -1,6 +1,6 @@
 use Rattle.std.proofs.Common.{◌∙◌, ◌++◌, ◌∷◌, [], take, sym, subst}
 use Rattle.std.proofs.lemmas.Bool.{false≢true}
-use Rattle.learning.specs.Ledgers.{IsLedger}
+use Rattle.learning.specs.Knowledge.{IsKnowledge}
 use Rattle.replay_check.specs.Talks.{IsAskedBy}
 use Rattle.transcript_model.specs.Legal.{IsRightAsk}
 use Rattle.transcript_model.specs.declared.entry.Entry.TheVariants as entry
@@ -13,7 +13,7 @@ returns-in_default c =
     let can = c.requires.can in
     let before = take c.args.place c.args.entries.now in
     ask_is_refused b c.args.entries.now c.args.place c.args.self.now can c.args.number c.args.turn c.args.call.now c.requires.here
-    c.in_ok-asked.asked c.in_default.is (c.in_ok-asked.ensures b.version before can.standing.stands.ledger)
+    c.in_ok-asked.asked c.in_default.is (c.in_ok-asked.ensures b.version before can.standing.stands.knowledge)
 
 pub returns-then-not-is_next : goal.returns-then-not-is_next
 returns-then-not-is_next c =
@@ -21,7 +21,7 @@ returns-then-not-is_next c =
     let can = c.requires.can in
     let before = take c.args.place c.args.entries.now in
     let said = subst (IsAskedBy b.calls b.task.now before c.args.number c.args.turn c.args.call.now) c.in-Some.is
-    (c.in_ok-asked.ensures b.version before can.standing.stands.ledger) in
+    (c.in_ok-asked.ensures b.version before can.standing.stands.knowledge) in
     ask_out_of_order b c.args.entries.now c.args.place c.args.self.now can c.args.number c.args.turn c.args.call.now c.requires.here
     c.in-Some.instance said
     (λ next. false≢true (sym c.if-not-is_next.true ∙ c.is_next.ensures.no next))
@@ -34,14 +34,14 @@ returns c =
     let can = c.requires.can in
     let before = take c.args.place c.args.entries.now in
     let said = subst (IsAskedBy b.calls task before c.args.number c.args.turn c.args.call.now) c.in-Some.is
-    (c.in_ok-asked.ensures b.version before can.standing.stands.ledger) in
+    (c.in_ok-asked.ensures b.version before can.standing.stands.knowledge) in
     let number =
     (ask_number b c.args.entries.now c.args.place s can c.args.number c.args.turn c.args.call.now c.requires.here c.in-Some.instance
     said).0 in
     let next = c.is_next.ensures.yes c.if-not-is_next.false in
-    let kept = c.in_ok-ask.ensures.kept b.version c.args.turn task before c.args.call.now can.standing.stands.ledger
+    let kept = c.in_ok-ask.ensures.kept b.version c.args.turn task before c.args.call.now can.standing.stands.knowledge
     (subst (λ n. IsRightAsk task before n c.args.turn c.args.call.now) number said.0) said.2 in
-    let ledger =
-    subst (λ n. IsLedger b.version task (before ++ entry.Ask n c.args.turn c.args.call.now ∷ []) c.ask.new.self) (sym number) kept in
+    let knowledge =
+    subst (λ n. IsKnowledge b.version task (before ++ entry.Ask n c.args.turn c.args.call.now ∷ []) c.ask.new.self) (sym number) kept in
     ask_taken b c.args.entries.now c.args.place s can c.args.number c.args.turn c.args.call.now c.requires.here
-    (record { ledger = c.ask.new.self; course = c.ask-2.new.self }) next said.0 ledger c.ask-2.ensures
+    (record { knowledge = c.ask.new.self; course = c.ask-2.new.self }) next said.0 knowledge c.ask-2.ensures

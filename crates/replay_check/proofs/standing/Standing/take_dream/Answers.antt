@@ -42,7 +42,7 @@ module _ (c : In_ok-dreamed) where
   said d is =
       let b = c.args.bounds.now in
       let before = take c.args.place c.args.entries.now in
-      let judged = c.in_ok-dreamed.ensures (limits_by b) before refl c.requires.can.standing.stands.ledger in
+      let judged = c.in_ok-dreamed.ensures (limits_by b) before refl c.requires.can.standing.stands.knowledge in
       subst (IsDreamJudged (limits_by b) b.task.now before c.args.self.now.course.kept.tried c.args.uses.now c.args.steps.now) is
       (subst (λ (ts : List Instance).
       IsDreamJudged (limits_by b) b.task.now before ts c.args.uses.now c.args.steps.now c.in_ok-dreamed.dreamed) c.tried-tried.ensures
@@ -59,7 +59,7 @@ pub go_on-requires-clause-left : goal.go_on-requires-clause-left
 go_on-requires-clause-left c =
     let may = begins (goal.at.go_on-requires-clause-left c).In_ok-dreamed in
     let left = may.1.left in
-    let counted = c.requires.can.standing.stands.ledger.counted in
+    let counted = c.requires.can.standing.stands.knowledge.counted in
     omega (arith, left, counted)
 
 pub returns-in-Right : goal.returns-in-Right

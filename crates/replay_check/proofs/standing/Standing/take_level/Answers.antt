@@ -23,8 +23,8 @@ returns c =
     let can = c.requires.can in
     let dues = c.in-Some.dues.items in
     let some = c.in_ok-dues.ensures.some (take place entries) can.standing.stands in
-    let counted : c.len-before.result ≡ length s.ledger.asked.items = omega (arith, c.len-before.ensures, s.ledger.asked.ok) in
-    level_taken b entries place s can c.requires.here (record { ledger = s.ledger; course = c.begin_level.new.self }) dues refl
+    let counted : c.len-before.result ≡ length s.knowledge.asked.items = omega (arith, c.len-before.ensures, s.knowledge.asked.ok) in
+    level_taken b entries place s can c.requires.here (record { knowledge = s.knowledge; course = c.begin_level.new.self }) dues refl
     (rw c.in-Some.is at some)
     (begins_counted b entries place s can dues c.len-before.result c.begin_level.new.self (λ n. s.course.kept) counted
     c.begin_level.ensures) (c.asks_level.ensures.0 c.if-not-asks_level.false)

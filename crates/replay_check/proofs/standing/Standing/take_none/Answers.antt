@@ -26,7 +26,7 @@ module _ (c : In_ok-is_true) where
   said o is =
       let b = c.args.bounds.now in
       let before = take c.args.place c.args.entries.now in
-      let judged = c.in_ok-is_true.ensures (limits_by b) before refl refl c.requires.can.standing.stands.ledger in
+      let judged = c.in_ok-is_true.ensures (limits_by b) before refl refl c.requires.can.standing.stands.knowledge in
       subst (IsNoneJudged (limits_by b) b.task.now before c.args.self.now.course.kept.tried b.limit) is
       (subst (λ (ts : List Instance). IsNoneJudged (limits_by b) b.task.now before ts b.limit c.in_ok-is_true.is_true)
       c.tried.ensures judged)
@@ -36,7 +36,7 @@ returns-in-Some-true c =
     let at = (goal.at.returns-in-Some-true c).In_ok-is_true in
     let there = said at (Some true) (c.in-Some-true.is ∙ ap Some c.in-Some-true.field-0-test) in
     none_taken c.args.bounds.now c.args.entries.now c.args.place c.args.self.now c.requires.can (begins at) c.requires.here
-    (record { ledger = c.args.self.now.ledger; course = c.say_none.new.self }) there.0 there.1 refl c.say_none.ensures.batch
+    (record { knowledge = c.args.self.now.knowledge; course = c.say_none.new.self }) there.0 there.1 refl c.say_none.ensures.batch
     c.say_none.ensures.phase c.say_none.ensures.kept
 
 pub returns-in-Some-false : goal.returns-in-Some-false

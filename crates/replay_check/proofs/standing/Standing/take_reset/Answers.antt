@@ -21,5 +21,5 @@ returns c =
     some_in c.args.self.now.course.kept.tried
     (λ none. false≢true (sym c.if-is_empty.false ∙ c.is_empty.ensures.1 (c.tried.ensures ∙ none))) in
     reset_taken c.args.bounds.now c.args.entries.now c.args.place c.args.self.now c.requires.can c.requires.here
-    (record { ledger = c.args.self.now.ledger; course = c.reset.new.self }) (c.has_nothing.ensures.0 c.if-not-has_nothing.false) some
+    (record { knowledge = c.args.self.now.knowledge; course = c.reset.new.self }) (c.has_nothing.ensures.0 c.if-not-has_nothing.false) some
     refl c.reset.ensures.batch c.reset.ensures.phase c.reset.ensures.kept

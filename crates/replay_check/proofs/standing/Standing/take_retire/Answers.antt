@@ -11,7 +11,7 @@ returns-in-Some c =
     let due = c.in-Some.ensures.some in
     retire_taken c.args.bounds.now c.args.entries.now c.args.place c.args.self.now c.requires.can c.in-Some.given_up
     (c.requires.here ∙ ap (λ n. Some (entry.Retire n)) number) due.0 due.1
-    (record { ledger = c.args.self.now.ledger; course = c.retire.new.self }) refl c.retire.ensures.batch c.retire.ensures.phase
+    (record { knowledge = c.args.self.now.knowledge; course = c.retire.new.self }) refl c.retire.ensures.batch c.retire.ensures.phase
     c.retire.ensures.kept
 
 pub returns-in_default : goal.returns-in_default

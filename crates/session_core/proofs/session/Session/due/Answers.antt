@@ -16,7 +16,7 @@ returns-clause-due c =
     let known = ap (λ (t : State). t.known) c.self.view_is ∙ c.requires.session.known c.requires.working ∙ ap (known_of task) all in
     let notes = ap (λ (t : State). t.notes) c.self.view_is ∙ c.requires.session.notes c.requires.working ∙ ap (notes_of task) all in
     subst (λ ns. IfOk c.next_level.result (λ dues. AreDueInTurn task (known_of task s.entries) ns dues.items)) notes
-    (subst (λ k. IfOk c.next_level.result (λ dues. AreDueInTurn task k c.self.inside.ledger.queue dues.items)) known
+    (subst (λ k. IfOk c.next_level.result (λ dues. AreDueInTurn task k c.self.inside.knowledge.queue dues.items)) known
     c.next_level.ensures.due)
 
 pub returns-clause-fault : goal.returns-clause-fault
@@ -27,7 +27,7 @@ returns-clause-fault c =
     let known = ap (λ (t : State). t.known) c.self.view_is ∙ c.requires.session.known c.requires.working ∙ ap (known_of task) all in
     let notes = ap (λ (t : State). t.notes) c.self.view_is ∙ c.requires.session.notes c.requires.working ∙ ap (notes_of task) all in
     subst (λ ns. IfErr c.next_level.result (HasLevelCause task (known_of task s.entries) ns)) notes
-    (subst (λ k. IfErr c.next_level.result (HasLevelCause task k c.self.inside.ledger.queue)) known c.next_level.ensures.fault)
+    (subst (λ k. IfErr c.next_level.result (HasLevelCause task k c.self.inside.knowledge.queue)) known c.next_level.ensures.fault)
 
 pub returns-clause-ready : goal.returns-clause-ready
 returns-clause-ready c =

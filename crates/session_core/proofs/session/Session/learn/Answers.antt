@@ -1,6 +1,6 @@
 use Rattle.std.proofs.Common.{◌≡◌, ◌≤◌, true, length, take, ap, sym, subst, ◌∙◌, arith}
 use Rattle.transcript_model.specs.Transcript.{known_of, notes_of}
-use Rattle.session_core.proofs.SessionLearnLemmas.{all_learnt, can_learn, ledger_becomes, not_learnt}
+use Rattle.session_core.proofs.SessionLearnLemmas.{all_learnt, can_learn, knowledge_becomes, not_learnt}
 use Rattle.learning.specs.Learning.{CanLearn}
 use Rattle.session_core.specs.Session.{IsSession, after_learn}
 use Rattle.session_core.specs.Shown.{shown_session}
@@ -34,9 +34,9 @@ returns-in-Ok-clause-learnt c =
     c.in-Ok.ensures.notes ∙ ap (notes_of task) c.as_slice-entries.ensures.value in
     let long : c.len-self-inside.result ≡ length s.entries = c.len-self-inside.ensures ∙ c.self.inside.entries.ok.0 in
     let asked : c.learn-learnt.new.self.asked.items ≡ s.asked = λ i. (c.learn-learnt.ensures.asked i).items in
-    let after : ledger_becomes s c.learn-learnt.new.self.asked.items c.learn-learnt.new.self.facts.known c.learn-learnt.new.self.queue
+    let after : knowledge_becomes s c.learn-learnt.new.self.asked.items c.learn-learnt.new.self.facts.known c.learn-learnt.new.self.queue
     c.len-self-inside.result s.failed ≡ after_learn task s =
-    λ i. ledger_becomes s (asked i) (known i) (notes i) (long i) (c.if-self.false i) in
+    λ i. knowledge_becomes s (asked i) (known i) (notes i) (long i) (c.if-self.false i) in
     after ∙ ap (after_learn task) c.self.view_is
 
 pub returns-in-Ok-clause-kept : goal.returns-in-Ok-clause-kept
@@ -49,9 +49,9 @@ returns-in-Ok-clause-kept c =
     c.in-Ok.ensures.notes ∙ ap (notes_of task) c.as_slice-entries.ensures.value in
     let long : c.len-self-inside.result ≡ length s.entries = c.len-self-inside.ensures ∙ c.self.inside.entries.ok.0 in
     let asked : c.learn-learnt.new.self.asked.items ≡ s.asked = λ i. (c.learn-learnt.ensures.asked i).items in
-    let after : ledger_becomes s c.learn-learnt.new.self.asked.items c.learn-learnt.new.self.facts.known c.learn-learnt.new.self.queue
+    let after : knowledge_becomes s c.learn-learnt.new.self.asked.items c.learn-learnt.new.self.facts.known c.learn-learnt.new.self.queue
     c.len-self-inside.result s.failed ≡ after_learn task s =
-    λ i. ledger_becomes s (asked i) (known i) (notes i) (long i) (c.if-self.false i) in
+    λ i. knowledge_becomes s (asked i) (known i) (notes i) (long i) (c.if-self.false i) in
     subst (IsSession task) (sym after) (all_learnt task s (subst (IsSession task) (sym c.self.view_is) c.requires.session))
 
 pub returns-in-Err-clause-kept : goal.returns-in-Err-clause-kept
@@ -60,7 +60,7 @@ returns-in-Err-clause-kept c =
     let s = shown_session c.self.inside in
     let now = c.learn-learnt.new.self in
     let asked : now.asked.items ≡ s.asked = λ i. (c.learn-learnt.ensures.asked i).items in
-    subst (λ is. IsSession task (ledger_becomes s is now.facts.known now.queue s.learnt true)) (sym asked)
+    subst (λ is. IsSession task (knowledge_becomes s is now.facts.known now.queue s.learnt true)) (sym asked)
     (not_learnt task s now.facts.known now.queue (subst (IsSession task) (sym c.self.view_is) c.requires.session))
 
 -- what is known and noted where memory was wanting

@@ -22,8 +22,8 @@ invariant_of-self c =
     let same = slots_are s.slots child c.in-Some.place c.requires.awaited.slot c.index_mut-cell.result.now found waits
     c.index_mut-cell.ensures.value change c.hear.new.self c.self.invariant.apart c.hear.ensures.slot in
     subst (λ xs. IsSound (with_slots s xs s.failed) (vec_capacity c.self.inside.entries)
-    (vec_capacity c.self.inside.ledger.asked)) (sym same)
-    (sound_changed s (vec_capacity c.self.inside.entries) (vec_capacity c.self.inside.ledger.asked) child change s.failed
+    (vec_capacity c.self.inside.knowledge.asked)) (sym same)
+    (sound_changed s (vec_capacity c.self.inside.entries) (vec_capacity c.self.inside.knowledge.asked) child change s.failed
     (λ t. refl) c.self.invariant)
 
 pub invariant_of-self-in-Some-hear : goal.invariant_of-self-in-Some-hear
@@ -39,8 +39,8 @@ invariant_of-self-in-Some-hear c =
     let same = slots_are s.slots child c.in-Some.place c.requires.awaited.slot c.index_mut-cell.result.now found waits
     c.index_mut-cell.ensures.value change c.hear.new.self c.self.invariant.apart c.hear.ensures.slot in
     subst (λ xs. IsSound (with_slots s xs true) (vec_capacity c.self.inside.entries)
-    (vec_capacity c.self.inside.ledger.asked)) (sym same)
-    (sound_changed s (vec_capacity c.self.inside.entries) (vec_capacity c.self.inside.ledger.asked) child change true
+    (vec_capacity c.self.inside.knowledge.asked)) (sym same)
+    (sound_changed s (vec_capacity c.self.inside.entries) (vec_capacity c.self.inside.knowledge.asked) child change true
     (λ t. refl) c.self.invariant)
 
 pub returns-in-None-clause-heard : goal.returns-in-None-clause-heard

@@ -16,7 +16,7 @@ pub returns-clause-cut : goal.returns-clause-cut
 returns-clause-cut c =
     let s = shown_session c.self.inside in
     let dues = c.args.dues.now in
-    let asked : c.len.result ≡ length s.asked = c.len.ensures ∙ c.self.inside.ledger.asked.ok.0 in
+    let asked : c.len.result ≡ length s.asked = c.len.ensures ∙ c.self.inside.knowledge.asked.ok.0 in
     let most : c.min-most.result ≡ min (length dues) (session_calls_left s) =
     c.min-most.ensures ∙ ap (λ n. min (length dues) (s.calls - n)) asked in
     let longest : IsLongestFront (shares_of s.pools) (due_instances (take c.min-most.result dues)) c.longest_front.result =
@@ -30,7 +30,7 @@ returns-clause-some c = λ task h there left.
     let s = shown_session c.self.inside in
     let dues = c.args.dues.now in
     let was = subst (IsSession task) (sym c.self.view_is) h in
-    let asked : c.len.result ≡ length s.asked = c.len.ensures ∙ c.self.inside.ledger.asked.ok.0 in
+    let asked : c.len.result ≡ length s.asked = c.len.ensures ∙ c.self.inside.knowledge.asked.ok.0 in
     let most : c.min-most.result ≡ min (length dues) (session_calls_left s) =
     c.min-most.ensures ∙ ap (λ n. min (length dues) (s.calls - n)) asked in
     let longest : IsLongestFront (shares_of s.pools) (due_instances (take c.min-most.result dues)) c.longest_front.result =

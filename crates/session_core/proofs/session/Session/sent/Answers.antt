@@ -20,8 +20,8 @@ invariant_of-self c =
     let same = slots_are s.slots child c.in-Some.place c.requires.unsent.slot c.index_mut.result.now found waits c.index_mut.ensures.value
     sent_slot c.send.new.self c.self.invariant.apart c.send.ensures in
     subst (λ xs. IsSound (with_slots s xs s.failed) (vec_capacity c.self.inside.entries)
-    (vec_capacity c.self.inside.ledger.asked)) (sym same)
-    (sound_changed s (vec_capacity c.self.inside.entries) (vec_capacity c.self.inside.ledger.asked) child sent_slot s.failed
+    (vec_capacity c.self.inside.knowledge.asked)) (sym same)
+    (sound_changed s (vec_capacity c.self.inside.entries) (vec_capacity c.self.inside.knowledge.asked) child sent_slot s.failed
     (λ t. refl) c.self.invariant)
 
 pub returns-clause-after : goal.returns-clause-after

@@ -1,3 +1,0 @@
-pub mod Adaptive
-pub mod Batching
-pub mod Skeletons

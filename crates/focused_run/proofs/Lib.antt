@@ -1,4 +1,0 @@
-pub mod DreamlessLemmas
-pub mod DreamtLemmas
-pub mod FocusingLemmas
-pub mod PartLemmas

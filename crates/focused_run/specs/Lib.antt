@@ -1,2 +1,0 @@
-pub mod Focusing
-pub mod NextDreams

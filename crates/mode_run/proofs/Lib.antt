@@ -1,0 +1,13 @@
+pub mod LevelsLemmas
+pub mod FocusingLemmas
+pub mod DreamlessLemmas
+pub mod DreamtLemmas
+pub mod PartLemmas
+pub mod AdaptiveLemmas
+pub mod BatchGoingLemmas
+pub mod BatchesLemmas
+pub mod BehindLemmas
+pub mod BindingLemmas
+pub mod CountLemmas
+pub mod PickLemmas
+pub mod SkeletonLemmas

@@ -1,0 +1,6 @@
+pub mod Levels
+pub mod Focusing
+pub mod NextDreams
+pub mod Batching
+pub mod Skeletons
+pub mod Adaptive

@@ -1,0 +1,129 @@
+//! Turns that begin with a dream.
+ghost use Rattle.std.specs.Prelude.{◌≡◌, ⊤, [], false};
+ghost use Rattle.mode_run.specs.Focusing.{HasCallLeft, IsDreamLine, MayFallBack, RanFocused, carried, idle_of};
+ghost use Rattle.turn_run.specs.Advancing.{IsFrontOfTurn};
+ghost use Rattle.turn_run.specs.Reporting.{EndsRun, MayRun};
+ghost use Rattle.round_run.specs.Desk.{OnTurn, RestsAt};
+ghost use Rattle.round_run.specs.Told.{stretch, host_told};
+ghost use Rattle.transcript_model.specs.Rounds.{limits_of};
+ghost use Rattle.transcript_model.specs.declared.head.Mode.{Mode};
+
+use crate::dreamless::without_dream;
+use crate::dreamt::{LinedDream, NextDream, next_dream};
+use crate::finders::by_estimate;
+use best_first::Found;
+use fact_store::Facts;
+use instance_queue::Due;
+use io_world::{Host, Sink};
+use optimistic_set::Tried;
+use std::alloc::{AllocError, Global};
+use task_model::Task;
+use transcript_model::Head;
+use turn_run::{Desk, PlanSearch, Ran, RunFault, Turned, Turns, run_mode};
+
+/// What a mode asks of a dream, which keeps no dreams.
+pub(crate) trait DreamBatches {
+    ghost mode: { Mode };
+
+    /// Says what was dreamt, and asks what the mode asks of it, as long as calls are left. What is
+    /// asked was tried then.
+    ///
+    /// # Errors
+    /// `Answer` where the line that answers a request is no answer; `Generator` and `Write` only
+    /// where the host's or the sink's count of faults rose in this call; `Memory`. Afterwards the
+    /// desk may only be looked at.
+    fn ask<H: Host, O: Sink>(
+        &self,
+        desk: &mut Desk<'_>,
+        host: &mut H,
+        out: &mut O,
+        tried: &mut Tried,
+        dream: LinedDream,
+    ) -> Result<Turned, RunFault>
+        requires mode { desk.old.head.mode ≡ mode }
+        requires rests { RestsAt desk.old (host_told H.running H.spoken H.log H.faults host.old) }
+        requires room { HasCallLeft desk.old.head desk.old.state }
+        requires dream { IsDreamLine (limits_of desk.old.head) desk.old.task
+            desk.old.state.entries tried.old dream.line dream.entries.items }
+        ensures goes { OnTurn desk.old desk.new (stretch H.last H.running H.spoken H.log H.faults
+            O.taken O.faults host.old host.new out.old out.new)
+            (RanFocused desk.old.task desk.old.head tried.old tried.new
+            desk.old.state desk.new.state)
+            (IsFrontOfTurn desk.old.task desk.old.head (carried tried.old) desk.old.state.entries)
+            result };
+
+    // A turn of the mode falls back where there is no dream.
+    ghost falls_back: { MayFallBack mode [] };
+}
+
+/// A mode that keeps no dreams: a turn begins with a dream, of which batches are asked, or falls
+/// back where there is none. What was asked in dreams is carried on until it is forgotten.
+#[derive(Drop)]
+struct DreamTurns<B: DreamBatches> {
+    tried: Tried,
+    batches: B,
+}
+
+impl<B: DreamBatches> PlanSearch for DreamTurns<B> {
+    ghost cheapest = { false };
+
+    fn find(
+        &self,
+        alloc: Global,
+        task: &Task,
+        head: &Head,
+        facts: &Facts,
+    ) -> Result<Option<Found>, AllocError> {
+        by_estimate(alloc, task, head, facts)
+    }
+}
+
+impl<B: DreamBatches> Turns for DreamTurns<B> {
+    ghost mode = { B.mode };
+
+    ghost kept = { λ m. carried m.tried };
+
+    ghost idle = { λ m. idle_of m.tried };
+
+    ghost holds = { λ m asked. ⊤ };
+
+    fn turn<H: Host, O: Sink>(
+        &mut self,
+        desk: &mut Desk<'_>,
+        host: &mut H,
+        out: &mut O,
+        dues: &[Due],
+    ) -> Result<Turned, RunFault> {
+        let tried = &mut self.tried;
+        let dreamt = next_dream(desk, tried)?;
+        match dreamt {
+            NextDream::Known(outcome) => Ok(Turned::Known(outcome)),
+            NextDream::Lined(dream) => self.batches.ask(desk, host, out, tried, dream),
+            NextDream::Empty => without_dream(desk, host, out, tried, dues),
+        }
+    }
+}
+
+/// Solves a task in a mode that keeps no dreams, and writes the report. No child runs before, and
+/// none afterwards; that a child fails to stop changes nothing.
+///
+/// # Errors
+/// `Answer` where the line that answers a request is no answer, with the request's number;
+/// `Generator` and `Write` only where the host's or the sink's count of faults rose in this call;
+/// `Memory`. The lines that were written stay.
+pub(crate) fn run_dreams<B: DreamBatches + Drop, H: Host, O: Sink>(
+    alloc: Global,
+    task: &Task,
+    head: &Head,
+    batches: B,
+    host: &mut H,
+    out: &mut O,
+) -> Result<Ran, RunFault>
+    requires may { MayRun B.mode task.now head.now (H.running host.old) }
+    ensures ran { EndsRun task.now head.now (stretch H.last H.running H.spoken H.log H.faults
+        O.taken O.faults host.old host.new out.old out.new) result }
+{
+    let tried = Tried::new(alloc);
+    let mut mode = DreamTurns { tried, batches };
+    run_mode(alloc, task, head, &mut mode, host, out)
+}

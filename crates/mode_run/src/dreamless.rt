@@ -1,0 +1,58 @@
+//! Turns without a dream.
+ghost use Rattle.std.specs.Prelude.{◌≡◌};
+ghost use Rattle.mode_run.specs.Focusing.{BeginsFocusedTurn, IsFrontOfDreamless, RanDreamless};
+ghost use Rattle.turn_run.specs.declared.turns.Turned.TheVariants.{Spent, Done as WholeTurn};
+ghost use Rattle.round_run.specs.Desk.{OnTurn, RestsAt};
+ghost use Rattle.round_run.specs.Told.{stretch, host_told};
+ghost use Rattle.round_run.specs.declared.ending.Batch.TheVariants.{CallsSpent, Done};
+ghost use Rattle.transcript_model.specs.Dreaming.{HasNoDreamAfter};
+ghost use Rattle.transcript_model.specs.Rounds.{limits_of};
+
+use crate::levels::fall_back;
+use instance_queue::Due;
+use io_world::{Host, Sink};
+use optimistic_set::Tried;
+use transcript_model::Entry;
+use turn_run::{Batch, Desk, RunFault, Turned};
+
+/// How the turn ends whose last batch ended so.
+pub(crate) fn turned(ended: Batch) -> Turned
+    ensures done { ended ≡ Done → result ≡ WholeTurn }
+    ensures spent { ended ≡ CallsSpent → result ≡ Spent }
+{
+    match ended {
+        Batch::Done => Turned::Done,
+        Batch::CallsSpent => Turned::Spent,
+    }
+}
+
+/// Says that there is no dream; then where something was tried, that is forgotten, and else a whole
+/// level is asked, of these instances, which are due. It is so in each mode that dreams, and no
+/// skeletons change.
+///
+/// # Errors
+/// `Answer` where the line that answers a request is no answer; `Generator` and `Write` only where
+/// the host's or the sink's count of faults rose in this call; `Memory`. Afterwards the desk may
+/// only be looked at.
+pub(crate) fn without_dream<H: Host, O: Sink>(
+    desk: &mut Desk<'_>,
+    host: &mut H,
+    out: &mut O,
+    tried: &mut Tried,
+    dues: &[Due],
+) -> Result<Turned, RunFault>
+    requires rests { RestsAt desk.old (host_told H.running H.spoken H.log H.faults host.old) }
+    requires begins { BeginsFocusedTurn desk.old.task desk.old.head desk.old.state dues.now }
+    requires none { HasNoDreamAfter (limits_of desk.old.head) desk.old.task desk.old.state.entries
+        tried.old }
+    ensures goes { OnTurn desk.old desk.new (stretch H.last H.running H.spoken H.log H.faults
+        O.taken O.faults host.old host.new out.old out.new)
+        (RanDreamless desk.old.task desk.old.head tried.old tried.new desk.old.state desk.new.state)
+        (IsFrontOfDreamless desk.old.task desk.old.head tried.old desk.old.state.entries) result }
+{
+    desk.mark(out, Entry::Nothing)?;
+    let is_tried = !tried.is_empty();
+    let ended = fall_back(desk, host, out, is_tried, dues)?;
+    tried.clear();
+    Ok(turned(ended))
+}
