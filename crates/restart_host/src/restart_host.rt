@@ -1,9 +1,11 @@
 // Children that are started again where they fail.
 ghost use Rattle.std.proofs.Common.{lit≤};
-ghost use Rattle.std.specs.Prelude.{◌≡◌, ◌<◌, ◌≤◌, ℕ, false, count_by, vec_len, IfOk};
+ghost use Rattle.std.proofs.Props.{props};
+ghost use Rattle.std.specs.Prelude.{◌≡◌, ◌<◌, ◌≤◌, ℕ, true, false, count_by, vec_len, IfOk};
 ghost use Rattle.io_world.specs.Faults.{last_count};
-ghost use Rattle.io_world.specs.Logs.{calls_spell, said_of, told_of};
+ghost use Rattle.io_world.specs.Logs.{calls_spell, no_calls, said_of, told_of};
 ghost use Rattle.restart_host.specs.Kept.{AreIdle, is_alive, is_on, runs_outside};
+ghost use Rattle.restart_host.specs.Tied.{IsTied};
 
 use crate::kept::{Kept, copy_words};
 use crate::noted::{read_child, start_child, stop_child, tally, write_child};
@@ -27,6 +29,7 @@ pub struct RestartHost<'a, H: Host> {
     ghost ties: { (k : ℕ) → H.running host.now k ≡ is_alive children.items k },
     ghost room: { count_by is_on children.items ≤ log.kept },
     ghost over: { 0 < faults → left ≡ 0 },
+    ghost tied: { log.whole ≡ true → IsTied children.items log.events (H.log host.now) } by { Prim.hlevel props },
 }
 
 impl<'a, H: Host> RestartHost<'a, H> {
@@ -43,7 +46,8 @@ impl<'a, H: Host> RestartHost<'a, H> {
         requires idle { (k : ℕ) → H.running host.old k ≡ false }
         ensures same { IfOk result (λ r. r.host.ghost_name ≡ host.entry.ghost_name) }
         ensures now { IfOk result (λ r. r.host.now ≡ host.old) }
-        ensures left { IfOk result (λ r. r.left ≡ restarts) }
+        ensures left { IfOk result (λ r. (r.left ≡ restarts) × (r.faults ≡ 0)) }
+        ensures log { IfOk result (λ r. r.log ≡ no_calls) }
         ensures idle { IfOk result (λ r. (k : ℕ) → runs_outside r.children.items k ≡ false) }
     {
         let children = idle_children(alloc)?;
