@@ -8,6 +8,7 @@ use Rattle.std.proofs.lemmas.Option.{slice_get-get_or}
 use Rattle.std.proofs.lemmas.Slice.Eq.{bytes_eq-Decides}
 use Rattle.std.proofs.lemmas.Map.Keys.{any_passes_from_place}
 use Rattle.lemmas.proofs.ListTests.{any_found, any_append_right}
+use Rattle.lemmas.proofs.Positions.{any_within}
 use Rattle.lemmas.specs.Lists.{AreDistinct}
 use Rattle.name_tables.specs.Names.{has_name, last_place, table_place, with_table_name}
 
@@ -35,6 +36,19 @@ place_there name names e = (
   cond-true (nat_lt (position_or_len (bytes_eq name) names) (length names))
       (Some (position_or_len (bytes_eq name) names)) None (lt-ltb _ _ (first_within (bytes_eq name) names e)),
 )
+
+turned : (b : Bool) (n : ℕ) → cond b (Some n) None ≡ cond (not b) None (Some n)
+turned true n = refl
+turned false n = refl
+
+-- what a table answers where a name is put in: whether it is new, and its place
+pub place_put : (name : List ℕ) (names : List (List ℕ)) (place : ℕ) (fresh : Bool)
+    → fresh ≡ not (has_name name names) → place ≡ position_or_len (bytes_eq name) names
+    → table_place name names ≡ cond fresh None (Some place)
+place_put name names place fresh is at =
+    ap (λ b. cond b (Some (position_or_len (bytes_eq name) names)) None) (sym (any_within (bytes_eq name) names))
+    ∙ turned (has_name name names) (position_or_len (bytes_eq name) names)
+    ∙ (λ i. cond (sym is i) None (Some (sym at i)))
 
 pub place_within : (name : List ℕ) (names : List (List ℕ)) (i : ℕ) → table_place name names ≡ Some i
     → i < length names

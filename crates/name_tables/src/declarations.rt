@@ -48,14 +48,11 @@ impl TypedNames {
     pub fn declare(&mut self, name: &[u8], sort: u32) -> Result<(), AllocError>
         ensures { OnOk result (self.new ≡ specs.declare self.old name.now sort) }
     {
-        match self.names.place_of(name) {
-            Some(place) => self.sorts.add(place, sort),
-            None => {
-                let mut sorts = Vec::new(self.alloc);
-                sorts.push(sort)?;
-                let _new = self.names.add(name)?;
-                self.sorts.push(sorts)
-            }
+        let (place, fresh) = self.names.put(name)?;
+        if fresh {
+            self.sorts.push_one(sort)
+        } else {
+            self.sorts.add(place, sort)
         }
     }
 
@@ -64,16 +61,37 @@ impl TypedNames {
         ensures { IfOk result (λ list. list.items
             ≡ specs.declared_list self.now.names self.now.sorts) }
     {
-        let mut list = Vec::new(self.alloc);
-        for place in 0..self.names.len() {
-            let Some(sorts) = self.sorts.list_at(place)? else {
-                return Ok(list);
-            };
-            let name = Name::from_slice(self.alloc, self.names.name_at(place))?;
-            list.push(Declared { name, sorts })?;
-        }
-        Ok(list)
+        declared_of(self.alloc, &self.names, &self.sorts)
     }
+
+    /// The names, and beside them the lists of their types.
+    pub fn into_parts(self) -> (NameTable, NumberLists)
+        ensures names { result.0 ≡ self.names }
+        ensures sorts { result.1 ≡ self.sorts }
+    {
+        let TypedNames { names, sorts, .. } = self;
+        (names, sorts)
+    }
+}
+
+/// The names, each with the types in the list beside it, as a task has them. Fails only where memory
+/// is wanting.
+pub fn declared_of(
+    alloc: Global,
+    names: &NameTable,
+    sorts: &NumberLists,
+) -> Result<Vec<Declared>, AllocError>
+    ensures { IfOk result (λ list. list.items ≡ specs.declared_list names.now sorts.now) }
+{
+    let mut list = Vec::with_capacity(alloc, names.len())?;
+    for place in 0..names.len() {
+        let Some(sorts) = sorts.list_at(place)? else {
+            return Ok(list);
+        };
+        let name = Name::from_slice(alloc, names.name_at(place))?;
+        list.push(Declared { name, sorts })?;
+    }
+    Ok(list)
 }
 
 /// Declares each name of groups, with its type. Fails only where memory is wanting.

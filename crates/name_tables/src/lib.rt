@@ -17,7 +17,7 @@ mod vocabulary;
 
 pub use conditions::{check_condition, check_conditions};
 pub use cycles::{Candidate, check_cycles};
-pub use declarations::{TypedNames, declare_groups};
+pub use declarations::{TypedNames, declare_groups, declared_of};
 pub use formulas::{condition_of, single_of};
 pub use graph::{ascending, is_cyclic, reached_from};
 pub use names::NameTable;

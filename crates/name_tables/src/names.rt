@@ -1,5 +1,5 @@
 //! Tables of names.
-ghost use Rattle.std.specs.Prelude.{◌≡◌, [], not, length, IfOk, OnOk};
+ghost use Rattle.std.specs.Prelude.{◌≡◌, [], not, length, if◌then◌else◌, Some, None, IfOk, OnOk};
 ghost use Rattle.name_tables.specs.Names as specs;
 ghost use Rattle.task_model.specs.Streams.{name_at};
 
@@ -71,7 +71,18 @@ impl NameTable {
         ensures names { OnOk result (self.new ≡ specs.with_table_name self.old name.now) }
         ensures fresh { IfOk result (λ fresh. fresh ≡ not (specs.has_name name.now self.old)) }
     {
+        let (_, fresh) = self.put(name)?;
+        Ok(fresh)
+    }
+
+    /// The same, with the place at which the name stands then.
+    pub(crate) fn put(&mut self, name: &[u8]) -> Result<(usize, bool), AllocError>
+        ensures names { OnOk result (self.new ≡ specs.with_table_name self.old name.now) }
+        ensures place { IfOk result (λ put. specs.table_place name.now self.old
+            ≡ (if put.1 then None else Some put.0)) }
+        ensures fresh { IfOk result (λ put. put.1 ≡ not (specs.has_name name.now self.old)) }
+    {
         let bytes = Vec::from_slice(self.alloc, name)?;
-        Ok(self.names.insert(bytes)?)
+        Ok(self.names.insert_full(bytes)?)
     }
 }

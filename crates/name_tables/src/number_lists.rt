@@ -4,6 +4,7 @@ ghost use Rattle.name_tables.specs.Declarations as specs;
 ghost use Rattle.name_tables.specs.Graphs as graphs;
 
 use crate::graph::ascending;
+use smallvec::SmallVec;
 use std::alloc::{AllocError, Global};
 use std::marker::Model;
 use task_model::Seq;
@@ -11,10 +12,10 @@ use task_model::Seq;
 /// Lists of numbers, each of which is seen ascending, each number once.
 ///
 /// The numbers are kept as they came, so that one more neither looks for its place nor moves the
-/// others.
+/// others, and up to four of a list take no memory of their own.
 #[derive(Drop)]
 pub struct NumberLists {
-    lists: Vec<Vec<u32>>,
+    lists: Vec<SmallVec<u32, 4>>,
     alloc: Global,
 }
 
@@ -42,6 +43,15 @@ impl NumberLists {
     pub fn push(&mut self, list: Vec<u32>) -> Result<(), AllocError>
         ensures { OnOk result (self.new ≡ self.old ++ graphs.ascending [] list.items ∷ []) }
     {
+        self.lists.push(SmallVec::from_vec(list))?;
+        Ok(())
+    }
+
+    /// Puts the list of one number behind the others. Fails only where memory is wanting.
+    pub(crate) fn push_one(&mut self, number: u32) -> Result<(), AllocError>
+        ensures { OnOk result (self.new ≡ self.old ++ (number ∷ []) ∷ []) }
+    {
+        let list = SmallVec::from_slice(self.alloc, &[number])?;
         self.lists.push(list)?;
         Ok(())
     }

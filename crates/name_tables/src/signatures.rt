@@ -75,10 +75,14 @@ impl Signatures {
     pub fn arity_of(&self, name: &[u8]) -> Option<usize>
         ensures { result ≡ specs.arity_of self.now name.now }
     {
-        match self.names.place_of(name) {
-            None => None,
-            Some(place) => self.arities.get(place).copied(),
-        }
+        self.arity_at(self.names.place_of(name))
+    }
+
+    /// How many arguments the name at this place takes, or None where there is none.
+    pub fn arity_at(&self, place: Option<usize>) -> Option<usize>
+        ensures { result ≡ specs.arity_at self.now place }
+    {
+        self.arities.get(place?).copied()
     }
 
     /// The declarations as a task has them. Fails only where memory is wanting or an arity is past

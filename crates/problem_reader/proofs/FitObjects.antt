@@ -1,5 +1,5 @@
 -- The objects of a problem without faults, over a fit domain.
-use Rattle.std.proofs.Common.{◌≡◌, ℕ, suc, ◌+◌, ◌<◌, ◌≤◌, Bool, true, false, cond, nat_lt, List, [], ◌∷◌, ◌++◌, take, length, refl, sym, ap, subst, ◌∙◌, arith}
+use Rattle.std.proofs.Common.{◌≡◌, ℕ, suc, ◌+◌, ◌<◌, ◌≤◌, Bool, true, false, cond, nat_lt, List, [], ◌∷◌, ◌++◌, take, length, refl, sym, ap, subst, ◌∙◌, arith, ltb-true}
 use Rattle.std.specs.Cmp.{first_so, second_so}
 use Rattle.std.specs.List.{list_all}
 use Rattle.std.proofs.lemmas.Bool.{and_from, leb-true, cond-true}
@@ -28,7 +28,7 @@ use Rattle.name_tables.proofs.NamesFreshLemmas.{fresh_from}
 use Rattle.name_tables.proofs.NamesLemmas.{has_with}
 use Rattle.problem_reader.specs.Names.{problem_body_names, problem_items_names}
 use Rattle.problem_reader.specs.Problems.{all_typed, constants_typed, declare_all, objects_typed}
-use Rattle.problem_reader.specs.Tables.{is_objects, object_names_in}
+use Rattle.problem_reader.specs.Tables.{has_type, is_objects, object_names_in}
 use Rattle.problem_reader.proofs.TablesObjectLemmas.{names_declared, names_each, seen_put}
 use Rattle.problem_reader.proofs.TablesAppendLemmas.{BeginsWith, begins_each, begins_itself, begins_twice, declared_length, first_ones}
 
@@ -123,6 +123,20 @@ same_all sorts t (list items at rest) =
     let it : Item = item_of text.Problem (head_of items) in
     same_all sorts (grown_by sorts t it (tail_of items)) rest
     ∙ ap (λ ns. object_names_in ns rest) (same_here sorts t (tail_of items) (is_objects it))
+
+-- where each constant has a type, the names that were declared with types are those that the problem looks up
+pub names_typed : (d : Domain) (sorts : List (List ℕ)) (body : Trees) → HaveTypes d.constants
+    → (all_typed d sorts body).names ≡ object_names_in (put_constants [] d.constants) body
+names_typed d sorts body typed =
+    same_all sorts (constants_typed no_typed d.constants) body
+    ∙ ap (λ ns. object_names_in ns body) (constants_named no_typed d.constants typed)
+
+pub types_tested : (cs : List declared.Declared) → list_all has_type cs ≡ true → HaveTypes cs
+types_tested [] e = tt
+types_tested (c ∷ cs) e = (
+  ltb-true 0 (length c.sorts) (first_so (has_type c) (list_all has_type cs) e),
+  types_tested cs (second_so (has_type c) (list_all has_type cs) e),
+)
 
 -- the names of such an item, without faults
 record AreGood (v : Vocabulary) (rest : Trees) : Type 0 where
@@ -228,9 +242,7 @@ module _ (d : Domain) (v : Vocabulary) (body : Trees) (fit : IsFitDomain d) (con
 
   -- the names that the problem looks up
   pub objects_same : all.names ≡ object_names_in (put_constants [] d.constants) body
-  objects_same =
-      same_all v.sorts (constants_typed no_typed d.constants) body
-      ∙ ap (λ ns. object_names_in ns body) (constants_named no_typed d.constants constants.typed)
+  objects_same = names_typed d v.sorts body constants.typed
 
   pub objects_fit : size body ≤ 4194304 → AreFitObjects d all_objects
   objects_fit small =

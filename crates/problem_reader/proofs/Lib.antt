@@ -11,3 +11,5 @@ pub mod ValuesLemmas
 pub mod TablesLemmas
 pub mod TablesObjectLemmas
 pub mod TablesDomainLemmas
+pub mod HeldLemmas
+pub mod AtomsLemmas

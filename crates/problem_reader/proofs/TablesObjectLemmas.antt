@@ -17,7 +17,7 @@ use Rattle.problem_reader.proofs.TablesLemmas.{put}
 
 -- ---- a name has a place exactly where it is there
 
-placed : (n : List ℕ) (ns : List (List ℕ))
+pub placed : (n : List ℕ) (ns : List (List ℕ))
     → table_place n ns ≡ cond (has_name n ns) (Some (position_or_len (bytes_eq n) ns)) None
 placed n ns = ap (λ b. cond b (Some (position_or_len (bytes_eq n) ns)) None) (sym (any_within (bytes_eq n) ns))
 

@@ -1,5 +1,5 @@
 -- What problems are, and all their name faults.
-use Rattle.std.specs.Prelude.{◌≡◌, ℕ, Bool, true, false, if◌then◌else◌, List, [], ◌∷◌, ◌++◌, Some, None, Result, Ok, Err, unwrap_or}
+use Rattle.std.specs.Prelude.{◌≡◌, ℕ, Bool, true, false, if◌then◌else◌, List, [], ◌∷◌, ◌++◌, Option, Some, None, Result, Ok, Err, unwrap_or}
 use Rattle.sexpr_text.specs.Trees.{Trees, nothing, word, list}
 use Rattle.task_model.specs.Condition.{Condition}
 use Rattle.task_model.specs.declared.domain.Declared as declared
@@ -70,6 +70,11 @@ abbrev pub declared_objects : Domain → List (List ℕ) → Trees → List decl
 declared_objects d sorts body =
     declared_list (all_typed d sorts body).names (all_typed d sorts body).sorts
 
+-- Lists of types, if they are kept, that belong to the names of the objects.
+abbrev pub AreTypesOf : Domain → Vocabulary → Trees → Option (List (List ℕ)) → Type 0
+AreTypesOf d v body None = Unit {0}
+AreTypesOf d v body (Some sorts) = declared_list v.objects sorts ≡ declared_objects d v.sorts body
+
 -- ---- facts and values, in the order of the text
 
 -- the objects that the words of a row name
@@ -92,11 +97,14 @@ valued_of v items =
       value = value_in items;
     }
 
+-- a list of `:init`, where it is an atom
+abbrev pub fact_if_atom : Vocabulary → Trees → List Fact
+fact_if_atom v items = if is_worth items then [] else spelled_fact v items ∷ []
+
 abbrev pub facts_of : Vocabulary → Trees → List Fact
 facts_of v nothing = []
 facts_of v (word w at rest) = facts_of v rest
-facts_of v (list items at rest) =
-    (if is_worth items then [] else spelled_fact v items ∷ []) ++ facts_of v rest
+facts_of v (list items at rest) = fact_if_atom v items ++ facts_of v rest
 
 abbrev pub valueds_of : Vocabulary → Trees → List Valued
 valueds_of v nothing = []
@@ -112,6 +120,17 @@ init_of nothing = nothing
 init_of (word w at rest) = init_of rest
 init_of (list items at rest) =
     if is_init (item_of text.Problem (head_of items)) then tail_of items else init_of rest
+
+-- Facts that are held, with those of a row behind them where this is the first `:init`: whether there was one before,
+-- and whether the row is one.
+abbrev pub facts_with : Vocabulary → (begun here : Bool) → List Fact → Trees → List Fact
+facts_with v true here facts rest = facts
+facts_with v false true facts rest = facts ++ facts_of v rest
+facts_with v false false facts rest = facts
+
+-- facts that are held, with those of the first `:init` behind them, if there was none before
+abbrev pub first_facts : Vocabulary → (begun : Bool) → List Fact → Trees → List Fact
+first_facts v begun facts body = facts_with v begun true facts (init_of body)
 
 abbrev pub is_goal : Item → Bool
 is_goal item.Goal = true

@@ -1,6 +1,7 @@
 -- The names of a problem: those of its domain, and its objects.
-use Rattle.std.specs.Prelude.{ℕ, Bool, true, false, if◌then◌else◌, List}
+use Rattle.std.specs.Prelude.{ℕ, Bool, true, false, if◌then◌else◌, List, length, nat_lt}
 use Rattle.sexpr_text.specs.Trees.{Trees, nothing, word, list}
+use Rattle.task_model.specs.declared.domain.Declared as declared
 use Rattle.task_model.specs.declared.domain.Domain.{Domain}
 use Rattle.form_reader.specs.declared.groups.Spot.TheVariants.{Start}
 use Rattle.form_reader.specs.declared.items.Item.{Item}
@@ -32,3 +33,7 @@ with_objects v body = record v { objects = object_names_in v.objects body }
 -- the names of a problem of this domain with these items: the domain's, and behind its constants the objects
 abbrev pub problem_names : Domain → Trees → Vocabulary
 problem_names d body = with_objects (vocabulary_of d) body
+
+-- a constant that has a type
+abbrev pub has_type : declared.Declared → Bool
+has_type constant = nat_lt 0 (length constant.sorts)

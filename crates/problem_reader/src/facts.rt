@@ -1,4 +1,4 @@
-//! What is true at first, and the values of functions.
+//! The values of functions.
 ghost use Rattle.std.specs.Prelude.{◌≡◌, IfOk};
 ghost use Rattle.sexpr_text.specs.Trees.{trees};
 ghost use Rattle.problem_reader.specs.Problems as specs;
@@ -9,10 +9,14 @@ use form_reader::{head_of, tail_of};
 use name_tables::{NameTable, Vocabulary, declared_place, number};
 use sexpr_text::{Front, Tree, front_of};
 use std::alloc::{AllocError, Global};
-use task_model::{Fact, Kind, Obj, Row, Valued};
+use task_model::{Obj, Row, Valued};
 
 /// The objects that the words of a row name.
-fn places_of(alloc: Global, objects: &NameTable, items: &[Tree]) -> Result<Row, AllocError>
+pub(crate) fn places_of(
+    alloc: Global,
+    objects: &NameTable,
+    items: &[Tree],
+) -> Result<Row, AllocError>
     ensures { IfOk result (λ row. row ≡ specs.places_in_row objects.now (trees items.now)) }
 {
     let mut row = Row::empty(alloc);
@@ -30,19 +34,6 @@ fn places_of(alloc: Global, objects: &NameTable, items: &[Tree]) -> Result<Row, 
     }
 }
 
-/// The fact that a list of these trees is.
-fn fact_of(alloc: Global, names: &Vocabulary, items: &[Tree]) -> Result<Fact, AllocError>
-    ensures { IfOk result (λ fact. fact ≡ specs.spelled_fact names.now (trees items.now)) }
-{
-    let name = declared_place(&names.predicates, head_of(items))?;
-    let args = places_of(alloc, &names.objects, tail_of(items))?;
-    Ok(Fact {
-        kind: Kind::Predicate,
-        name,
-        args,
-    })
-}
-
 /// The value that a list of these trees gives a function term.
 fn valued_of(alloc: Global, names: &Vocabulary, items: &[Tree]) -> Result<Valued, AllocError>
     ensures { IfOk result (λ valued. valued ≡ specs.valued_of names.now (trees items.now)) }
@@ -52,30 +43,6 @@ fn valued_of(alloc: Global, names: &Vocabulary, items: &[Tree]) -> Result<Valued
     let args = places_of(alloc, &names.objects, tail_of(term))?;
     let value = value_in(items);
     Ok(Valued { func, args, value })
-}
-
-/// The facts of a row. Fails only where memory is wanting.
-pub(crate) fn facts_of(
-    alloc: Global,
-    names: &Vocabulary,
-    items: &[Tree],
-) -> Result<Vec<Fact>, AllocError>
-    ensures { IfOk result (λ list. list.items ≡ specs.facts_of names.now (trees items.now)) }
-{
-    let mut list = Vec::new(alloc);
-    let mut left = items;
-    'facts: loop {
-        match front_of(left) {
-            Front::End => return Ok(list),
-            Front::Word { rest, .. } => left = rest,
-            Front::List { items, rest, .. } => {
-                if !is_worth(items) {
-                    list.push(fact_of(alloc, names, items)?)?;
-                }
-                left = rest;
-            }
-        }
-    }
 }
 
 /// The values of a row. Fails only where memory is wanting.

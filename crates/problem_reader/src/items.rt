@@ -1,16 +1,28 @@
-//! The name faults of a problem's items.
+//! The name faults of a problem's items, and its first facts.
 #![tactic(auto, using(form_reader::proofs::FaultsFirstLemmas::first_append))]
 
-ghost use Rattle.std.specs.Prelude.{◌≡◌, IfOk};
+ghost use Rattle.std.specs.Prelude.{◌≡◌, ◌++◌, ◌||◌, true, IfOk, OnOk};
 ghost use Rattle.sexpr_text.specs.Trees.{trees};
 ghost use Rattle.form_reader.specs.Faults.{first};
 ghost use Rattle.problem_reader.specs.Names as specs;
+ghost use Rattle.problem_reader.specs.Problems as problems;
+ghost use Rattle.problem_reader.specs.Values.{is_init};
 
+use crate::atoms::{Setting, check_atom};
 use form_reader::{Fault, InputKind, Item, TextKind, head_of, tail_of};
 use name_tables::{Scope, Vocabulary, check_application, check_conditions, check_types, unless};
 use sexpr_text::{Front, Tree, front_of};
 use std::alloc::{AllocError, Global};
-use task_model::{Domain, Role};
+use task_model::Fact;
+
+/// The facts of the first `:init`.
+#[derive(Drop)]
+pub(crate) struct Held {
+    /// The facts.
+    pub(crate) facts: Vec<Fact>,
+    /// Whether there was an `:init`.
+    pub(crate) begun: bool,
+}
 
 /// The name behind `:domain` is the domain's.
 fn check_domain(name: &[u8], items: &[Tree], so_far: Option<Fault>) -> Option<Fault>
@@ -29,44 +41,6 @@ pub(crate) fn is_worth(items: &[Tree]) -> bool
     ensures { result ≡ specs.is_worth (trees items.now) }
 {
     head_of(items) == b"=".as_slice()
-}
-
-/// Whether a predicate is derived, by its place.
-fn is_derived_at(roles: &[Role], place: Option<usize>) -> bool
-    ensures { result ≡ specs.is_derived_at roles.now place }
-{
-    match place {
-        None => false,
-        Some(place) => match roles.get(place) {
-            Some(Role::Derived) => true,
-            Some(Role::Static | Role::Fluent) | None => false,
-        },
-    }
-}
-
-/// An atom that is true at first, as the list at this place.
-fn check_atom(
-    alloc: Global,
-    names: &Vocabulary,
-    roles: &[Role],
-    place: usize,
-    items: &[Tree],
-    so_far: Option<Fault>,
-) -> Result<Option<Fault>, AllocError>
-    ensures { IfOk result (λ f. f ≡ first so_far
-        (specs.atom_names names.now roles.now place (trees items.now))) }
-{
-    let scope = Scope::new(alloc);
-    let used = check_application(
-        &names.predicates,
-        &names.objects,
-        &scope,
-        place,
-        items,
-        so_far,
-    )?;
-    let derived = is_derived_at(roles, names.predicates.place_of(head_of(items)));
-    Ok(unless(!derived, InputKind::EffectOnStatic, place, used))
 }
 
 /// The function term that stands first in a row.
@@ -94,35 +68,38 @@ fn check_worth(
     }
 }
 
-/// A fact, as the list at this place.
+/// A fact, as the list at this place, which stands behind the facts then if it is an atom.
 fn check_fact(
-    alloc: Global,
-    names: &Vocabulary,
-    roles: &[Role],
+    setting: &Setting<'_>,
     place: usize,
     items: &[Tree],
     so_far: Option<Fault>,
+    facts: &mut Vec<Fact>,
 ) -> Result<Option<Fault>, AllocError>
-    ensures { IfOk result (λ f. f ≡ first so_far
-        (specs.fact_names names.now roles.now place (trees items.now))) }
+    ensures faults { IfOk result (λ f. f ≡ first so_far
+        (specs.fact_names setting.now.names.now setting.now.domain.now.roles place
+        (trees items.now))) }
+    ensures facts { OnOk result (facts.new.items
+        ≡ facts.old.items ++ problems.fact_if_atom setting.now.names.now (trees items.now)) }
 {
     if is_worth(items) {
-        check_worth(alloc, names, tail_of(items), so_far)
+        check_worth(setting.alloc, setting.names, tail_of(items), so_far)
     } else {
-        check_atom(alloc, names, roles, place, items, so_far)
+        check_atom(setting, place, items, so_far, facts)
     }
 }
 
-/// Facts in a row.
+/// Facts in a row, and behind the facts so far the atoms among them.
 fn check_facts(
-    alloc: Global,
-    names: &Vocabulary,
-    roles: &[Role],
+    setting: &Setting<'_>,
     items: &[Tree],
     so_far: Option<Fault>,
+    facts: &mut Vec<Fact>,
 ) -> Result<Option<Fault>, AllocError>
-    ensures { IfOk result (λ f. f ≡ first so_far
-        (specs.facts_names names.now roles.now (trees items.now))) }
+    ensures faults { IfOk result (λ f. f ≡ first so_far
+        (specs.facts_names setting.now.names.now setting.now.domain.now.roles (trees items.now))) }
+    ensures facts { OnOk result (facts.new.items
+        ≡ facts.old.items ++ problems.facts_of setting.now.names.now (trees items.now)) }
 {
     let mut left = items;
     let mut found = so_far;
@@ -131,11 +108,35 @@ fn check_facts(
             Front::End => return Ok(found),
             Front::Word { rest, .. } => left = rest,
             Front::List { items, place, rest } => {
-                found = check_fact(alloc, names, roles, place, items, found)?;
+                found = check_fact(setting, place, items, found, facts)?;
                 left = rest;
             }
         }
     }
+}
+
+/// The facts of an `:init`, which are held if it is the first.
+#[tactic(auto, using(lemmas::proofs::Members::take_append))]
+fn check_init(
+    setting: &Setting<'_>,
+    items: &[Tree],
+    so_far: Option<Fault>,
+    held: &mut Held,
+) -> Result<Option<Fault>, AllocError>
+    ensures faults { IfOk result (λ f. f ≡ first so_far
+        (specs.facts_names setting.now.names.now setting.now.domain.now.roles (trees items.now))) }
+    ensures begun { OnOk result (held.new.begun ≡ true) }
+    ensures facts { OnOk result (held.new.facts.items
+        ≡ problems.facts_with setting.now.names.now held.old.begun true held.old.facts.items
+        (trees items.now)) }
+{
+    let before = held.facts.len();
+    let found = check_facts(setting, items, so_far, &mut held.facts)?;
+    if held.begun {
+        held.facts.truncate(before);
+    }
+    held.begun = true;
+    Ok(found)
 }
 
 /// The goal.
@@ -151,22 +152,31 @@ fn check_goal(
     check_conditions(alloc, names, &mut scope, items, so_far)
 }
 
-/// What stands behind the first word of an item.
+/// What stands behind the first word of an item, and the facts that are held behind it.
 fn check_body(
-    alloc: Global,
-    names: &Vocabulary,
-    domain: &Domain,
+    setting: &Setting<'_>,
     item: Item,
     items: &[Tree],
     so_far: Option<Fault>,
+    held: &mut Held,
 ) -> Result<Option<Fault>, AllocError>
-    ensures { IfOk result (λ f. f ≡ first so_far
-        (specs.problem_body_names names.now domain.now item (trees items.now))) }
+    ensures faults { IfOk result (λ f. f ≡ first so_far
+        (specs.problem_body_names setting.now.names.now setting.now.domain.now item
+        (trees items.now))) }
+    ensures begun { OnOk result (held.new.begun ≡ (held.old.begun || is_init item)) }
+    ensures facts { OnOk result (held.new.facts.items
+        ≡ problems.facts_with setting.now.names.now held.old.begun (is_init item)
+        held.old.facts.items (trees items.now)) }
 {
+    let Setting {
+        alloc,
+        domain,
+        names,
+    } = *setting;
     match item {
         Item::Domain => Ok(check_domain(domain.name.bytes(), items, so_far)),
         Item::Objects => Ok(check_types(&names.sorts, items, so_far)),
-        Item::Init => check_facts(alloc, names, domain.roles.as_slice(), items, so_far),
+        Item::Init => check_init(setting, items, so_far, held),
         Item::Goal => check_goal(alloc, names, items, so_far),
         Item::Requirements
         | Item::Metric
@@ -183,16 +193,21 @@ fn check_body(
     }
 }
 
-/// The items of a problem. Fails only where memory is wanting.
+/// The items of a problem, and the facts of the first `:init` among them, if there was none before.
+/// Fails only where memory is wanting.
+#[tactic(auto, using(form_reader::proofs::FaultsFirstLemmas::first_append, crate::proofs::HeldLemmas::held_end, crate::proofs::HeldLemmas::held_next))]
 pub(crate) fn check_items(
-    alloc: Global,
-    names: &Vocabulary,
-    domain: &Domain,
+    setting: &Setting<'_>,
     items: &[Tree],
     so_far: Option<Fault>,
+    held: &mut Held,
 ) -> Result<Option<Fault>, AllocError>
-    ensures { IfOk result (λ f. f ≡ first so_far
-        (specs.problem_items_names names.now domain.now (trees items.now))) }
+    ensures faults { IfOk result (λ f. f ≡ first so_far
+        (specs.problem_items_names setting.now.names.now setting.now.domain.now
+        (trees items.now))) }
+    ensures facts { OnOk result (held.new.facts.items
+        ≡ problems.first_facts setting.now.names.now held.old.begun held.old.facts.items
+        (trees items.now)) }
 {
     let mut left = items;
     let mut found = so_far;
@@ -202,7 +217,7 @@ pub(crate) fn check_items(
             Front::Word { rest, .. } => left = rest,
             Front::List { items, rest, .. } => {
                 let item = TextKind::Problem.item_of(head_of(items));
-                found = check_body(alloc, names, domain, item, tail_of(items), found)?;
+                found = check_body(setting, item, tail_of(items), found, held)?;
                 left = rest;
             }
         }

@@ -1,76 +1,41 @@
 //! A problem, from its tree.
-ghost use Rattle.std.specs.Prelude.{◌≡◌, IfOk, OnOk};
+ghost use Rattle.std.specs.Prelude.{◌≡◌, IfOk};
 ghost use Rattle.sexpr_text.specs.Trees.{tree, trees};
+ghost use Rattle.name_tables.specs.Texts.{body_of as body_in};
 ghost use Rattle.problem_reader.specs.Problems as specs;
 
-use crate::facts::{facts_of, valueds_of};
-use crate::tables::is_objects;
+use crate::atoms::Setting;
+use crate::facts::valueds_of;
+use crate::objects::objects_of;
 use crate::values::is_init;
 use domain_reader::name_of;
 use form_reader::{Item, TextKind, head_of, tail_of};
-use name_tables::{NameTable, Scope, TypedNames, Vocabulary, body_of, declare_groups, single_of};
+use name_tables::{NumberLists, Scope, Vocabulary, body_of, declared_of, single_of};
 use sexpr_text::{Front, Tree, front_of};
 use std::alloc::{AllocError, Global};
-use task_model::{Declared, Domain, Formula, Name, Problem, Seq};
+use task_model::{Declared, Fact, Formula, Name, Problem, Seq};
 
-/// Declares a name with each of these types.
-fn declare_all(names: &mut TypedNames, name: &[u8], sorts: &[u32]) -> Result<(), AllocError>
-    ensures { OnOk result (names.new ≡ specs.declare_all names.old name.now sorts.now) }
-{
-    for sort in sorts {
-        names.declare(name, *sort)?;
-    }
-    Ok(())
-}
-
-/// Declares constants with their types.
-fn declare_constants(names: &mut TypedNames, constants: &[Declared]) -> Result<(), AllocError>
-    ensures { OnOk result (names.new ≡ specs.constants_typed names.old constants.now) }
-{
-    for constant in constants {
-        declare_all(names, constant.name.bytes(), constant.sorts.as_slice())?;
-    }
-    Ok(())
-}
-
-/// Declares the objects of items with their types.
-fn declare_objects(
-    alloc: Global,
-    sorts: &NameTable,
-    names: &mut TypedNames,
-    items: &[Tree],
-) -> Result<(), AllocError>
-    ensures { OnOk result (names.new ≡ specs.objects_typed sorts.now names.old (trees items.now)) }
-{
-    let mut left = items;
-    'items: loop {
-        match front_of(left) {
-            Front::End => return Ok(()),
-            Front::Word { rest, .. } => left = rest,
-            Front::List { items, rest, .. } => {
-                if is_objects(TextKind::Problem.item_of(head_of(items))) {
-                    declare_groups(alloc, names, sorts, tail_of(items))?;
-                }
-                left = rest;
-            }
-        }
-    }
-}
-
-/// The constants and the objects with their types.
-fn objects_of(
-    alloc: Global,
-    domain: &Domain,
-    sorts: &NameTable,
+/// The constants and the objects with their types, which may be kept. Fails only where memory is
+/// wanting.
+fn declared_by(
+    setting: &Setting<'_>,
+    kept: &Option<NumberLists>,
     body: &[Tree],
 ) -> Result<Vec<Declared>, AllocError>
-    ensures { IfOk result (λ list. list.items
-        ≡ specs.declared_objects domain.now sorts.now (trees body.now)) }
+    requires { specs.AreTypesOf setting.now.domain.now setting.now.names.now (trees body.now)
+        kept.now }
+    ensures { IfOk result (λ list. list.items ≡ specs.declared_objects setting.now.domain.now
+        setting.now.names.now.sorts (trees body.now)) }
 {
-    let mut names = TypedNames::new(alloc);
-    declare_constants(&mut names, domain.constants.as_slice())?;
-    declare_objects(alloc, sorts, &mut names, body)?;
-    names.to_declared()
+    let Setting {
+        alloc,
+        domain,
+        names,
+    } = *setting;
+    match kept {
+        Some(sorts) => declared_of(alloc, &names.objects, sorts),
+        None => objects_of(alloc, domain, &names.sorts, body)?.to_declared(),
+    }
 }
 
 /// What stands behind the word `:init` of the first such item.
@@ -152,21 +117,25 @@ fn condition_of(alloc: Global, names: &Vocabulary, items: &[Tree]) -> Result<For
     single_of(alloc, names, &mut scope, items)
 }
 
-/// The problem that a text spells. Fails only where memory is wanting.
+/// The problem that a text spells, whose first facts these are. Fails only where memory is wanting.
 pub(crate) fn problem_of(
-    alloc: Global,
-    domain: &Domain,
-    names: &Vocabulary,
+    setting: &Setting<'_>,
+    kept: &Option<NumberLists>,
     text: &Tree,
+    facts: Vec<Fact>,
 ) -> Result<Problem, AllocError>
-    ensures { IfOk result (λ p. p ≡ specs.problem_by domain.now names.now (tree text.now)) }
+    requires types { specs.AreTypesOf setting.now.domain.now setting.now.names.now
+        (body_in (tree text.now)) kept.now }
+    requires facts { facts.items
+        ≡ specs.facts_of setting.now.names.now (specs.init_of (body_in (tree text.now))) }
+    ensures { IfOk result (λ p. p
+        ≡ specs.problem_by setting.now.domain.now setting.now.names.now (tree text.now)) }
 {
+    let Setting { alloc, names, .. } = *setting;
     let body = body_of(text);
-    let init = init_of(body);
     let name = Name::from_slice(alloc, name_of(text))?;
-    let objects = objects_of(alloc, domain, &names.sorts, body)?;
-    let facts = facts_of(alloc, names, init)?;
-    let values = valueds_of(alloc, names, init)?;
+    let objects = declared_by(setting, kept, body)?;
+    let values = valueds_of(alloc, names, init_of(body))?;
     let goal = condition_of(alloc, names, goal_of(body))?;
     Ok(Problem {
         name,

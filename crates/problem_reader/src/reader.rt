@@ -1,37 +1,69 @@
 //! Problems, from trees.
-ghost use Rattle.std.specs.Prelude.{◌≡◌, IfOk};
+ghost use Rattle.std.specs.Prelude.{◌≡◌, IfOk, OnOk};
 ghost use Rattle.sexpr_text.specs.Trees.{tree, trees};
 ghost use Rattle.form_reader.specs.Faults.{least_fault};
 ghost use Rattle.name_tables.specs.Sizes.{IsBoundedTree};
+ghost use Rattle.name_tables.specs.Texts.{body_of as body_in};
 ghost use Rattle.problem_reader.specs.Fitness.{IsFitOver, IsFitRead};
 ghost use Rattle.problem_reader.specs.Problems as specs;
+ghost use Rattle.problem_reader.specs.Tables.{problem_names};
 
-use crate::items::check_items;
+use crate::atoms::Setting;
+use crate::items::{Held, check_items};
 use crate::problem::problem_of;
-use crate::tables::names_of;
+use crate::tables::put_objects;
 use crate::values::check_values;
 use domain_reader::check_second_items;
 use form_reader::{Fault, InputFault, TextKind, check_form};
-use name_tables::{Vocabulary, body_of};
+use name_tables::{NumberLists, Vocabulary, body_of};
 use sexpr_text::Tree;
 use std::alloc::{AllocError, Global};
 use task_model::{Domain, Problem};
 
-/// The name fault that is answered of a problem with these names and items, if it has one. Fails
-/// only where memory is wanting.
+/// The name fault that is answered of a problem with these names and items, if it has one; and the
+/// facts of its first `:init`, of which none are held before. Fails only where memory is wanting.
 #[tactic(auto, using(form_reader::proofs::FaultsFirstLemmas::first_append))]
 fn check_names(
-    alloc: Global,
-    domain: &Domain,
-    names: &Vocabulary,
+    setting: &Setting<'_>,
     body: &[Tree],
+    held: &mut Held,
 ) -> Result<Option<Fault>, AllocError>
-    ensures { IfOk result (λ f. f ≡ least_fault
-        (specs.names_faults domain.now names.now (trees body.now))) }
+    ensures faults { IfOk result (λ f. f ≡ least_fault
+        (specs.names_faults setting.now.domain.now setting.now.names.now (trees body.now))) }
+    ensures facts { OnOk result (held.new.facts.items
+        ≡ specs.first_facts setting.now.names.now held.old.begun held.old.facts.items
+        (trees body.now)) }
 {
-    let used = check_items(alloc, names, domain, body, None)?;
-    let single = check_second_items(alloc, TextKind::Problem, body, used)?;
-    check_values(alloc, body, single)
+    let used = check_items(setting, body, None, held)?;
+    let single = check_second_items(setting.alloc, TextKind::Problem, body, used)?;
+    check_values(setting.alloc, body, single)
+}
+
+/// The problem, or its name fault that is answered, where its names are known, and perhaps the types
+/// of its objects. Fails only where memory is wanting.
+fn read_set(
+    setting: &Setting<'_>,
+    kept: &Option<NumberLists>,
+    text: &Tree,
+) -> Result<Result<Problem, Fault>, AllocError>
+    requires names { setting.now.names.now
+        ≡ problem_names setting.now.domain.now (body_in (tree text.now)) }
+    requires types { specs.AreTypesOf setting.now.domain.now setting.now.names.now
+        (body_in (tree text.now)) kept.now }
+    ensures { IfOk result (λ r. specs.ProblemReadsNamed setting.now.domain.now (tree text.now) r) }
+{
+    let mut held = Held {
+        facts: Vec::new(setting.alloc),
+        begun: false,
+    };
+    match check_names(setting, body_of(text), &mut held)? {
+        Some(fault) => Ok(Err(fault)),
+        None => {
+            let Held { facts, .. } = held;
+            let problem = problem_of(setting, kept, text, facts)?;
+            Ok(Ok(problem))
+        }
+    }
 }
 
 /// The problem, or its name fault that is answered. Fails only where memory is wanting.
@@ -42,15 +74,14 @@ fn read_named(
 ) -> Result<Result<Problem, Fault>, AllocError>
     ensures { IfOk result (λ r. specs.ProblemReadsNamed domain.now (tree text.now) r) }
 {
-    let body = body_of(text);
-    let names = names_of(alloc, domain, body)?;
-    match check_names(alloc, domain, &names, body)? {
-        Some(fault) => Ok(Err(fault)),
-        None => {
-            let problem = problem_of(alloc, domain, &names, text)?;
-            Ok(Ok(problem))
-        }
-    }
+    let mut names = Vocabulary::of(alloc, domain)?;
+    let kept = put_objects(alloc, domain, &mut names, body_of(text))?;
+    let setting = Setting {
+        alloc,
+        domain,
+        names: &names,
+    };
+    read_set(&setting, &kept, text)
 }
 
 /// The problem, or the fault that is answered.

@@ -1,14 +1,18 @@
 //! The names of a problem: those of its domain, and its objects.
 ghost use Rattle.std.specs.Prelude.{◌≡◌, IfOk, OnOk};
+ghost use Rattle.std.specs.List.{list_all};
 ghost use Rattle.sexpr_text.specs.Trees.{trees};
+ghost use Rattle.name_tables.specs.Vocabulary.{vocabulary_of};
+ghost use Rattle.problem_reader.specs.Problems as problems;
 ghost use Rattle.problem_reader.specs.Tables as specs;
 
+use crate::objects::objects_of;
 use domain_reader::add_named;
 use form_reader::{Item, TextKind, head_of, tail_of};
-use name_tables::{NameTable, Vocabulary};
+use name_tables::{NameTable, NumberLists, Vocabulary};
 use sexpr_text::{Front, Tree, front_of};
 use std::alloc::{AllocError, Global};
-use task_model::Domain;
+use task_model::{Declared, Domain};
 
 /// Whether the item declares objects.
 pub(crate) fn is_objects(item: Item) -> bool
@@ -36,16 +40,40 @@ fn add_objects(names: &mut NameTable, items: &[Tree]) -> Result<(), AllocError>
     }
 }
 
-/// The names of a problem with these items: those of its domain, and behind the constants the
-/// objects. Fails only where memory is wanting.
-pub(crate) fn names_of(
+/// Whether a constant has a type.
+fn has_type(constant: &Declared) -> bool
+    ensures { result ≡ specs.has_type constant.now }
+{
+    0 < constant.sorts.len()
+}
+
+/// Whether each constant has a type, as in a domain that was read.
+fn have_types(constants: &[Declared]) -> bool
+    ensures { result ≡ list_all specs.has_type constants.now }
+{
+    constants.iter().all(|constant| has_type(constant))
+}
+
+/// Puts the objects behind the constants of a domain's names. The types of all of them, at the places
+/// of their names, are kept where each constant has one. Fails only where memory is wanting.
+pub(crate) fn put_objects(
     alloc: Global,
     domain: &Domain,
+    names: &mut Vocabulary,
     body: &[Tree],
-) -> Result<Vocabulary, AllocError>
-    ensures { IfOk result (λ names. names ≡ specs.problem_names domain.now (trees body.now)) }
+) -> Result<Option<NumberLists>, AllocError>
+    requires { names.old ≡ vocabulary_of domain.now }
+    ensures names { OnOk result (names.new ≡ specs.problem_names domain.now (trees body.now)) }
+    ensures types { IfOk result
+        (λ kept. problems.AreTypesOf domain.now names.new (trees body.now) kept) }
 {
-    let mut names = Vocabulary::of(alloc, domain)?;
-    add_objects(&mut names.objects, body)?;
-    Ok(names)
+    if have_types(domain.constants.as_slice()) {
+        let typed = objects_of(alloc, domain, &names.sorts, body)?;
+        let (objects, sorts) = typed.into_parts();
+        names.objects = objects;
+        Ok(Some(sorts))
+    } else {
+        add_objects(&mut names.objects, body)?;
+        Ok(None)
+    }
 }

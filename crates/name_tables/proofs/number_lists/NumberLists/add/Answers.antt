@@ -13,5 +13,5 @@ returns-in_ok-push c =
     let lt : c.args.place < length lists = omega (arith, c.if-place-len.true, c.len.ensures) in
     put_seen (λ v. ascending [] v.items) lists c.args.place c.args.number old c.push.new.self
     (get_some lists c.args.place old lt c.index_mut.ensures.value)
-    (ap (ascending []) c.in_ok-push.ensures.items ∙ ascending_push [] old.items c.args.number)
+    (ap (ascending []) c.in_ok-push.ensures.ok ∙ ascending_push [] old.items c.args.number)
     ∙ ap (λ ls. number_put ls c.args.place c.args.number) c.self.view_is

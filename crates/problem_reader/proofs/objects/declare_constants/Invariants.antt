@@ -1,6 +1,6 @@
 use Rattle.std.proofs.Common.{◌≡◌, drop}
 use Rattle.problem_reader.specs.Problems.{constants_typed}
-use Rattle.problem_reader.proofs.problem.declare_constants.Given as goal
+use Rattle.problem_reader.proofs.objects.declare_constants.Given as goal
 
 abbrev pub invariant-loop-constant : goal.invariant-loop-constant
 invariant-loop-constant l =

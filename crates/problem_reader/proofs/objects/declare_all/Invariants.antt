@@ -1,6 +1,6 @@
 use Rattle.std.proofs.Common.{◌≡◌, drop}
 use Rattle.problem_reader.specs.Problems.{declare_all}
-use Rattle.problem_reader.proofs.problem.declare_all.Given as goal
+use Rattle.problem_reader.proofs.objects.declare_all.Given as goal
 
 abbrev pub invariant-loop-sort : goal.invariant-loop-sort
 invariant-loop-sort l =

@@ -2,7 +2,7 @@ use Rattle.std.proofs.Common.{◌≡◌}
 use Rattle.sexpr_text.specs.Trees.{trees}
 use Rattle.form_reader.specs.Rows.{count}
 use Rattle.problem_reader.specs.Problems.{objects_typed}
-use Rattle.problem_reader.proofs.problem.declare_objects.Given as goal
+use Rattle.problem_reader.proofs.objects.declare_objects.Given as goal
 
 abbrev pub invariant-items : goal.invariant-items
 invariant-items l =
