@@ -1,4 +1,5 @@
 pub mod Laws
 pub mod Remembered
 pub mod Rests
+pub mod Scenes
 pub mod Tries

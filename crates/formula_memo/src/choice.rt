@@ -1,7 +1,6 @@
 //! Which lead is taken to the objects of a variable: the one with the fewest places.
 ghost use Rattle.std.specs.Prelude.{◌≡◌, true, IfSome, Some, slice_get};
 ghost use Rattle.std.specs.List.{list_all};
-ghost use Rattle.task_model.specs.Fit.{IsFit};
 ghost use Rattle.task_model.specs.declared.condition.Term.TheVariants.{Slot};
 ghost use Rattle.formula_eval.specs.Readable.{is_readable, is_readable_term};
 ghost use Rattle.formula_memo.specs.Tries.{IsInFacts, IsTryLead};
@@ -60,7 +59,6 @@ fn lead_by<'a, L: Look>(
     condition: &'a Formula,
     env: &Env,
 ) -> Option<Lead<'a>>
-    requires fit { IsFit scene.now.task.now }
     requires readable { is_readable scene.now.task.now.domain condition.now ≡ true }
     ensures { IfSome result (IsTryLead scene.now.task.now.domain condition.now slot env.now) }
 {
@@ -98,7 +96,6 @@ pub(crate) fn lead_for<'a, L: Look>(
     condition: &'a Formula,
     env: &Env,
 ) -> Option<Lead<'a>>
-    requires fit { IsFit scene.now.task.now }
     requires readable { is_readable scene.now.task.now.domain condition.now ≡ true }
     ensures { IfSome result (IsTryLead scene.now.task.now.domain condition.now slot env.now) }
 {

@@ -1,19 +1,16 @@
 //! Truth of conditions, where derived atoms are remembered.
-ghost use Rattle.std.specs.Prelude.{◌≡◌, ◌+◌, ◌≤◌, ◌<◌, ◌∷◌, ℕ, suc, length, true, Contains, IfOk, slice_set};
+ghost use Rattle.std.specs.Prelude.{◌≡◌, ◌+◌, ◌<◌, ◌∷◌, suc, length, true, Contains, IfOk, slice_set};
 ghost use Rattle.task_model.specs.Condition.{parts_of};
-ghost use Rattle.task_model.specs.Fit.{IsFit};
 ghost use Rattle.task_model.specs.Roles.{role_of};
-ghost use Rattle.task_model.specs.Truth.{is_true};
 ghost use Rattle.task_model.specs.declared.domain.Role.TheVariants as role;
-ghost use Rattle.formula_eval.specs.Judged.{all_at, any_at, some_at, derived_at, is_item_true};
 ghost use Rattle.formula_eval.specs.Readable.{is_readable, are_readable};
-ghost use Rattle.formula_memo.specs.Remembered.{StandsFor, truth_of};
 ghost use Rattle.formula_memo.specs.Rests.{AllRest, PartsRest, RestsWithin};
+ghost use Rattle.formula_memo.specs.Scenes.{CanSeek, IsSameBut, StandsIn, are_true_in, follows_in, is_any_in, is_derived_in, is_some_in, is_true_in, truth_in};
 ghost use Rattle.formula_memo.specs.Tries.{is_passed};
 
 use crate::choice::lead_for;
 use crate::memo::Memo;
-use crate::scene::Scene;
+use crate::scene::{Scene, Sought};
 use crate::tries::{places, tried_object};
 use formula_eval::{Env, have_types, object_of, objects_at};
 use std::alloc::AllocError;
@@ -28,16 +25,13 @@ pub(crate) fn truth<L: Look>(
     formula: &Formula,
     env: &mut Env,
 ) -> Result<bool, AllocError>
-    requires fit { IsFit scene.now.task.now }
     requires readable { is_readable scene.now.task.now.domain formula.now ≡ true }
     requires rests { AllRest scene.now.task.now.domain depth formula.now }
-    requires stands { StandsFor scene.now.task.now.domain (L.known scene.now.look.now)
-        scene.now.state.now memo.old }
-    ensures value { IfOk result (λ value. value ≡ is_true scene.now.task.now.domain
-        (L.known scene.now.look.now) scene.now.state.now formula.now env.old) }
+    requires stands { StandsIn scene.now memo.old }
+    ensures value { IfOk result
+        (λ value. value ≡ is_true_in scene.now formula.now env.old) }
     ensures same { env.new ≡ env.old }
-    ensures stands { StandsFor scene.now.task.now.domain (L.known scene.now.look.now)
-        scene.now.state.now memo.new }
+    ensures stands { StandsIn scene.now memo.new }
 {
     match &formula.node {
         FormulaNode::Atom { pred, args } => {
@@ -51,8 +45,12 @@ pub(crate) fn truth<L: Look>(
         FormulaNode::Any(parts) => any_true(scene, memo, depth, parts.as_slice(), env),
         FormulaNode::Not(part) => Ok(!truth(scene, memo, depth, part, env)?),
         FormulaNode::Exists { first, sorts, body } => {
-            let sorts = sorts.as_slice();
-            some_tuple(scene, memo, depth, *first, sorts, body, env)
+            let left = Sought {
+                first: *first,
+                sorts: sorts.as_slice(),
+                body,
+            };
+            some_tuple(scene, memo, depth, &left, env)
         }
     }
 }
@@ -66,17 +64,13 @@ fn all_true<L: Look>(
     parts: &[Formula],
     env: &mut Env,
 ) -> Result<bool, AllocError>
-    requires fit { IsFit scene.now.task.now }
     requires readable { are_readable scene.now.task.now.domain (parts_of parts.now) ≡ true }
     requires rests { PartsRest scene.now.task.now.domain depth (parts_of parts.now) }
-    requires stands { StandsFor scene.now.task.now.domain (L.known scene.now.look.now)
-        scene.now.state.now memo.old }
-    ensures value { IfOk result (λ value. value ≡ all_at scene.now.task.now.domain
-        (L.known scene.now.look.now) scene.now.state.now
-        (length scene.now.task.now.domain.derived) (parts_of parts.now) env.old) }
+    requires stands { StandsIn scene.now memo.old }
+    ensures value { IfOk result
+        (λ value. value ≡ are_true_in scene.now (parts_of parts.now) env.old) }
     ensures same { env.new ≡ env.old }
-    ensures stands { StandsFor scene.now.task.now.domain (L.known scene.now.look.now)
-        scene.now.state.now memo.new }
+    ensures stands { StandsIn scene.now memo.new }
 {
     for part in parts {
         let is_true = truth(scene, memo, depth, part, env)?;
@@ -96,17 +90,13 @@ fn any_true<L: Look>(
     parts: &[Formula],
     env: &mut Env,
 ) -> Result<bool, AllocError>
-    requires fit { IsFit scene.now.task.now }
     requires readable { are_readable scene.now.task.now.domain (parts_of parts.now) ≡ true }
     requires rests { PartsRest scene.now.task.now.domain depth (parts_of parts.now) }
-    requires stands { StandsFor scene.now.task.now.domain (L.known scene.now.look.now)
-        scene.now.state.now memo.old }
-    ensures value { IfOk result (λ value. value ≡ any_at scene.now.task.now.domain
-        (L.known scene.now.look.now) scene.now.state.now
-        (length scene.now.task.now.domain.derived) (parts_of parts.now) env.old) }
+    requires stands { StandsIn scene.now memo.old }
+    ensures value { IfOk result
+        (λ value. value ≡ is_any_in scene.now (parts_of parts.now) env.old) }
     ensures same { env.new ≡ env.old }
-    ensures stands { StandsFor scene.now.task.now.domain (L.known scene.now.look.now)
-        scene.now.state.now memo.new }
+    ensures stands { StandsIn scene.now memo.new }
 {
     for part in parts {
         let is_true = truth(scene, memo, depth, part, env)?;
@@ -117,70 +107,62 @@ fn any_true<L: Look>(
     Ok(false)
 }
 
-/// Whether some objects of these types, put into the slots from `first` on, make the body true.
+/// Whether some objects of the types that are left, put into the slots that are left, make the body
+/// true.
 #[cycle(truth)]
 fn some_tuple<L: Look>(
     scene: &Scene<'_, L>,
     memo: &mut Memo,
     depth: usize,
-    first: u8,
-    sorts: &[u32],
-    body: &Formula,
+    left: &Sought<'_>,
     env: &mut Env,
 ) -> Result<bool, AllocError>
-    requires fit { IsFit scene.now.task.now }
-    requires slots { first + length sorts.now ≤ 16 }
-    requires readable { is_readable scene.now.task.now.domain body.now ≡ true }
-    requires rests { AllRest scene.now.task.now.domain depth body.now }
-    requires stands { StandsFor scene.now.task.now.domain (L.known scene.now.look.now)
-        scene.now.state.now memo.old }
-    ensures value { IfOk result (λ value. value ≡ some_at scene.now.task.now.domain
-        (L.known scene.now.look.now) scene.now.state.now
-        (length scene.now.task.now.domain.derived) first sorts.now body.now env.old) }
+    requires seek { CanSeek scene.now.task.now.domain depth left.now.first
+        (length left.now.sorts.now) left.now.body.now }
+    requires stands { StandsIn scene.now memo.old }
+    ensures value { IfOk result (λ value. value ≡ is_some_in scene.now left.now.first
+        left.now.sorts.now left.now.body.now env.old) }
     ensures same { env.new ≡ env.old }
-    ensures stands { StandsFor scene.now.task.now.domain (L.known scene.now.look.now)
-        scene.now.state.now memo.new }
+    ensures stands { StandsIn scene.now memo.new }
 {
-    let Some((sort, rest)) = sorts.split_first() else {
-        return truth(scene, memo, depth, body, env);
+    let Some((sort, rest)) = left.sorts.split_first() else {
+        return truth(scene, memo, depth, left.body, env);
     };
-    let kept = env.get(first);
-    let found = some_object(scene, memo, depth, first, *sort, rest, body, env);
-    env.set(first, kept);
+    let behind = Sought {
+        sorts: rest,
+        ..*left
+    };
+    let kept = env.get(left.first);
+    let found = some_object(scene, memo, depth, *sort, &behind, env);
+    env.set(left.first, kept);
     found
 }
 
-/// Whether some object of this type, put into the slot `first`, and objects of the other types, put
-/// into those behind it, make the body true. The slot may have another object afterwards.
+/// Whether some object of this type, put into the slot `left.first`, and objects of the types that
+/// are left, put into those behind it, make the body true. The slot may have another object
+/// afterwards.
 #[cycle(truth)]
 fn some_object<L: Look>(
     scene: &Scene<'_, L>,
     memo: &mut Memo,
     depth: usize,
-    first: u8,
     sort: u32,
-    rest: &[u32],
-    body: &Formula,
+    left: &Sought<'_>,
     env: &mut Env,
 ) -> Result<bool, AllocError>
-    requires fit { IsFit scene.now.task.now }
-    requires slots { suc (first + length rest.now) ≤ 16 }
-    requires inside { first < length env.old }
-    requires readable { is_readable scene.now.task.now.domain body.now ≡ true }
-    requires rests { AllRest scene.now.task.now.domain depth body.now }
-    requires stands { StandsFor scene.now.task.now.domain (L.known scene.now.look.now)
-        scene.now.state.now memo.old }
-    ensures value { IfOk result (λ value. value ≡ some_at scene.now.task.now.domain
-        (L.known scene.now.look.now) scene.now.state.now
-        (length scene.now.task.now.domain.derived) first (sort ∷ rest.now) body.now env.old) }
-    ensures same { (o : ℕ) → slice_set env.new first o ≡ slice_set env.old first o }
-    ensures stands { StandsFor scene.now.task.now.domain (L.known scene.now.look.now)
-        scene.now.state.now memo.new }
+    requires seek { CanSeek scene.now.task.now.domain depth left.now.first
+        (suc (length left.now.sorts.now)) left.now.body.now }
+    requires inside { left.now.first < length env.old }
+    requires stands { StandsIn scene.now memo.old }
+    ensures value { IfOk result (λ value. value ≡ is_some_in scene.now left.now.first
+        (sort ∷ left.now.sorts.now) left.now.body.now env.old) }
+    ensures same { IsSameBut left.now.first env.old env.new }
+    ensures stands { StandsIn scene.now memo.new }
 {
-    let lead = lead_for(scene, sort, first, body, env);
+    let lead = lead_for(scene, sort, left.first, left.body, env);
     for place in 0..places(scene, sort, &lead) {
-        let tried = tried_object(scene, sort, first, &lead, place, env);
-        let found = passes(scene, memo, depth, first, tried, rest, body, env)?;
+        let tried = tried_object(scene, sort, left.first, &lead, place, env);
+        let found = passes(scene, memo, depth, tried, left, env)?;
         if found {
             return Ok(true);
         }
@@ -188,38 +170,35 @@ fn some_object<L: Look>(
     Ok(false)
 }
 
-/// Whether there is an object that, put into the slot `first`, with objects of the types behind it
-/// makes the body true. The slot may have another object afterwards.
+/// Whether there is an object that, put into the slot `left.first`, with objects of the types that
+/// are left behind it makes the body true. The slot may have another object afterwards.
 #[cycle(truth)]
 fn passes<L: Look>(
     scene: &Scene<'_, L>,
     memo: &mut Memo,
     depth: usize,
-    first: u8,
     tried: Option<Obj>,
-    rest: &[u32],
-    body: &Formula,
+    left: &Sought<'_>,
     env: &mut Env,
 ) -> Result<bool, AllocError>
-    requires fit { IsFit scene.now.task.now }
-    requires slots { suc (first + length rest.now) ≤ 16 }
-    requires readable { is_readable scene.now.task.now.domain body.now ≡ true }
-    requires rests { AllRest scene.now.task.now.domain depth body.now }
-    requires stands { StandsFor scene.now.task.now.domain (L.known scene.now.look.now)
-        scene.now.state.now memo.old }
-    ensures value { IfOk result (λ found. found ≡ is_passed
-        (λ o. some_at scene.now.task.now.domain (L.known scene.now.look.now) scene.now.state.now
-        (length scene.now.task.now.domain.derived) (first + 1) rest.now body.now
-        (slice_set env.old first o)) tried) }
-    ensures same { (o : ℕ) → slice_set env.new first o ≡ slice_set env.old first o }
-    ensures stands { StandsFor scene.now.task.now.domain (L.known scene.now.look.now)
-        scene.now.state.now memo.new }
+    requires seek { CanSeek scene.now.task.now.domain depth left.now.first
+        (suc (length left.now.sorts.now)) left.now.body.now }
+    requires stands { StandsIn scene.now memo.old }
+    ensures value { IfOk result (λ found. found ≡ is_passed (λ o. is_some_in scene.now
+        (left.now.first + 1) left.now.sorts.now left.now.body.now
+        (slice_set env.old left.now.first o)) tried) }
+    ensures same { IsSameBut left.now.first env.old env.new }
+    ensures stands { StandsIn scene.now memo.new }
 {
     let Some(object) = tried else {
         return Ok(false);
     };
-    env.set(first, object);
-    some_tuple(scene, memo, depth, first + 1, rest, body, env)
+    env.set(left.first, object);
+    let behind = Sought {
+        first: left.first + 1,
+        ..*left
+    };
+    some_tuple(scene, memo, depth, &behind, env)
 }
 
 /// Whether the atom is true.
@@ -231,15 +210,12 @@ fn atom<L: Look>(
     pred: u32,
     args: Row,
 ) -> Result<bool, AllocError>
-    requires fit { IsFit scene.now.task.now }
     requires predicate { pred < length scene.now.task.now.domain.predicates }
     requires rests { RestsWithin scene.now.task.now.domain depth pred }
-    requires stands { StandsFor scene.now.task.now.domain (L.known scene.now.look.now)
-        scene.now.state.now memo.old }
-    ensures value { IfOk result (λ value. value ≡ truth_of scene.now.task.now.domain
-        (L.known scene.now.look.now) scene.now.state.now (record { pred = pred; args = args })) }
-    ensures stands { StandsFor scene.now.task.now.domain (L.known scene.now.look.now)
-        scene.now.state.now memo.new }
+    requires stands { StandsIn scene.now memo.old }
+    ensures value { IfOk result
+        (λ value. value ≡ truth_in scene.now (record { pred = pred; args = args })) }
+    ensures stands { StandsIn scene.now memo.new }
 {
     match scene.task.domain.roles.as_slice()[pred as usize] {
         Role::Static => {
@@ -265,15 +241,11 @@ fn derived_atom<L: Look>(
     depth: usize,
     atom: Atom,
 ) -> Result<bool, AllocError>
-    requires fit { IsFit scene.now.task.now }
     requires role { role_of scene.now.task.now.domain atom.pred ≡ role.Derived }
     requires rests { RestsWithin scene.now.task.now.domain depth atom.pred }
-    requires stands { StandsFor scene.now.task.now.domain (L.known scene.now.look.now)
-        scene.now.state.now memo.old }
-    ensures value { IfOk result (λ value. value ≡ truth_of scene.now.task.now.domain
-        (L.known scene.now.look.now) scene.now.state.now atom) }
-    ensures stands { StandsFor scene.now.task.now.domain (L.known scene.now.look.now)
-        scene.now.state.now memo.new }
+    requires stands { StandsIn scene.now memo.old }
+    ensures value { IfOk result (λ value. value ≡ truth_in scene.now atom) }
+    ensures stands { StandsIn scene.now memo.new }
 {
     if let Some(value) = memo.recall(&atom) {
         return Ok(value);
@@ -296,15 +268,10 @@ fn derived<L: Look>(
     pred: u32,
     args: &[Obj],
 ) -> Result<bool, AllocError>
-    requires fit { IsFit scene.now.task.now }
     requires rests { RestsWithin scene.now.task.now.domain (suc depth) pred }
-    requires stands { StandsFor scene.now.task.now.domain (L.known scene.now.look.now)
-        scene.now.state.now memo.old }
-    ensures value { IfOk result (λ value. value ≡ derived_at scene.now.task.now.domain
-        (L.known scene.now.look.now) scene.now.state.now
-        (length scene.now.task.now.domain.derived) pred args.now) }
-    ensures stands { StandsFor scene.now.task.now.domain (L.known scene.now.look.now)
-        scene.now.state.now memo.new }
+    requires stands { StandsIn scene.now memo.old }
+    ensures value { IfOk result (λ value. value ≡ is_derived_in scene.now pred args.now) }
+    ensures stands { StandsIn scene.now memo.new }
 {
     for item in scene.task.domain.derived.as_slice() {
         let follows = follows_by(scene, memo, depth, item, pred, args)?;
@@ -325,16 +292,12 @@ fn follows_by<L: Look>(
     pred: u32,
     args: &[Obj],
 ) -> Result<bool, AllocError>
-    requires fit { IsFit scene.now.task.now }
     requires there { Contains scene.now.task.now.domain.derived item.now }
     requires rests { RestsWithin scene.now.task.now.domain (suc depth) pred }
-    requires stands { StandsFor scene.now.task.now.domain (L.known scene.now.look.now)
-        scene.now.state.now memo.old }
-    ensures value { IfOk result (λ value. value ≡ is_item_true scene.now.task.now.domain
-        (L.known scene.now.look.now) scene.now.state.now
-        (length scene.now.task.now.domain.derived) pred args.now item.now) }
-    ensures stands { StandsFor scene.now.task.now.domain (L.known scene.now.look.now)
-        scene.now.state.now memo.new }
+    requires stands { StandsIn scene.now memo.old }
+    ensures value { IfOk result
+        (λ value. value ≡ follows_in scene.now pred args.now item.now) }
+    ensures stands { StandsIn scene.now memo.new }
 {
     let alloc = scene.state.allocator();
     if item.pred != pred || !have_types(alloc, scene.look, args, item.params.as_slice()) {

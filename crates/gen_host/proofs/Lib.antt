@@ -1,2 +1,3 @@
+pub mod CallsLemmas
 pub mod MembersLemmas
 pub mod MembersIdleLemmas

@@ -1,10 +1,10 @@
 // A host whose children are boxed generators.
 ghost use Rattle.std.proofs.Common.{lit≤};
-ghost use Rattle.std.specs.Prelude.{◌≡◌, ◌≢◌, ◌-◌, ◌*◌, ◌<◌, ◌≤◌, ℕ, ⊤, length, map, take, true, false, None, slice_get, string_bytes, is_ok, option_map, IfOk, MatchResult};
+ghost use Rattle.std.specs.Prelude.{◌≡◌, ◌*◌, ◌<◌, ◌≤◌, ℕ, ⊤, length, take, true, false, None, is_ok, IfOk};
+ghost use Rattle.gen_host.specs.Calls.{CallsMember, CallsOne};
 ghost use Rattle.gen_host.specs.Members.{total, at_members, all_idle};
-ghost use Rattle.io_world.specs.Faults.{last_count, Counts, HasCause};
-ghost use Rattle.io_world.specs.Talks.{Talk, silence, wrote_more, heard_more, started, wrote, heard, stopped, given, Logs, Same, Becomes, Empties, Writes, Hears};
-ghost use Rattle.io_world.specs.declared.host.HostFault.TheVariants.{Failed};
+ghost use Rattle.io_world.specs.Faults.{last_count};
+ghost use Rattle.io_world.specs.Talks.{silence, wrote_more, heard_more};
 ghost use Rattle.io_world.specs.declared.host.TheConstants.{CHILDREN};
 
 use crate::Generator;
@@ -15,12 +15,8 @@ type Member = Box<dyn Generator>;
 fn start(member: &mut Member, argv: &[String]) -> Result<(), HostFault>
     requires words { 0 < length argv.now }
     requires idle { running member.old ≡ false }
-    ensures running { running member.new ≡ is_ok result }
-    ensures spoken { MatchResult result
-        (λ _. spoken member.new ≡ option_map (λ (talk : Talk). silence) (spoken member.old))
-        (λ _. spoken member.new ≡ spoken member.old) }
-    ensures cause { HasCause Failed last_count (faults member.old) (faults member.new) result }
-    ensures counts { Counts Failed last_count (faults member.old) (faults member.new) result }
+    ensures { CallsOne (λ b. running b) (λ b. spoken b) (λ b. faults b) (is_ok result)
+        (λ _ talk. silence) member.old member.new result }
 {
     member.start(argv)
 }
@@ -29,12 +25,8 @@ fn send(member: &mut Member, bytes: &[u8]) -> Result<usize, HostFault>
     requires some { 0 < length bytes.now }
     requires runs { running member.old ≡ true }
     ensures count { IfOk result (λ n. (0 < n) × (n ≤ length bytes.now)) }
-    ensures running { running member.new ≡ true }
-    ensures spoken { MatchResult result
-        (λ n. spoken member.new ≡ option_map (wrote_more (take n bytes.now)) (spoken member.old))
-        (λ _. spoken member.new ≡ spoken member.old) }
-    ensures cause { HasCause Failed last_count (faults member.old) (faults member.new) result }
-    ensures counts { Counts Failed last_count (faults member.old) (faults member.new) result }
+    ensures calls { CallsOne (λ b. running b) (λ b. spoken b) (λ b. faults b) true
+        (λ n. wrote_more (take n bytes.now)) member.old member.new result }
 {
     member.send(bytes)
 }
@@ -43,22 +35,16 @@ fn receive(member: &mut Member, room: &mut [u8]) -> Result<usize, HostFault>
     requires some { 0 < length room.old }
     requires runs { running member.old ≡ true }
     ensures count { IfOk result (λ n. (0 < n) × (n ≤ length room.new)) }
-    ensures running { running member.new ≡ true }
-    ensures spoken { MatchResult result
-        (λ n. spoken member.new ≡ option_map (heard_more (take n room.new)) (spoken member.old))
-        (λ _. spoken member.new ≡ spoken member.old) }
-    ensures cause { HasCause Failed last_count (faults member.old) (faults member.new) result }
-    ensures counts { Counts Failed last_count (faults member.old) (faults member.new) result }
+    ensures calls { CallsOne (λ b. running b) (λ b. spoken b) (λ b. faults b) true
+        (λ n. heard_more (take n room.new)) member.old member.new result }
 {
     member.receive(room)
 }
 
 fn stop(member: &mut Member) -> Result<(), HostFault>
     requires runs { running member.old ≡ true }
-    ensures running { running member.new ≡ false }
-    ensures spoken { spoken member.new ≡ spoken member.old }
-    ensures cause { HasCause Failed last_count (faults member.old) (faults member.new) result }
-    ensures counts { Counts Failed last_count (faults member.old) (faults member.new) result }
+    ensures { CallsOne (λ b. running b) (λ b. spoken b) (λ b. faults b) false (λ _ talk. talk)
+        member.old member.new result }
 {
     member.stop()
 }
@@ -128,25 +114,8 @@ impl Host for BoxHost {
         requires number { child < CHILDREN }
         requires words { 0 < length argv.now }
         requires idle { at_members false (λ b. running b) self.old.members.items child ≡ false }
-        ensures running { MatchResult result
-            (λ _. Becomes child true (at_members false (λ b. running b) self.old.members.items)
-            (at_members false (λ b. running b) self.new.members.items))
-            (λ _. Same (at_members false (λ b. running b) self.old.members.items)
-            (at_members false (λ b. running b) self.new.members.items)) }
-        ensures spoken { MatchResult result
-            (λ _. Empties child (at_members None (λ b. spoken b) self.old.members.items)
-            (at_members None (λ b. spoken b) self.new.members.items))
-            (λ _. Same (at_members None (λ b. spoken b) self.old.members.items)
-            (at_members None (λ b. spoken b) self.new.members.items)) }
-        ensures log { Logs None None (started child (map string_bytes argv.now) result) }
-        ensures cause { HasCause Failed (CHILDREN * last_count)
-            (total last_count (λ b. faults b) self.old.members.items)
-            (total last_count (λ b. faults b) self.new.members.items) result }
-        ensures counts { Counts Failed last_count
-            (at_members 0 (λ b. faults b) self.old.members.items child)
-            (at_members 0 (λ b. faults b) self.new.members.items child) result }
-        ensures others { (k : ℕ) → k ≢ child
-            → slice_get self.new.members.items k ≡ slice_get self.old.members.items k }
+        ensures calls { CallsMember (λ b. running b) (λ b. spoken b) (λ b. faults b) child (is_ok result)
+            (λ _ talk. silence) self.old.members.items self.new.members.items result }
     {
         start(&mut self.members[child as usize], argv)
     }
@@ -156,23 +125,8 @@ impl Host for BoxHost {
         requires some { 0 < length bytes.now }
         requires runs { at_members false (λ b. running b) self.old.members.items child ≡ true }
         ensures count { IfOk result (λ n. (0 < n) × (n ≤ length bytes.now)) }
-        ensures running { Same (at_members false (λ b. running b) self.old.members.items)
-            (at_members false (λ b. running b) self.new.members.items) }
-        ensures spoken { MatchResult result
-            (λ n. Writes child (take n bytes.now)
-            (at_members None (λ b. spoken b) self.old.members.items)
-            (at_members None (λ b. spoken b) self.new.members.items))
-            (λ _. Same (at_members None (λ b. spoken b) self.old.members.items)
-            (at_members None (λ b. spoken b) self.new.members.items)) }
-        ensures log { Logs None None (wrote child bytes.now result) }
-        ensures cause { HasCause Failed (CHILDREN * last_count)
-            (total last_count (λ b. faults b) self.old.members.items)
-            (total last_count (λ b. faults b) self.new.members.items) result }
-        ensures counts { Counts Failed last_count
-            (at_members 0 (λ b. faults b) self.old.members.items child)
-            (at_members 0 (λ b. faults b) self.new.members.items child) result }
-        ensures others { (k : ℕ) → k ≢ child
-            → slice_get self.new.members.items k ≡ slice_get self.old.members.items k }
+        ensures calls { CallsMember (λ b. running b) (λ b. spoken b) (λ b. faults b) child true
+            (λ n. wrote_more (take n bytes.now)) self.old.members.items self.new.members.items result }
     {
         send(&mut self.members[child as usize], bytes)
     }
@@ -182,23 +136,8 @@ impl Host for BoxHost {
         requires some { 0 < length room.old }
         requires runs { at_members false (λ b. running b) self.old.members.items child ≡ true }
         ensures count { IfOk result (λ n. (0 < n) × (n ≤ length room.new)) }
-        ensures running { Same (at_members false (λ b. running b) self.old.members.items)
-            (at_members false (λ b. running b) self.new.members.items) }
-        ensures spoken { MatchResult result
-            (λ n. Hears child (take n room.new)
-            (at_members None (λ b. spoken b) self.old.members.items)
-            (at_members None (λ b. spoken b) self.new.members.items))
-            (λ _. Same (at_members None (λ b. spoken b) self.old.members.items)
-            (at_members None (λ b. spoken b) self.new.members.items)) }
-        ensures log { Logs None None (heard child (length room.old) (given result room.new)) }
-        ensures cause { HasCause Failed (CHILDREN * last_count)
-            (total last_count (λ b. faults b) self.old.members.items)
-            (total last_count (λ b. faults b) self.new.members.items) result }
-        ensures counts { Counts Failed last_count
-            (at_members 0 (λ b. faults b) self.old.members.items child)
-            (at_members 0 (λ b. faults b) self.new.members.items child) result }
-        ensures others { (k : ℕ) → k ≢ child
-            → slice_get self.new.members.items k ≡ slice_get self.old.members.items k }
+        ensures calls { CallsMember (λ b. running b) (λ b. spoken b) (λ b. faults b) child true
+            (λ n. heard_more (take n room.new)) self.old.members.items self.new.members.items result }
     {
         receive(&mut self.members[child as usize], room)
     }
@@ -206,20 +145,8 @@ impl Host for BoxHost {
     fn stop(&mut self, child: u8) -> Result<(), HostFault>
         requires number { child < CHILDREN }
         requires runs { at_members false (λ b. running b) self.old.members.items child ≡ true }
-        ensures running { Becomes child false
-            (at_members false (λ b. running b) self.old.members.items)
-            (at_members false (λ b. running b) self.new.members.items) }
-        ensures spoken { Same (at_members None (λ b. spoken b) self.old.members.items)
-            (at_members None (λ b. spoken b) self.new.members.items) }
-        ensures log { Logs None None (stopped child result) }
-        ensures cause { HasCause Failed (CHILDREN * last_count)
-            (total last_count (λ b. faults b) self.old.members.items)
-            (total last_count (λ b. faults b) self.new.members.items) result }
-        ensures counts { Counts Failed last_count
-            (at_members 0 (λ b. faults b) self.old.members.items child)
-            (at_members 0 (λ b. faults b) self.new.members.items child) result }
-        ensures others { (k : ℕ) → k ≢ child
-            → slice_get self.new.members.items k ≡ slice_get self.old.members.items k }
+        ensures calls { CallsMember (λ b. running b) (λ b. spoken b) (λ b. faults b) child false
+            (λ _ talk. talk) self.old.members.items self.new.members.items result }
     {
         stop(&mut self.members[child as usize])
     }

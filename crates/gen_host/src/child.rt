@@ -1,11 +1,10 @@
 // A generator that is a program of its own.
-ghost use Rattle.std.specs.Prelude.{◌≡◌, ◌≢◌, ◌+◌, ◌<◌, ◌≤◌, min, length, take, true, false, is_ok, is_some, option_map, IfErr, IfOk, IsErrOf, MatchResult};
+ghost use Rattle.std.specs.Prelude.{◌≡◌, ◌≢◌, ◌+◌, ◌<◌, ◌≤◌, min, length, take, false, is_ok, is_some, IfErr, IsErrOf};
 ghost use Rattle.std.specs.Result.{IsErrAnd};
 ghost use Rattle.std.specs.IoError.{error_kind};
 ghost use Rattle.std.specs.declared.io.ErrorKind.TheVariants.{OutOfMemory};
 ghost use Rattle.gen_host.specs.Children.{untold};
-ghost use Rattle.io_world.specs.Faults.{last_count, Counts, HasCause};
-ghost use Rattle.io_world.specs.Talks.{Talk, silence, wrote_more, heard_more};
+ghost use Rattle.io_world.specs.Faults.{last_count, Counts};
 ghost use Rattle.io_world.specs.declared.host.HostFault.TheVariants.{Failed, Memory};
 
 use crate::Generator;
@@ -112,16 +111,7 @@ impl<R: Processes + Drop> Generator for ChildGen<R> {
 
     ghost spoken = { λ s. untold };
 
-    fn start(&mut self, argv: &[String]) -> Result<(), HostFault>
-        requires words { 0 < length argv.now }
-        requires idle { is_some self.old.running ≡ false }
-        ensures running { is_some self.new.running ≡ is_ok result }
-        ensures spoken { MatchResult result
-            (λ _. untold ≡ option_map (λ (talk : Talk). silence) untold)
-            (λ _. untold ≡ untold) }
-        ensures cause { HasCause Failed last_count self.old.faults self.new.faults result }
-        ensures counts { Counts Failed last_count self.old.faults self.new.faults result }
-    {
+    fn start(&mut self, argv: &[String]) -> Result<(), HostFault> {
         let Ok(mut command) = command(self.alloc, argv) else {
             return Err(HostFault::Memory);
         };
@@ -135,17 +125,7 @@ impl<R: Processes + Drop> Generator for ChildGen<R> {
         }
     }
 
-    fn send(&mut self, bytes: &[u8]) -> Result<usize, HostFault>
-        requires some { 0 < length bytes.now }
-        requires runs { is_some self.old.running ≡ true }
-        ensures count { IfOk result (λ n. (0 < n) × (n ≤ length bytes.now)) }
-        ensures running { is_some self.new.running ≡ true }
-        ensures spoken { MatchResult result
-            (λ n. untold ≡ option_map (wrote_more (take n bytes.now)) untold)
-            (λ _. untold ≡ untold) }
-        ensures cause { HasCause Failed last_count self.old.faults self.new.faults result }
-        ensures counts { Counts Failed last_count self.old.faults self.new.faults result }
-    {
+    fn send(&mut self, bytes: &[u8]) -> Result<usize, HostFault> {
         if let Some(running) = &mut self.running {
             if let Some(count) = write_some(&mut running.input, bytes) {
                 return Ok(count);
@@ -154,17 +134,7 @@ impl<R: Processes + Drop> Generator for ChildGen<R> {
         Err(failed(&mut self.faults))
     }
 
-    fn receive(&mut self, room: &mut [u8]) -> Result<usize, HostFault>
-        requires some { 0 < length room.old }
-        requires runs { is_some self.old.running ≡ true }
-        ensures count { IfOk result (λ n. (0 < n) × (n ≤ length room.new)) }
-        ensures running { is_some self.new.running ≡ true }
-        ensures spoken { MatchResult result
-            (λ n. untold ≡ option_map (heard_more (take n room.new)) untold)
-            (λ _. untold ≡ untold) }
-        ensures cause { HasCause Failed last_count self.old.faults self.new.faults result }
-        ensures counts { Counts Failed last_count self.old.faults self.new.faults result }
-    {
+    fn receive(&mut self, room: &mut [u8]) -> Result<usize, HostFault> {
         if let Some(running) = &mut self.running {
             if let Some(count) = read_some(&mut running.output, room) {
                 if count > 0 {
@@ -176,13 +146,7 @@ impl<R: Processes + Drop> Generator for ChildGen<R> {
     }
 
     /// It closes the pipes, and waits for the end of the program.
-    fn stop(&mut self) -> Result<(), HostFault>
-        requires runs { is_some self.old.running ≡ true }
-        ensures running { is_some self.new.running ≡ false }
-        ensures spoken { untold ≡ untold }
-        ensures cause { HasCause Failed last_count self.old.faults self.new.faults result }
-        ensures counts { Counts Failed last_count self.old.faults self.new.faults result }
-    {
+    fn stop(&mut self) -> Result<(), HostFault> {
         if let Some(running) = self.running.take() {
             if ended(running) {
                 return Ok(());

@@ -17,7 +17,7 @@ bounds g c =
     let domain = c.args.scene.now.task.now.domain in
     let is : c.args.condition.now ≡ Atom c.in-Atom.pred c.in-Atom.args = sym c.condition.view_is ∙ ap view_of c.in-Atom.is in
     let atom = readable_atom domain c.args.condition.now c.in-Atom.pred c.in-Atom.args is c.requires.readable in
-    omega (arith, atom.0, roles_length domain c.requires.fit.domain, ap length c.as_slice.ensures)
+    omega (arith, atom.0, roles_length domain c.args.scene.now.fit.domain, ap length c.as_slice.ensures)
 
 pub returns-then-len-most : goal.returns-then-len-most
 returns-then-len-most g c =
@@ -25,7 +25,7 @@ returns-then-len-most g c =
     let pred = c.in-Atom.pred in
     let is : c.args.condition.now ≡ Atom pred c.in-Atom.args = sym c.condition.view_is ∙ ap view_of c.in-Atom.is in
     let atom = readable_atom domain c.args.condition.now pred c.in-Atom.args is c.requires.readable in
-    let fluent : role_of domain pred ≡ role.Fluent = sym (role_kept domain c.requires.fit.domain pred role.Static atom.0)
+    let fluent : role_of domain pred ≡ role.Fluent = sym (role_kept domain c.args.scene.now.fit.domain pred role.Static atom.0)
     ∙ sym (ap (λ rs. get_or rs pred role.Static) c.as_slice.ensures) ∙ c.in-Fluent.is in
     let lead : Lead = record { pred = pred; terms = c.as_slice-terms.result; place = c.in_ok-place.place; among = State } in
     let placed : IsPlaced c.args.slot lead = record {
@@ -41,7 +41,7 @@ returns-in-Static g c =
     let pred = c.in-Atom.pred in
     let is : c.args.condition.now ≡ Atom pred c.in-Atom.args = sym c.condition.view_is ∙ ap view_of c.in-Atom.is in
     let atom = readable_atom domain c.args.condition.now pred c.in-Atom.args is c.requires.readable in
-    let static : role_of domain pred ≡ role.Static = sym (role_kept domain c.requires.fit.domain pred role.Static atom.0)
+    let static : role_of domain pred ≡ role.Static = sym (role_kept domain c.args.scene.now.fit.domain pred role.Static atom.0)
     ∙ sym (ap (λ rs. get_or rs pred role.Static) c.as_slice.ensures) ∙ c.in-Static.is in
     let lead : Lead = record { pred = pred; terms = c.as_slice-terms.result; place = c.in_ok-place.place; among = State } in
     let placed : IsPlaced c.args.slot lead = record {

@@ -9,15 +9,17 @@ use Rattle.formula_memo.specs.declared.lead.Lead.{Lead}
 use Rattle.formula_memo.proofs.choice.lead_for.Goals as goal
 use Rattle.formula_memo.proofs.choice.lead_for.Goals.{in-Some, in_default-lead_by}
 
-pub lead_by-requires-in-loop-number-clause-readable : goal.lead_by-requires-in-loop-number-clause-readable
-lead_by-requires-in-loop-number-clause-readable g c =
+pub lead_by-requires-in-loop-number : goal.lead_by-requires-in-loop-number
+lead_by-requires-in-loop-number g c =
     let domain = c.args.scene.now.task.now.domain in
     let parts = c.in-All.parts.items in
     let is : c.args.condition.now ≡ every (parts_of parts) = sym c.condition.view_is ∙ ap view_of c.in-All.is in
     let readable : is_readable domain (every (parts_of parts)) ≡ true = ap (is_readable domain) (sym is) ∙ c.requires.readable in
     let same = c.as_slice-part-items.ensures.value in
-    readable_part domain c.as_slice-part-items.result.now c.loop-number.number c.part-item.result
-    (subst (λ xs. is_readable domain (every (parts_of xs)) ≡ true) (sym same) readable) c.loop-number-test.true c.part-item.is
+    record {
+      readable = readable_part domain c.as_slice-part-items.result.now c.loop-number.number c.part-item.result
+          (subst (λ xs. is_readable domain (every (parts_of xs)) ≡ true) (sym same) readable) c.loop-number-test.true c.part-item.is;
+    }
 
 pub loop-number-preserved : goal.loop-number-preserved
 loop-number-preserved g c =

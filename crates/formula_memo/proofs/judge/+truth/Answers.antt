@@ -67,7 +67,7 @@ truth-returns-in-Exists-clause-value g t c =
     let is : c.args.formula.now ≡ Exists c.in-Exists.first c.in-Exists.sorts c.in-Exists.body.value =
     sym c.formula.view_is ∙ ap view_of c.in-Exists.is in
     subst (λ f. IfOk c.some_tuple.result (λ value. value ≡ is_true domain known state f c.args.env.now)) (sym is)
-    (rw c.deref-in-Exists.ensures at (rw c.as_slice-sorts.ensures at c.some_tuple.ensures.value))
+    (rw c.deref-in-Exists.ensures at (rw c.as_slice-in-Exists.ensures at c.some_tuple.ensures.value))
 
 pub all_true-truth-requires : goal.all_true-truth-requires
 all_true-truth-requires g t c κs within =
@@ -98,14 +98,14 @@ any_true-truth-requires g t c κs within =
 pub atom-bounds : goal.atom-bounds
 atom-bounds g t c =
     let long : length c.as_slice.result.now ≡ length c.args.scene.now.task.now.domain.predicates =
-    ap length c.as_slice.ensures ∙ roles_length c.args.scene.now.task.now.domain c.requires.fit.domain in
+    ap length c.as_slice.ensures ∙ roles_length c.args.scene.now.task.now.domain c.args.scene.now.fit.domain in
     omega (arith, c.requires.predicate)
 
 pub atom-returns-in-Static-clause-value : goal.atom-returns-in-Static-clause-value
 atom-returns-in-Static-clause-value g t c =
     let domain = c.args.scene.now.task.now.domain in
     let is : role_of domain c.args.pred ≡ role.Static =
-    sym (role_kept domain c.requires.fit.domain c.args.pred role.Static c.requires.predicate)
+    sym (role_kept domain c.args.scene.now.fit.domain c.args.pred role.Static c.requires.predicate)
     ∙ sym (ap (λ rs. get_or rs c.args.pred role.Static) c.as_slice.ensures) ∙ c.in-Static.is in
     c.has.ensures
     ∙ sym
@@ -116,7 +116,7 @@ pub atom-returns-in-Fluent-clause-value : goal.atom-returns-in-Fluent-clause-val
 atom-returns-in-Fluent-clause-value g t c =
     let domain = c.args.scene.now.task.now.domain in
     let is : role_of domain c.args.pred ≡ role.Fluent =
-    sym (role_kept domain c.requires.fit.domain c.args.pred role.Static c.requires.predicate)
+    sym (role_kept domain c.args.scene.now.fit.domain c.args.pred role.Static c.requires.predicate)
     ∙ sym (ap (λ rs. get_or rs c.args.pred role.Static) c.as_slice.ensures) ∙ c.in-Fluent.is in
     c.has-in-Fluent.ensures
     ∙ sym
@@ -127,7 +127,7 @@ pub atom-derived_atom-requires : goal.atom-derived_atom-requires
 atom-derived_atom-requires g t c κs within =
     let domain = c.args.scene.now.task.now.domain in
     let is : role_of domain c.args.pred ≡ role.Derived =
-    sym (role_kept domain c.requires.fit.domain c.args.pred role.Static c.requires.predicate)
+    sym (role_kept domain c.args.scene.now.fit.domain c.args.pred role.Static c.requires.predicate)
     ∙ sym (ap (λ rs. get_or rs c.args.pred role.Static) c.as_slice.ensures) ∙ c.in-Derived.is in
     search rules
 
@@ -145,7 +145,7 @@ pub follows_by-new-env-requires : goal.follows_by-new-env-requires
 follows_by-new-env-requires g t c =
     let domain = c.args.scene.now.task.now.domain in
     let there = c.requires.there in
-    let params = item_params domain c.args.item.now (fit_item domain c.requires.fit.domain there.0 c.args.item.now there.1 (sym there.2)) in
+    let params = item_params domain c.args.item.now (fit_item domain c.args.scene.now.fit.domain there.0 c.args.item.now there.1 (sym there.2)) in
     let typed : c.have_types.result ≡ true = search (rules, tests) in
     let long = have_types-length (g.L.Look.known c.args.scene.now.look.now) c.args.args.now c.as_slice.result.now
     (sym c.have_types.ensures ∙ typed) in
@@ -159,8 +159,8 @@ follows_by-truth-requires g t c κs within =
     let item = c.args.item.now in
     let lighter = body_lighter domain.derived there.0 item there.1 (sym there.2) in
     let readable =
-    item_readable domain c.requires.fit.domain item
-    (fit_item domain c.requires.fit.domain there.0 item there.1 (sym there.2)) in
+    item_readable domain c.args.scene.now.fit.domain item
+    (fit_item domain c.args.scene.now.fit.domain there.0 item there.1 (sym there.2)) in
     let same : item.pred ≡ c.args.pred = search (rules, tests) in
     let rests = body_rests domain c.args.depth c.args.pred item c.requires.rests there (eq-eqb item.pred c.args.pred same) in
     search rules
@@ -176,13 +176,13 @@ some_tuple-returns-clause-value g t c =
     let domain = scene.task.now.domain in
     subst (λ ss. IfOk c.some_object-found.result (λ value. value
     ≡ some_at domain (g.L.Look.known scene.look.now) scene.state.now
-    (length domain.derived) c.args.first ss c.args.body.now c.args.env.now))
+    (length domain.derived) c.args.left.now.first ss c.args.left.now.body.now c.args.env.now))
     (sym c.in-Some.ensures.cases.0) c.some_object-found.ensures.value
 
 pub some_tuple-returns-clause-same : goal.some_tuple-returns-clause-same
 some_tuple-returns-clause-same g t c =
     c.set.ensures ∙ c.some_object-found.ensures.same c.get-kept.result
-    ∙ ap (slice_set c.args.env.now c.args.first) c.get-kept.ensures.object ∙ set_back c.args.env.now c.args.first
+    ∙ ap (slice_set c.args.env.now c.args.left.now.first) c.get-kept.ensures.object ∙ set_back c.args.env.now c.args.left.now.first
 
 pub some_object-passes-requires : goal.some_object-passes-requires
 some_object-passes-requires g t c κs within =
@@ -191,7 +191,7 @@ some_object-passes-requires g t c κs within =
 
 pub some_object-tried_object-tried-requires-clause-placed : goal.some_object-tried_object-tried-requires-clause-placed
 some_object-tried_object-tried-requires-clause-placed g t c =
-    placed_lead c.args.scene.now.task.now.domain c.args.body.now c.args.first c.args.env.now c.lead_for-lead.result c.lead_for-lead.ensures
+    placed_lead c.args.scene.now.task.now.domain c.args.left.now.body.now c.args.left.now.first c.args.env.now c.lead_for-lead.result c.lead_for-lead.ensures
 
 pub some_object-returns-then-found-clause-value : goal.some_object-returns-then-found-clause-value
 some_object-returns-then-found-clause-value g t c =
@@ -200,8 +200,8 @@ some_object-returns-then-found-clause-value g t c =
     let state = c.args.scene.now.state.now in
     let objects = objects_of known.facts c.args.sort in
     let depth = length domain.derived in
-    let passes = λ (slots : List ℕ). some_at domain known state depth (c.args.first + 1) c.args.rest.now c.args.body.now slots in
-    let test = λ (o : ℕ). passes (slice_set c.args.env.now c.args.first o) in
+    let passes = λ (slots : List ℕ). some_at domain known state depth (c.args.left.now.first + 1) c.args.left.now.sorts.now c.args.left.now.body.now slots in
+    let test = λ (o : ℕ). passes (slice_set c.args.env.now c.args.left.now.first o) in
     let passed : is_passed test c.tried_object-tried.result ≡ true =
     ap (λ f. is_passed f c.tried_object-tried.result)
     (λ i o. passes (sym (c.loop-place.invariant.1 o) i))
@@ -223,14 +223,14 @@ some_object-loop-place-preserved g t c =
     let state = c.args.scene.now.state.now in
     let depth = length domain.derived in
     let slots = c.args.env.now in
-    let passes = λ (slots : List ℕ). some_at domain known state depth (c.args.first + 1) c.args.rest.now c.args.body.now slots in
-    let test = λ (o : ℕ). passes (slice_set slots c.args.first o) in
+    let passes = λ (slots : List ℕ). some_at domain known state depth (c.args.left.now.first + 1) c.args.left.now.sorts.now c.args.left.now.body.now slots in
+    let test = λ (o : ℕ). passes (slice_set slots c.args.left.now.first o) in
     let untrue : is_passed test c.tried_object-tried.result ≡ false =
     ap (λ f. is_passed f c.tried_object-tried.result) (λ i o. passes (sym (c.loop-place.invariant.1 o) i))
     ∙ sym c.in_ok-found.ensures.value ∙ c.if-found.false in (
-      one_tried domain known state depth c.args.sort c.args.first c.args.rest.now c.args.body.now slots c.lead_for-lead.result
+      one_tried domain known state depth c.args.sort c.args.left.now.first c.args.left.now.sorts.now c.args.left.now.body.now slots c.lead_for-lead.result
           c.loop-place.place c.loop-place.env c.tried_object-tried.result
-          (below_same c.loop-place.env slots c.args.first (c.loop-place.invariant.1 0))
+          (below_same c.loop-place.env slots c.args.left.now.first (c.loop-place.invariant.1 0))
           c.tried_object-tried.ensures.comes
           untrue c.loop-place.invariant.0,
       λ o. c.in_ok-found.ensures.same o ∙ c.loop-place.invariant.1 o,
@@ -244,8 +244,8 @@ some_object-returns-clause-value g t c =
     let state = c.args.scene.now.state.now in
     let depth = length domain.derived in
     let objects = objects_of known.facts c.args.sort in
-    let passes = λ (slots : List ℕ). some_at domain known state depth (c.args.first + 1) c.args.rest.now c.args.body.now slots in
-    let none = none_passes domain known state depth c.args.sort c.args.first c.args.rest.now c.args.body.now
+    let passes = λ (slots : List ℕ). some_at domain known state depth (c.args.left.now.first + 1) c.args.left.now.sorts.now c.args.left.now.body.now slots in
+    let none = none_passes domain known state depth c.args.sort c.args.left.now.first c.args.left.now.sorts.now c.args.left.now.body.now
     c.args.env.now c.lead_for-lead.result c.loop-place.place c.lead_for-lead.ensures
     c.requires.inside (omega arith) c.loop-place.invariant.0 in
     sym none
@@ -258,8 +258,8 @@ passes-returns-clause-value g t c = search rules
 
 pub passes-returns-clause-same : goal.passes-returns-clause-same
 passes-returns-clause-same g t c o =
-    ap (λ s. slice_set s c.args.first o) (c.some_tuple.ensures.same ∙ c.set.ensures)
-    ∙ set_twice c.args.env.now c.args.first c.in-Some.object o
+    ap (λ s. slice_set s c.args.left.now.first o) (c.some_tuple.ensures.same ∙ c.set.ensures)
+    ∙ set_twice c.args.env.now c.args.left.now.first c.in-Some.object o
 
 pub derived_atom-unreachable-requires : goal.derived_atom-unreachable-requires
 derived_atom-unreachable-requires g t c =
@@ -273,7 +273,7 @@ derived_atom-returns-in_err-note-clause-stands g t c =
     let state = c.args.scene.now.state.now in let atom = c.args.atom in
     let right : c.in_ok-value.value ≡ truth_of domain known state atom =
     c.in_ok-value.ensures.value ∙ ap (derived_at domain known state (length domain.derived) atom.pred) c.as_slice.ensures
-    ∙ derived_truth domain c.requires.fit.domain known state atom.pred atom.args c.requires.role in
+    ∙ derived_truth domain c.args.scene.now.fit.domain known state atom.pred atom.args c.requires.role in
     c.note.ensures domain known state c.in_ok-value.ensures.stands right
 
 pub derived_atom-returns-clause-stands : goal.derived_atom-returns-clause-stands
@@ -282,7 +282,7 @@ derived_atom-returns-clause-stands g t c =
     let state = c.args.scene.now.state.now in let atom = c.args.atom in
     let right : c.in_ok-value.value ≡ truth_of domain known state atom =
     c.in_ok-value.ensures.value ∙ ap (derived_at domain known state (length domain.derived) atom.pred) c.as_slice.ensures
-    ∙ derived_truth domain c.requires.fit.domain known state atom.pred atom.args c.requires.role in
+    ∙ derived_truth domain c.args.scene.now.fit.domain known state atom.pred atom.args c.requires.role in
     c.note.ensures domain known state c.in_ok-value.ensures.stands right
 
 pub derived_atom-returns-clause-value : goal.derived_atom-returns-clause-value
@@ -290,4 +290,4 @@ derived_atom-returns-clause-value g t c =
     let domain = c.args.scene.now.task.now.domain in let known = g.L.Look.known c.args.scene.now.look.now in
     let state = c.args.scene.now.state.now in let atom = c.args.atom in
     c.in_ok-value.ensures.value ∙ ap (derived_at domain known state (length domain.derived) atom.pred) c.as_slice.ensures
-    ∙ derived_truth domain c.requires.fit.domain known state atom.pred atom.args c.requires.role
+    ∙ derived_truth domain c.args.scene.now.fit.domain known state atom.pred atom.args c.requires.role

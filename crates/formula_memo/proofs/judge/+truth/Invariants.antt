@@ -1,10 +1,11 @@
-use Rattle.std.proofs.Common.{◌≡◌, ◌+◌, ◌*◌, ℕ, length, drop, slice_set}
+use Rattle.std.proofs.Common.{◌≡◌, ◌+◌, ◌*◌, length, drop}
 use Rattle.std.specs.List.{list_any}
 use Rattle.task_model.specs.Condition.{parts_of}
 use Rattle.formula_eval.specs.Judged.{all_at, any_at, is_item_true}
 use Rattle.formula_eval.proofs.WeightLemmas.{weight, weights, items_weight}
 use Rattle.formula_memo.proofs.TriesLemmas.{TriedBefore}
 use Rattle.formula_memo.specs.Remembered.{StandsFor}
+use Rattle.formula_memo.specs.Scenes.{IsSameBut}
 use Rattle.formula_memo.proofs.judge.+truth.Given as goal
 
 abbrev pub decreases-all_true : goal.decreases-all_true
@@ -29,13 +30,13 @@ decreases-follows_by g l =
     4 * (l.depth * items_weight l.scene.now.task.now.domain.derived + items_weight l.scene.now.task.now.domain.derived)
 
 abbrev pub decreases-some_tuple : goal.decreases-some_tuple
-decreases-some_tuple g l = 4 * (l.depth * items_weight l.scene.now.task.now.domain.derived + (weight l.body.now + length l.sorts.now)) + 1
+decreases-some_tuple g l = 4 * (l.depth * items_weight l.scene.now.task.now.domain.derived + (weight l.left.now.body.now + length l.left.now.sorts.now)) + 1
 
 abbrev pub decreases-some_object : goal.decreases-some_object
-decreases-some_object g l = 4 * (l.depth * items_weight l.scene.now.task.now.domain.derived + (weight l.body.now + length l.rest.now)) + 3
+decreases-some_object g l = 4 * (l.depth * items_weight l.scene.now.task.now.domain.derived + (weight l.left.now.body.now + length l.left.now.sorts.now)) + 3
 
 abbrev pub decreases-passes : goal.decreases-passes
-decreases-passes g l = 4 * (l.depth * items_weight l.scene.now.task.now.domain.derived + (weight l.body.now + length l.rest.now)) + 2
+decreases-passes g l = 4 * (l.depth * items_weight l.scene.now.task.now.domain.derived + (weight l.left.now.body.now + length l.left.now.sorts.now)) + 2
 
 abbrev pub decreases-truth : goal.decreases-truth
 decreases-truth g l =
@@ -69,6 +70,6 @@ invariant-derived-loop-item g l =
 abbrev pub invariant-some_object-loop-place : goal.invariant-some_object-loop-place
 invariant-some_object-loop-place g l =
     let domain = l.scene.task.now.domain in let known = g.L.Look.known l.scene.look.now in
-    TriedBefore domain known l.scene.state.now (length domain.derived) l.sort l.first l.rest l.body l.initial.env l.lead l.place
-    × ((o : ℕ) → slice_set l.env l.first o ≡ slice_set l.initial.env l.first o)
+    TriedBefore domain known l.scene.state.now (length domain.derived) l.sort l.left.first l.left.sorts.now l.left.body.now l.initial.env l.lead l.place
+    × IsSameBut l.left.first l.initial.env l.env
     × StandsFor domain known l.scene.state.now l.memo
