@@ -86,7 +86,7 @@ pub waiting_started : (child : ℕ) (words : List (List ℕ)) (calls : List Even
 waiting_started child words calls =
     waiting_own child calls (started child words (Ok tt)) refl ∙ some_then (waiting child calls) child words
 
-said_started : (child : ℕ) (words : List (List ℕ)) (talk : Talk) → said_after child talk (started child words (Ok tt)) ≡ silence
+pub said_started : (child : ℕ) (words : List (List ℕ)) (talk : Talk) → said_after child talk (started child words (Ok tt)) ≡ silence
 said_started child words talk = rw (eq-eqb child child refl) refl
 
 said_wrote : (child n : ℕ) (bytes : List ℕ) (talk : Talk)

@@ -1,17 +1,16 @@
 -- Calls on children in a run: on others, without a start, and cut.
-use Rattle.std.proofs.Common.{◌≡◌, ◌≢◌, ℕ, ◌<◌, ◌≤◌, ◌==◌, true, false, List, [], ◌∷◌, ◌++◌, length, take, slice_get, Option, None, Some, Ok, Err, IfSome, Result, refl, sym, ap, subst, ◌∙◌, append_assoc, append-nil, All}
+use Rattle.std.proofs.Common.{◌≡◌, ◌≢◌, ℕ, ◌≤◌, ◌==◌, true, false, List, [], ◌∷◌, ◌++◌, length, slice_get, Option, None, Some, Ok, Err, IfSome, refl, sym, ap, subst, ◌∙◌, append_assoc, append-nil, All}
 use Rattle.std.specs.List.{slice_split}
-use Rattle.std.proofs.lemmas.Bool.{eq-eqb}
-use Rattle.std.proofs.lemmas.List.Elements.{All-nil, All-head, All-tail, All-append, All-weaker, All-cons}
+use Rattle.std.proofs.lemmas.List.Elements.{All-head, All-tail}
 use Rattle.gen_lines.specs.Lines.{ended, is_feed, lines_of, unfinished}
 use Rattle.io_world.proofs.LogsLemmas.{spelled-more}
 use Rattle.io_world.specs.Talks.{Event, Talk, started, wrote, heard, stopped, said_after, silence, spelled, IsGiven, IsTaken}
 use Rattle.lemmas.proofs.Members.{get_append}
+use Rattle.restart_host.proofs.CourseLemmas.{takes_from}
 use Rattle.restart_host.proofs.FeedLemmas.{lines_on, raw_on}
-use Rattle.restart_host.proofs.NotedLemmas.{not_equal}
 use Rattle.restart_host.proofs.UsesLemmas.{other_said, waiting_other, words_other}
-use Rattle.restart_host.specs.Uses.{AreDone, child_in, waiting, words_of}
-use Rattle.round_run.specs.Calls.{AreCallsOf, Follows, IsStop}
+use Rattle.restart_host.specs.Uses.{AreDone, child_in, waiting, words_after, words_by, words_of}
+use Rattle.round_run.specs.Calls.{IsStop}
 use Rattle.round_run.specs.Dialogue.{IsShortAt}
 
 -- ---- calls that are done, cut in two
@@ -103,6 +102,37 @@ stop_no (wrote k p answer) is = tt
 stop_no (heard k room answer) is = tt
 stop_no (stopped k answer) is = tt
 
+pub spelled_cut : (child : ℕ) (talk : Talk) (xs ys : List Event)
+    → spelled child talk (xs ++ ys) ≡ spelled child (spelled child talk xs) ys
+spelled_cut child talk [] ys = refl
+spelled_cut child talk (x ∷ xs) ys = spelled_cut child (said_after child talk x) xs ys
+
+-- they leave the words of each child
+pub words_stay : (child : ℕ) (words : List (List ℕ)) (events : List Event) → All IsNoStart events
+    → words_by child words events ≡ words
+words_stay child words [] each = refl
+words_stay child words (started k argv answer ∷ events) each = absurd (All-head IsNoStart _ _ each)
+words_stay child words (wrote k p answer ∷ events) each = words_stay child words events (All-tail IsNoStart _ _ each)
+words_stay child words (heard k room answer ∷ events) each = words_stay child words events (All-tail IsNoStart _ _ each)
+words_stay child words (stopped k answer ∷ events) each = words_stay child words events (All-tail IsNoStart _ _ each)
+
+words_cut : (child : ℕ) (words : List (List ℕ)) (xs ys : List Event)
+    → words_by child words (xs ++ ys) ≡ words_by child (words_by child words xs) ys
+words_cut child words [] ys = refl
+words_cut child words (x ∷ xs) ys = words_cut child (words_after child words x) xs ys
+
+pub words_behind : (child : ℕ) (calls events : List Event) → All IsNoStart events
+    → words_of child (calls ++ events) ≡ words_of child calls
+words_behind child calls events each = words_cut child [] calls events ∙ words_stay child (words_of child calls) events each
+
+-- writes that were taken leave what was heard
+pub taken_heard : (child : ℕ) (calls events : List Event) → All (IsTaken child) events
+    → (spelled child silence (calls ++ events)).heard ≡ (spelled child silence calls).heard
+taken_heard child calls events each =
+    ap (λ (t : Talk). t.heard) (spelled_cut child silence calls events)
+    ∙ ap (λ (t : Talk). t.heard)
+    ((takes_from child (record { talk = silence; fallen = false }) events each).spells (spelled child silence calls))
+
 heard_by : (child : ℕ) (talk : Talk) (e : Event) → IsNoStart e
     → (more : List ℕ) × ((said_after child talk e).heard ≡ talk.heard ++ more)
 heard_by child talk (started k argv answer) free = absurd free
@@ -125,16 +155,10 @@ pub heard_grows : (child : ℕ) (talk : Talk) (events : List Event) → All IsNo
 heard_grows child talk [] each = ([], sym (append-nil talk.heard))
 heard_grows child talk (e ∷ events) each =
     let first = heard_by child talk e (All-head IsNoStart e events each) in
-    let rest = heard_grows child (said_after child talk e) events (All-tail IsNoStart e events each) in
-    (
+    let rest = heard_grows child (said_after child talk e) events (All-tail IsNoStart e events each) in (
       first.0 ++ rest.0,
       rest.1 ∙ ap (λ bs. bs ++ rest.0) first.1 ∙ append_assoc talk.heard first.0 rest.0,
     )
-
-pub spelled_cut : (child : ℕ) (talk : Talk) (xs ys : List Event)
-    → spelled child talk (xs ++ ys) ≡ spelled child (spelled child talk xs) ys
-spelled_cut child talk [] ys = refl
-spelled_cut child talk (x ∷ xs) ys = spelled_cut child (said_after child talk x) xs ys
 
 -- ---- lines that stay
 

@@ -1,24 +1,24 @@
 -- A line is fetched, in as many reads as it takes.
-use Rattle.std.proofs.Common.{◌≡◌, ◌⊎◌, ℕ, zero, suc, ◌+◌, ◌<◌, ◌≤◌, true, false, List, [], ◌∷◌, ◌++◌, length, map, take, drop, slice_get, Some, Ok, Err, IfSome, if◌then◌else◌, refl, sym, ap, subst, ◌∙◌, arith, append_assoc, append-nil, length-append, All, inl, inr}
-use Rattle.std.specs.List.{after_first, list_any, slice_split}
+use Rattle.std.proofs.Common.{◌≡◌, ℕ, suc, ◌+◌, ◌<◌, ◌≤◌, List, [], ◌∷◌, ◌++◌, length, take, slice_get, Some, Ok, Err, IfSome, refl, sym, ap, subst, ◌∙◌, arith, append_assoc, append-nil, length-append, All, inl, inr}
+use Rattle.std.specs.List.{after_first, slice_split}
 use Rattle.std.specs.Io.BufRead.{ends_with_byte, strip_last}
 use Rattle.std.proofs.lemmas.List.{drop_all, length-map}
 use Rattle.std.proofs.lemmas.List.Elements.{All-head, All-tail, All-append}
 use Rattle.gen_lines.specs.Lines.{ended, is_feed, lines_of, unfinished}
 use Rattle.io_world.specs.Replies.{HasLine, IsLine}
-use Rattle.io_world.specs.Talks.{Event, Talk, started, wrote, heard, stopped, heard_more, silence, spelled, IsGiven}
+use Rattle.io_world.specs.Talks.{Event, Talk, started, wrote, heard, stopped, silence, spelled, IsGiven}
 use Rattle.io_world.proofs.LogsLemmas.{spelled-more}
 use Rattle.lemmas.proofs.ListTests.{any_append_right}
 use Rattle.lemmas.proofs.Members.{get_at_length}
 use Rattle.restart_host.proofs.CourseLemmas.{moment_join}
-use Rattle.restart_host.proofs.FeedLemmas.{behind_first, due_at, due_cases, ends_not, ends_so, line_none, line_rest, lines_on, lines_one, lines_same, raw_one, rest_line, rest_more, rest_one}
+use Rattle.restart_host.proofs.FeedLemmas.{behind_first, due_at, due_cases, ends_not, ends_so, line_none, line_rest, lines_on, lines_one, lines_same, raw_one, rest_line, rest_one}
 use Rattle.restart_host.proofs.FitsLemmas.{first_lines}
 use Rattle.restart_host.proofs.StepsLemmas.{rewritten_join}
 use Rattle.restart_host.proofs.UsesLemmas.{said_heard, waiting_own, words_read}
 use Rattle.restart_host.specs.Lines.{due_length}
-use Rattle.restart_host.specs.Lives.{AreFetching, Fetches, IsFetched, IsRewritten, Moment, moment_by, moment_of}
+use Rattle.restart_host.specs.Lives.{AreFetching, Fetches, IsFetched, Moment, moment_by, moment_of}
 use Rattle.restart_host.specs.Tries.{IsOn}
-use Rattle.restart_host.specs.Uses.{AreDone, AreOfLine, IsReading, IsRequest, part_of, waiting, waiting_then, words_of}
+use Rattle.restart_host.specs.Uses.{AreDone, IsReading, IsRequest, part_of, waiting, waiting_then, words_of}
 use Rattle.round_run.specs.Calls.{lines_read}
 
 -- a request that reads as one line has one line feed
@@ -30,7 +30,7 @@ request_line request is = elim (due_cases request) [
       let one : lines_of request ≡ strip_last 13 first.cut.line ∷ lines_of rest = first_lines request first.cut in
       let two = lines_on request (10 ∷ []) in
       let last : lines_of (unfinished request ++ 10 ∷ []) ≡ strip_last 13 (unfinished request) ∷ [] =
-          lines_one [] (unfinished request) (rest_line request) in
+      lines_one [] (unfinished request) (rest_line request) in
       absurd (omega (
         arith,
         ap length two,
@@ -100,20 +100,20 @@ module _ (child : ℕ) (words : List (List ℕ)) (request : List ℕ) (quiet_req
       let part : List ℕ = unfinished h in
       let all = heard_now k room calls bytes own ∙ ap (λ bs. h ++ bs) is in
       let raws : ended (slice_split is_feed (h ++ (line ++ 10 ∷ []))) ≡ ended (slice_split is_feed h) ++ (part ++ line) ∷ [] =
-          raw_one h line quiet in
+      raw_one h line quiet in
       let place : length (ended (slice_split is_feed h)) ≡ most =
-          sym (length-map (ended (slice_split is_feed h)) (strip_last 13)) ∙ count in
+      sym (length-map (ended (slice_split is_feed h)) (strip_last 13)) ∙ count in
       let raw : slice_get (ended (slice_split is_feed (h ++ (line ++ 10 ∷ [])))) most ≡ Some (part ++ line) =
-          ap (λ ls. slice_get ls most) raws
-          ∙ ap (slice_get (ended (slice_split is_feed h) ++ (part ++ line) ∷ [])) (sym place)
-          ∙ get_at_length (ended (slice_split is_feed h)) (part ++ line) in
+      ap (λ ls. slice_get ls most) raws
+      ∙ ap (slice_get (ended (slice_split is_feed h) ++ (part ++ line) ∷ [])) (sym place)
+      ∙ get_at_length (ended (slice_split is_feed h)) (part ++ line) in
       let few : length (part ++ line) ≤ 1024 =
-          subst (λ o. IfSome o (λ (bs : List ℕ). length bs ≤ 1024)) (ap (λ bs. slice_get (ended (slice_split is_feed bs)) most) all ∙ raw) short in
+      subst (λ o. IfSome o (λ (bs : List ℕ). length bs ≤ 1024)) (ap (λ bs. slice_get (ended (slice_split is_feed bs)) most) all ∙ raw) short in
       let lines : lines_of (h ++ (line ++ 10 ∷ [])) ≡ lines_of h ++ strip_last 13 (part ++ line) ∷ [] = lines_one h line quiet in
       let alone : lines_of (part ++ bytes) ≡ strip_last 13 (part ++ line) ∷ [] =
-          ap (λ bs. lines_of (part ++ bs)) is ∙ lines_one part line quiet
-          ∙ ap (λ ls. ls ++ strip_last 13 (unfinished part ++ line) ∷ []) (line_none part (rest_line h))
-          ∙ ap (λ bs. strip_last 13 (bs ++ line) ∷ []) (line_rest part (rest_line h)) in
+      ap (λ bs. lines_of (part ++ bs)) is ∙ lines_one part line quiet
+      ∙ ap (λ ls. ls ++ strip_last 13 (unfinished part ++ line) ∷ []) (line_none part (rest_line h))
+      ∙ ap (λ bs. strip_last 13 (bs ++ line) ∷ []) (line_rest part (rest_line h)) in
       let completes = reading.gives (omega (arith, few, length-append part line)) is_request in
       record {
         line = strip_last 13 (part ++ line);
@@ -164,9 +164,9 @@ module _ (child : ℕ) (words : List (List ℕ)) (request : List ℕ) (quiet_req
   ending k room calls past is bytes (x ∷ events) line own quiet as_line waits count early short now later cut reading done =
       let h : List ℕ = (spelled child silence calls).heard in
       let lines : lines_read child (calls ++ heard k room (Ok bytes) ∷ []) ≡ most + 1 =
-          ap (λ bs. length (lines_of bs)) (heard_now k room calls bytes own ∙ ap (λ bs. h ++ bs) as_line)
-          ∙ ap length (lines_one h line quiet) ∙ length-append (lines_of h) (strip_last 13 (unfinished h ++ line) ∷ [])
-          ∙ ap (λ n. n + 1) count in
+      ap (λ bs. length (lines_of bs)) (heard_now k room calls bytes own ∙ ap (λ bs. h ++ bs) as_line)
+      ∙ ap length (lines_one h line quiet) ∙ length-append (lines_of h) (strip_last 13 (unfinished h ++ line) ∷ [])
+      ∙ ap (λ n. n + 1) count in
       let soon : lines_read child (calls ++ heard k room (Ok bytes) ∷ []) ≤ most = early 1 (omega arith) in
       absurd (omega (arith, lines, soon))
 
@@ -188,15 +188,15 @@ module _ (child : ℕ) (words : List (List ℕ)) (request : List ℕ) (quiet_req
       let e : Event = heard k room (Ok bytes) in
       let h : List ℕ = (spelled child silence calls).heard in
       let reading : IsReading child words text (part_of child calls) (Ok bytes) (moment_of child past) done.0 =
-          subst (λ ws. IsReading child ws text (part_of child calls) (Ok bytes) (moment_of child past) done.0) named
-          (subst (λ j. IsReading j (words_of j calls) text (part_of j calls) (Ok bytes) (moment_of j past) done.0) own
-          (done.3.1 text (ap (λ j. waiting j calls) own ∙ waits) has)) in
+      subst (λ ws. IsReading child ws text (part_of child calls) (Ok bytes) (moment_of child past) done.0) named
+      (subst (λ j. IsReading j (words_of j calls) text (part_of j calls) (Ok bytes) (moment_of j past) done.0) own
+      (done.3.1 text (ap (λ j. waiting j calls) own ∙ waits) has)) in
       elim reading.one [
         | inl quiet ↦
             let same : lines_read child (calls ++ e ∷ []) ≡ most =
-                ap (λ bs. length (lines_of bs)) (heard_now k room calls bytes own) ∙ ap length (lines_same h bytes quiet) ∙ count in
+            ap (λ bs. length (lines_of bs)) (heard_now k room calls bytes own) ∙ ap length (lines_same h bytes quiet) ∙ count in
             let next : waiting child (calls ++ e ∷ []) ≡ Some text =
-                waiting_own child calls e own ∙ ap (λ w. waiting_then w e) waits ∙ rw (has, ends_not bytes quiet) refl in
+            waiting_own child calls e own ∙ ap (λ w. waiting_then w e) waits ∙ rw (has, ends_not bytes quiet) refl in
             let whole : (xs : List Event) → (calls ++ e ∷ []) ++ xs ≡ calls ++ e ∷ xs = λ xs. append_assoc calls (e ∷ []) xs in
             joined e calls past events done.0 done.1 is done.2 reading.fetching
             (reads_done events (calls ++ e ∷ []) (past ++ done.0) done.1 (words_read child k room calls (Ok bytes) ∙ named) next same

@@ -1,5 +1,5 @@
 -- A request is brought, in as many pieces as it is written in.
-use Rattle.std.proofs.Common.{◌≡◌, ◌⊎◌, ℕ, ◌+◌, ◌<◌, ◌≤◌, false, List, [], ◌∷◌, ◌++◌, length, take, drop, Some, Ok, Err, if◌then◌else◌, refl, sym, ap, subst, ◌∙◌, arith, append_assoc, append-nil, length-append, All, inl, inr}
+use Rattle.std.proofs.Common.{◌≡◌, ◌⊎◌, ℕ, ◌+◌, ◌<◌, ◌≤◌, false, List, [], ◌∷◌, ◌++◌, length, take, drop, Some, Ok, Err, refl, sym, ap, subst, ◌∙◌, arith, append_assoc, append-nil, length-append, All, inl, inr}
 use Rattle.std.proofs.Math.Seq.{take-append-add, take-append_seam}
 use Rattle.std.proofs.lemmas.Bool.{cases_lt}
 use Rattle.std.proofs.lemmas.List.{length-take-le, take_all, take-append-le, take-append-drop}
@@ -10,7 +10,7 @@ use Rattle.restart_host.proofs.CourseLemmas.{course_join, course_so, moment_join
 use Rattle.restart_host.proofs.FeedLemmas.{line_front}
 use Rattle.restart_host.proofs.StepsLemmas.{written_first}
 use Rattle.restart_host.proofs.UsesLemmas.{waiting_own, words_kept}
-use Rattle.restart_host.specs.Lives.{AreBringing, Brings, IsNoRead, IsWritten, Moment, moment_by, moment_of}
+use Rattle.restart_host.specs.Lives.{Brings, IsNoRead, IsWritten, Moment, moment_by, moment_of}
 use Rattle.restart_host.specs.Tries.{IsOn}
 use Rattle.restart_host.specs.Uses.{AreDone, waiting, waiting_then, words_of}
 
@@ -90,10 +90,10 @@ brings_nothing child words asked m = record {
 prefix_line : (asked rest request : List ℕ) → asked ++ rest ≡ request ++ 10 ∷ [] → 0 < length rest → IsLine request → IsLine asked
 prefix_line asked rest request is some line =
     let long : length asked + length rest ≡ length request + 1 =
-        sym (length-append asked rest) ∙ ap length is ∙ length-append request (10 ∷ []) in
+    sym (length-append asked rest) ∙ ap length is ∙ length-append request (10 ∷ []) in
     let within : length asked ≤ length request = omega (arith, long, some) in
     let front : asked ≡ take (length asked) request =
-        sym (take-append_seam asked rest) ∙ ap (take (length asked)) is ∙ take-append-le (length asked) request (10 ∷ []) within in
+    sym (take-append_seam asked rest) ∙ ap (take (length asked)) is ∙ take-append-le (length asked) request (10 ∷ []) within in
     subst IsLine (sym front)
     (line_front (take (length asked) request) (drop (length asked) request)
     (subst IsLine (sym (take-append-drop (length asked) request)) line))
@@ -121,19 +121,19 @@ pieces_done child words request (wrote k p (Ok n) ∷ events) calls past is aske
     let later = takes_from child (record { talk = silence; fallen = false }) events (All-tail (IsTaken child) _ _ each) in
     let taken : take n p ≡ p = take_all n p (omega (arith, done.3.0)) in
     let cut : take n p ++ later.bytes ≡ rest =
-        ap (λ (t : Talk). t.written)
-        (sym (later.spells (wrote_more (take n p) silence)) ∙ sym (written_first child k n p events own)) ∙ spells in
+    ap (λ (t : Talk). t.written)
+    (sym (later.spells (wrote_more (take n p) silence)) ∙ sym (written_first child k n p events own)) ∙ spells in
     let some : 0 < length rest =
-        omega (arith, ap length (sym cut), length-append (take n p) later.bytes, length-take-le n p head.2, head.1) in
+    omega (arith, ap length (sym cut), length-append (take n p) later.bytes, length-take-le n p head.2, head.1) in
     let quiet : IsLine asked = prefix_line asked rest request whole some line in
     let e : Event = wrote k p (Ok n) in
     let first : Brings child words asked (take n p) (moment_of child past) done.0 =
-        subst (λ bs. Brings child words asked bs (moment_of child past) done.0) (sym taken)
-        (subst (λ ws. Brings child ws asked p (moment_of child past) done.0) named
-        (subst (λ j. Brings j (words_of j calls) asked p (moment_of j past) done.0) own
-        (done.3.2 asked (ap (λ j. waiting j calls) own ∙ waits) quiet))) in
+    subst (λ bs. Brings child words asked bs (moment_of child past) done.0) (sym taken)
+    (subst (λ ws. Brings child ws asked p (moment_of child past) done.0) named
+    (subst (λ j. Brings j (words_of j calls) asked p (moment_of j past) done.0) own
+    (done.3.2 asked (ap (λ j. waiting j calls) own ∙ waits) quiet))) in
     let next : waiting child (calls ++ e ∷ []) ≡ Some (asked ++ take n p) =
-        waiting_own child calls e own ∙ ap (λ w. waiting_then w e) waits ∙ rw quiet refl in
+    waiting_own child calls e own ∙ ap (λ w. waiting_then w e) waits ∙ rw quiet refl in
     let rest_done = pieces_done child words request events (calls ++ e ∷ []) (past ++ done.0) done.1 (asked ++ take n p) later.bytes
     line (append_assoc asked (take n p) later.bytes ∙ ap (λ bs. asked ++ bs) cut ∙ whole)
     (words_kept child k calls p (Ok n) ∙ named) next (All-tail (IsTaken child) _ _ each)
