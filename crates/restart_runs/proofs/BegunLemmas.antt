@@ -13,7 +13,7 @@ use Rattle.restart_host.specs.Uses.{AreDone, IsEnding, child_in}
 use Rattle.restart_runs.proofs.CallsLemmas.{AreSame, others_same}
 use Rattle.restart_runs.proofs.StandsLemmas.{Stands}
 use Rattle.restart_runs.specs.Again.{AreBegun, words_for}
-use Rattle.restart_runs.specs.Brought.{IsWorkerIn}
+use Rattle.restart_runs.proofs.WorkersLemmas.{IsWorkerIn}
 use Rattle.round_run.proofs.StartsLemmas.{starts_more, starts_whole}
 use Rattle.round_run.specs.Calls.{IsStop, has_child, start_at, start_in, starts_of}
 use Rattle.task_model.specs.declared.task.Task.{Task}

@@ -8,3 +8,4 @@ pub mod PiecesLemmas
 pub mod SameLemmas
 pub mod StandsLemmas
 pub mod TabledAgainLemmas
+pub mod WorkersLemmas

@@ -11,7 +11,7 @@ use Rattle.restart_runs.proofs.CallsLemmas.{IsNoStart, done_cut, stop_no}
 use Rattle.restart_runs.proofs.StandsLemmas.{Stands}
 use Rattle.restart_runs.proofs.TabledAgainLemmas.{asks_kept, tabled_again}
 use Rattle.restart_runs.specs.Again.{LogRanAgain}
-use Rattle.restart_runs.specs.Brought.{IsWorkerIn}
+use Rattle.restart_runs.proofs.WorkersLemmas.{GoToWorkers, IsWorkerIn, worker_in}
 use Rattle.restart_runs.specs.Laws.{OuterCallsAreBrought, OuterRunsAreTabled}
 use Rattle.round_run.specs.Calls.{Follows, IsStop, LogRan, starts_before, starts_of}
 use Rattle.round_run.specs.Dialogue.{Dialogue, workers_in}
@@ -29,7 +29,8 @@ before_all pools zero some = absurd (omega (arith, some))
 before_all pools (suc more) some = refl
 
 pub outer_brought : OuterCallsAreBrought
-outer_brought task head entries calls past os is fit legal few workers alone ran talks done =
+outer_brought task head entries calls past os is fit able legal few served alone ran talks done =
+    let workers : GoToWorkers task head entries = λ k r at. worker_in task head r.child able (served k r at) in
     let starts : List Event = starts_before head.pools 0 (asks_of entries) in
     let events : List Event = ran.1 in
     let stops : List Event = ran.2 in
@@ -66,7 +67,7 @@ told_whole : (calls : Calls) → calls.whole ≡ true → told_of calls ≡ Some
 told_whole calls whole = rw whole refl
 
 pub outer_tabled : OuterRunsAreTabled
-outer_tabled task head entries stage o last old new memory past after fit few run ran workers alone carries whole was now =
+outer_tabled task head entries stage o last old new memory past after fit able few run ran alone carries whole was now =
     let done = carries.done past after was now whole in
     let grown : (before : List Event) × (Some past ≡ Some before) × (after ≡ before ++ carries.events) =
     subst (λ (told : Option (List Event)). LogGrows told (Some after) carries.events) was
@@ -81,7 +82,7 @@ outer_tabled task head entries stage o last old new memory past after fit few ru
     run.talks in
     let kept : asks_of entries ≤ MOST_CALLS = omega (arith, asks_kept task head entries stage run.turns, few) in
     let again : LogRanAgain task head entries (Some past) (Some (past ++ carries.events)) =
-    outer_brought task head entries old.log.events past done.0 carries.events fit run.legal kept workers alone ran_so talks done.2 in
+    outer_brought task head entries old.log.events past done.0 carries.events fit able run.legal kept run.served alone ran_so talks done.2 in
     let there : after ≡ past ++ carries.events = grown.2 ∙ ap (λ zs. zs ++ carries.events) same in
     tabled_again task head entries stage o (Some past) (Some after) fit few (record {
       legal = run.legal;

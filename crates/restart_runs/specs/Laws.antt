@@ -3,14 +3,15 @@
 use Rattle.std.specs.Prelude.{◌≡◌, ℕ, ◌≤◌, Bool, true, List, [], ◌++◌, Option, Some}
 use Rattle.io_world.specs.Logs.{said_of, told_of}
 use Rattle.io_world.specs.Talks.{Event, Talk, silence, spelled}
+use Rattle.pools.specs.Pools.{AreFitPools}
 use Rattle.restart_host.specs.Leads.{Carries, Parts}
 use Rattle.restart_host.specs.Uses.{AreDone}
 use Rattle.restart_runs.specs.Again.{FollowsAgain, LogRanAgain}
-use Rattle.restart_runs.specs.Brought.{AreAskedInTurn, GoToWorkers}
+use Rattle.restart_runs.specs.Brought.{AreAskedInTurn}
 use Rattle.restart_runs.specs.Tabled.{AnsweredAgain, IsAgainRun, IsTabledAgain, SpeakAgain}
 use Rattle.round_run.specs.Calls.{LogRan}
 use Rattle.round_run.specs.Dialogue.{Dialogue, workers_in}
-use Rattle.table_runs.specs.Asking.{AnsweredBy}
+use Rattle.table_runs.specs.Asking.{AnsweredBy, GoToPools}
 use Rattle.table_runs.specs.Tabled.{IsTabled, IsTalkedRun}
 use Rattle.task_model.specs.Fit.{IsFit}
 use Rattle.task_model.specs.declared.task.Task.{Task}
@@ -37,13 +38,14 @@ AgainDialoguesAgree =
     → AgreesWith head.version task answers entries
 
 -- A run over a host that starts its children again leaves such a log on the host below: where its calls were done by those
--- that came there, as such a host says of them, each request goes to a child of a pool, and stands behind the answers to
--- all earlier ones of its child, the log below has the calls of the run, whose children are started again.
+-- that came there, as such a host says of them, each request goes to a child of the pools, and stands behind the answers
+-- to all earlier ones of its child, the log below has the calls of the run, whose children are started again.
 abbrev pub OuterCallsAreBrought : Type 0
 OuterCallsAreBrought =
     (task : Task) (head : Head) (entries : List Entry) (calls past os events : List Event) → IsFit task
-    → IsLegal head.version task entries → asks_of entries ≤ MOST_CALLS → GoToWorkers task head entries
-    → AreAskedInTurn task (workers_in head) entries → LogRan task head entries (Some calls) (Some (calls ++ os))
+    → AreFitPools task (workers_in head) → IsLegal head.version task entries → asks_of entries ≤ MOST_CALLS
+    → GoToPools task (workers_in head) entries → AreAskedInTurn task (workers_in head) entries
+    → LogRan task head entries (Some calls) (Some (calls ++ os))
     → Dialogue task head.version (workers_in head) entries (λ child. Some (spelled child silence (calls ++ os)))
     → AreDone calls past os events → LogRanAgain task head entries (Some past) (Some (past ++ events))
 
@@ -52,9 +54,9 @@ OuterCallsAreBrought =
 abbrev pub OuterRunsAreTabled : Type 0
 OuterRunsAreTabled =
     (task : Task) (head : Head) (entries : List Entry) (stage : Stage) (o : Outcome) (last : ℕ) (old new : Parts)
-    (memory : Bool) (past after : List Event) → IsFit task → head.calls ≤ MOST_CALLS
-    → IsTalkedRun task head entries stage o (said_of new.log)
-    → LogRan task head entries (told_of old.log) (told_of new.log) → GoToWorkers task head entries
+    (memory : Bool) (past after : List Event) → IsFit task → AreFitPools task (workers_in head)
+    → head.calls ≤ MOST_CALLS → IsTalkedRun task head entries stage o (said_of new.log)
+    → LogRan task head entries (told_of old.log) (told_of new.log)
     → AreAskedInTurn task (workers_in head) entries → Carries last old new memory → new.log.whole ≡ true
     → old.below.log ≡ Some past → new.below.log ≡ Some after
     → IsTabledAgain task head entries (Some past) (Some after) o
