@@ -34,7 +34,7 @@ other_words k child words (wrote j bytes answer) own other = refl
 other_words k child words (heard j room answer) own other = refl
 other_words k child words (stopped j answer) own other = refl
 
-other_said : (k child : ℕ) (talk : Talk) (event : Event) → child_in event ≡ child → k ≢ child
+pub other_said : (k child : ℕ) (talk : Talk) (event : Event) → child_in event ≡ child → k ≢ child
     → said_after k talk event ≡ talk
 other_said k child talk (started j argv (Ok u)) own other = rw (not_equal j k (λ same. other (same ∙ own))) refl
 other_said k child talk (started j argv (Err fault)) own other = refl
@@ -86,14 +86,14 @@ pub waiting_started : (child : ℕ) (words : List (List ℕ)) (calls : List Even
 waiting_started child words calls =
     waiting_own child calls (started child words (Ok tt)) refl ∙ some_then (waiting child calls) child words
 
-said_started : (child : ℕ) (words : List (List ℕ)) (talk : Talk) → said_after child talk (started child words (Ok tt)) ≡ silence
+pub said_started : (child : ℕ) (words : List (List ℕ)) (talk : Talk) → said_after child talk (started child words (Ok tt)) ≡ silence
 said_started child words talk = rw (eq-eqb child child refl) refl
 
 said_wrote : (child n : ℕ) (bytes : List ℕ) (talk : Talk)
     → said_after child talk (wrote child bytes (Ok n)) ≡ wrote_more (take n bytes) talk
 said_wrote child n bytes talk = rw (eq-eqb child child refl) refl
 
-said_heard : (child room : ℕ) (bytes : List ℕ) (talk : Talk)
+pub said_heard : (child room : ℕ) (bytes : List ℕ) (talk : Talk)
     → said_after child talk (heard child room (Ok bytes)) ≡ heard_more bytes talk
 said_heard child room bytes talk = rw (eq-eqb child child refl) refl
 

@@ -1,3 +1,11 @@
 pub mod AgainLemmas
+pub mod BegunLemmas
+pub mod BroughtLemmas
+pub mod CallsLemmas
+pub mod FetchedLemmas
+pub mod OuterLemmas
+pub mod PiecesLemmas
 pub mod SameLemmas
+pub mod StandsLemmas
 pub mod TabledAgainLemmas
+pub mod WorkersLemmas

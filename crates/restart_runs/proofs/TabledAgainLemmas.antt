@@ -34,6 +34,13 @@ use Rattle.transcript_model.specs.declared.outcome.LimitKind.TheVariants.{States
 use Rattle.transcript_model.specs.declared.outcome.Outcome.{Outcome}
 use Rattle.transcript_model.specs.declared.outcome.Outcome.TheVariants as outcome
 
+-- turns keep to the limit of calls
+pub asks_kept : (task : Task) (head : Head) (entries : List Entry) (stage : Stage)
+    → AreTurnsOf head.mode (limits_of head) task entries stage → asks_of entries ≤ head.calls
+asks_kept task head entries stage turns =
+    turns_keep (limits_of head) task (TurnOf head.mode (limits_of head) task) (turn_keeps (limits_of head) task head.mode)
+    nothing_kept [] entries stage (as_family head.mode (limits_of head) task entries stage turns) (omega arith)
+
 -- Where the log is told, children that speak so in each of their lives did at each moment of the calls of the entries.
 agreed : (task : Task) (head : Head) (answers : Answers) (entries : List Entry) (old new : Option (List Event)) → IsFit task
     → IsLegal head.version task entries → asks_of entries ≤ MOST_CALLS → LogRanAgain task head entries old new
@@ -66,9 +73,7 @@ module _ (task : Task) (head : Head) (entries : List Entry) (stage : Stage) (o :
   limits = limits_of head
 
   calls_kept : asks_of entries ≤ head.calls
-  calls_kept =
-      turns_keep limits task (TurnOf head.mode limits task) (turn_keeps limits task head.mode) nothing_kept [] entries stage
-      (as_family head.mode limits task entries stage run.turns) (omega arith)
+  calls_kept = asks_kept task head entries stage run.turns
 
   pub agrees : (answers : Answers) → AnsweredAgain head.version task answers old new
       → AgreesWith head.version task answers entries
@@ -125,9 +130,7 @@ restarts_change task head answers xs ys s t old new spoken o p fit few mode firs
     }) end_xs end_ys
   where
     kept : asks_of ys ≤ head.calls
-    kept =
-        turns_keep (limits_of head) task (TurnOf head.mode (limits_of head) task) (turn_keeps (limits_of head) task head.mode)
-        nothing_kept [] ys t (as_family head.mode (limits_of head) task ys t second.turns) (omega arith)
+    kept = asks_kept task head ys t second.turns
 
     talked : AgreesWith head.version task answers ys
     talked =

@@ -1,11 +1,17 @@
 -- Laws of runs whose children are started again. Each is the contract of a public function of `laws.rt`, and so is
 -- proved.
-use Rattle.std.specs.Prelude.{◌≡◌, ℕ, ◌≤◌, List, [], Option}
-use Rattle.io_world.specs.Talks.{Event, Talk}
-use Rattle.restart_runs.specs.Again.{FollowsAgain}
+use Rattle.std.specs.Prelude.{◌≡◌, ℕ, ◌≤◌, Bool, true, List, [], ◌++◌, Option, Some}
+use Rattle.io_world.specs.Logs.{said_of, told_of}
+use Rattle.io_world.specs.Talks.{Event, Talk, silence, spelled}
+use Rattle.pools.specs.Pools.{AreFitPools}
+use Rattle.restart_host.specs.Leads.{Carries, Parts}
+use Rattle.restart_host.specs.Uses.{AreDone}
+use Rattle.restart_runs.specs.Again.{FollowsAgain, LogRanAgain}
+use Rattle.restart_runs.specs.Brought.{AreAskedInTurn}
 use Rattle.restart_runs.specs.Tabled.{AnsweredAgain, IsAgainRun, IsTabledAgain, SpeakAgain}
-use Rattle.round_run.specs.Dialogue.{workers_in}
-use Rattle.table_runs.specs.Asking.{AnsweredBy}
+use Rattle.round_run.specs.Calls.{LogRan}
+use Rattle.round_run.specs.Dialogue.{Dialogue, workers_in}
+use Rattle.table_runs.specs.Asking.{AnsweredBy, GoToPools}
 use Rattle.table_runs.specs.Tabled.{IsTabled, IsTalkedRun}
 use Rattle.task_model.specs.Fit.{IsFit}
 use Rattle.task_model.specs.declared.task.Task.{Task}
@@ -30,6 +36,30 @@ AgainDialoguesAgree =
     → IsLegal head.version task entries → asks_of entries ≤ MOST_CALLS
     → FollowsAgain task head past [] entries events → SpeakAgain head.version task answers past events
     → AgreesWith head.version task answers entries
+
+-- A run over a host that starts its children again leaves such a log on the host below: where its calls were done by those
+-- that came there, as such a host says of them, each request goes to a child of the pools, and stands behind the answers
+-- to all earlier ones of its child, the log below has the calls of the run, whose children are started again.
+abbrev pub OuterCallsAreBrought : Type 0
+OuterCallsAreBrought =
+    (task : Task) (head : Head) (entries : List Entry) (calls past os events : List Event) → IsFit task
+    → AreFitPools task (workers_in head) → IsLegal head.version task entries → asks_of entries ≤ MOST_CALLS
+    → GoToPools task (workers_in head) entries → AreAskedInTurn task (workers_in head) entries
+    → LogRan task head entries (Some calls) (Some (calls ++ os))
+    → Dialogue task head.version (workers_in head) entries (λ child. Some (spelled child silence (calls ++ os)))
+    → AreDone calls past os events → LogRanAgain task head entries (Some past) (Some (past ++ events))
+
+-- So a run over such a host, whose log is whole, comes to what runs do whose children are started again: by what calls made
+-- of the host, which the host below tells.
+abbrev pub OuterRunsAreTabled : Type 0
+OuterRunsAreTabled =
+    (task : Task) (head : Head) (entries : List Entry) (stage : Stage) (o : Outcome) (last : ℕ) (old new : Parts)
+    (memory : Bool) (past after : List Event) → IsFit task → AreFitPools task (workers_in head)
+    → head.calls ≤ MOST_CALLS → IsTalkedRun task head entries stage o (said_of new.log)
+    → LogRan task head entries (told_of old.log) (told_of new.log)
+    → AreAskedInTurn task (workers_in head) entries → Carries last old new memory → new.log.whole ≡ true
+    → old.below.log ≡ Some past → new.below.log ≡ Some after
+    → IsTabledAgain task head entries (Some past) (Some after) o
 
 -- A run whose children are started again is as the plain run over the answers by which they speak in each of their
 -- lives, and ends with a plan or with none where all transcripts that agree with them stay within its limits.

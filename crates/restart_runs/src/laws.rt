@@ -1,11 +1,22 @@
 //! Laws of runs whose children are started again, each the contract of a function that does
 //! nothing.
-ghost use Rattle.restart_runs.specs.Laws.{AgainDialoguesAgree, AgainRunsAreTabled, RestartsChangeNothing, RestartsDoNotMatter};
+ghost use Rattle.restart_runs.specs.Laws.{AgainDialoguesAgree, AgainRunsAreTabled, OuterCallsAreBrought, OuterRunsAreTabled, RestartsChangeNothing, RestartsDoNotMatter};
 
 /// Where each child answers by a table in each of its lives, the answers of the transcript are the
 /// table's, in any mode.
 pub fn again_dialogues_agree()
     ensures { AgainDialoguesAgree }
+{}
+
+/// A run over a host that starts its children again leaves on the host below the calls of such a run: each request is
+/// brought whole, and each answer's line is fetched, at the place of its request in one life of its child.
+pub fn outer_calls_are_brought()
+    ensures { OuterCallsAreBrought }
+{}
+
+/// So it comes to what runs do whose children are started again.
+pub fn outer_runs_are_tabled()
+    ensures { OuterRunsAreTabled }
 {}
 
 /// A run whose children answer by a table in each of their lives is as the plain run over it, in
