@@ -1,5 +1,5 @@
 //! The desk of a run.
-use crate::batches::{run_rounds, start_workers};
+use crate::batches::{Posed, run_rounds, start_workers};
 use crate::ending::Batch;
 use crate::fault::RunFault;
 use crate::lines::Lines;
@@ -140,23 +140,12 @@ impl<'a> Desk<'a> {
             out.new) (RanBatch self.old.task self.old.head dues.now self.old.state self.new.state)
             (IsFrontOfBatch self.old.task self.old.head self.old.state.entries dues.now) result }
     {
-        start_workers(
-            self.task,
-            self.head,
-            &self.session,
-            &mut self.lines,
-            host,
-            dues,
-        )?;
-        run_rounds(
-            self.task,
-            &mut self.session,
-            &mut self.lines,
-            host,
-            out,
-            dues,
-            self.head,
-        )
+        let posed = Posed {
+            task: self.task,
+            head: self.head,
+        };
+        start_workers(&posed, &self.session, &mut self.lines, host, dues)?;
+        run_rounds(&posed, &mut self.session, &mut self.lines, host, out, dues)
     }
 
     /// Stops all children that were started. That one fails changes nothing.
