@@ -17,23 +17,31 @@ use session_core::Session;
 use task_model::Task;
 use transcript_model::Head;
 
+/// What is run: a task, with a head.
+#[derive(Clone, Copy)]
+pub(crate) struct Posed<'a> {
+    /// The task.
+    pub(crate) task: &'a Task,
+    /// The head.
+    pub(crate) head: &'a Head,
+}
+
 /// Runs the asks in rounds, as far as calls are left, where all workers run. They are due and stand
 /// in the list once each.
 pub(crate) fn run_rounds<H: Host, O: Sink>(
-    task: &Task,
+    posed: &Posed<'_>,
     session: &mut Session,
     lines: &mut Lines,
     host: &mut H,
     out: &mut O,
     dues: &[Due],
-    head: &Head,
 ) -> Result<Batch, RunFault>
-    requires works { Works task.now head.now session.old lines.old (H.running host.old)
-        (H.spoken host.old) }
-    requires ready { AreReady task.now session.old.entries dues.now }
+    requires works { Works posed.now.task.now posed.now.head.now session.old lines.old (H.running
+        host.old) (H.spoken host.old) }
+    requires ready { AreReady posed.now.task.now session.old.entries dues.now }
     requires all_run { 0 < length dues.now → AllRun session.old.pools (H.running host.old) }
-    ensures runs { RunsRounds task.now head.now dues.now session.old session.new lines.old lines.new
-        (stretch H.Host O.Sink host.old host.new out.old out.new) result }
+    ensures runs { RunsRounds posed.now.task.now posed.now.head.now dues.now session.old session.new
+        lines.old lines.new (stretch H.Host O.Sink host.old host.new out.old out.new) result }
 {
     let mut rest = dues;
     'rounds: loop {
@@ -45,31 +53,31 @@ pub(crate) fn run_rounds<H: Host, O: Sink>(
             return Ok(Batch::CallsSpent);
         }
         let (now, later) = rest.split_at(count);
-        run_round(task, session, lines, host, out, now)?;
+        run_round(posed.task, session, lines, host, out, now)?;
         rest = later;
     }
 }
 
 /// Starts all workers of all pools, if the session's first round follows.
 pub(crate) fn start_workers<H: Host>(
-    task: &Task,
-    head: &Head,
+    posed: &Posed<'_>,
     session: &Session,
     lines: &mut Lines,
     host: &mut H,
     dues: &[Due],
 ) -> Result<(), RunFault>
-    requires pools { AreStartable head.now.pools }
-    requires rests { Rests task.now head.now session.now lines.old (H.running host.old)
-        (H.spoken host.old) }
-    ensures starts { StartsWorkers task.now head.now dues.now session.now lines.new (course H.Host host.old host.new) result }
+    requires pools { AreStartable posed.now.head.now.pools }
+    requires rests { Rests posed.now.task.now posed.now.head.now session.now lines.old (H.running
+        host.old) (H.spoken host.old) }
+    ensures starts { StartsWorkers posed.now.task.now posed.now.head.now dues.now session.now
+        lines.new (course H.Host host.old host.new) result }
 {
     if dues.is_empty() {
         return Ok(());
     }
     let asks = session.asks();
     if asks == 0 {
-        return lines.start_all(host, head.pools.as_slice());
+        return lines.start_all(host, posed.head.pools.as_slice());
     }
     Ok(())
 }

@@ -1,5 +1,5 @@
 //! The desk of a run.
-use crate::batches::{run_rounds, start_workers};
+use crate::batches::{Posed, run_rounds, start_workers};
 use crate::ending::Batch;
 use crate::fault::RunFault;
 use crate::lines::Lines;
@@ -136,27 +136,16 @@ impl<'a> Desk<'a> {
     ) -> Result<Batch, RunFault>
         requires rests { RestsAt self.old (host_told H.Host host.old) }
         requires ready { AreReady self.old.task self.old.state.entries dues.now }
-        ensures goes { OnBatch self.old self.new (stretch H.Host O.Sink host.old host.new out.old out.new)
-            (RanBatch self.old.task self.old.head dues.now self.old.state self.new.state)
+        ensures goes { OnBatch self.old self.new (stretch H.Host O.Sink host.old host.new out.old
+            out.new) (RanBatch self.old.task self.old.head dues.now self.old.state self.new.state)
             (IsFrontOfBatch self.old.task self.old.head self.old.state.entries dues.now) result }
     {
-        start_workers(
-            self.task,
-            self.head,
-            &self.session,
-            &mut self.lines,
-            host,
-            dues,
-        )?;
-        run_rounds(
-            self.task,
-            &mut self.session,
-            &mut self.lines,
-            host,
-            out,
-            dues,
-            self.head,
-        )
+        let posed = Posed {
+            task: self.task,
+            head: self.head,
+        };
+        start_workers(&posed, &self.session, &mut self.lines, host, dues)?;
+        run_rounds(&posed, &mut self.session, &mut self.lines, host, out, dues)
     }
 
     /// Stops all children that were started. That one fails changes nothing.

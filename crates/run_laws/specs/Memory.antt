@@ -5,12 +5,14 @@ use Rattle.std.specs.Io.KnownBytes.{Appends}
 use Rattle.std.specs.List.{flat_map}
 use Rattle.instance_queue.specs.declared.due.Due.{Due}
 use Rattle.io_world.specs.Talks.{Event}
+use Rattle.io_world.specs.declared.host.Host as hosts
 use Rattle.io_world.specs.declared.host.HostFault.TheVariants as host
+use Rattle.io_world.specs.declared.sink.Sink as sinks
 use Rattle.report_text.specs.Texts.{text_of_entry}
 use Rattle.round_run.specs.Breaking.{refusal}
 use Rattle.round_run.specs.Desk.{AtDesk, OnBatch}
 use Rattle.round_run.specs.Resting.{IsFrontOfBatch, RanBatch}
-use Rattle.round_run.specs.Told.{Stretch}
+use Rattle.round_run.specs.Told.{stretch}
 use Rattle.round_run.specs.declared.fault.RunFault.TheVariants.{Memory}
 use Rattle.transcript_model.specs.Legal.{HasNoneOpen}
 use Rattle.transcript_model.specs.declared.entry.Entry.{Entry}
@@ -29,11 +31,12 @@ pub record LosesNoAnswer (before : List Entry) (old new : Option (List ℕ)) (lo
   pub printed : Appends old new (flat_map text_of_entry more)
   pub kept : IfSome log (λ events. HasNoneOpen (before ++ more) ⊎ LacksMemory events)
 
--- A batch that stops where memory is wanting loses no answer to a request that it has printed: what the planner needs to
--- print and to keep an answer it takes before it asks.
-abbrev pub BatchesLoseNoAnswer : Type 0
-BatchesLoseNoAnswer =
-    (old new : AtDesk) (c : Stretch) (dues : List Due)
-    → OnBatch old new c (RanBatch old.task old.head dues old.state new.state)
+-- A batch that stops where memory is wanting loses no answer to a request that it has printed, over any host and sink:
+-- what the planner needs to print and to keep an answer it takes before it asks.
+abbrev pub BatchesLoseNoAnswer : {H O : Type 0} → hosts.Ghosts H → sinks.Ghosts O → Type 0
+BatchesLoseNoAnswer {H} {O} ghosts sink =
+    (old new : AtDesk) (host_old host_new : H) (out_old out_new : O) (dues : List Due)
+    → OnBatch old new (stretch ghosts sink host_old host_new out_old out_new)
+    (RanBatch old.task old.head dues old.state new.state)
     (IsFrontOfBatch old.task old.head old.state.entries dues) (Err Memory)
-    → LosesNoAnswer old.state.entries c.was.taken c.now.taken c.now.host.log
+    → LosesNoAnswer old.state.entries (sink.taken out_old) (sink.taken out_new) (ghosts.log host_new)

@@ -4,6 +4,8 @@ ghost use Rattle.run_laws.specs.Reports.{ReportsOfRunsAreFormed, ShortReportsCou
 ghost use Rattle.run_laws.specs.Reports.{TextsNameRuns};
 ghost use Rattle.run_laws.specs.Tables.{EarlierTalksStay, TablesNameRuns};
 
+use io_world::{Host, Sink};
+
 /// The report of a run of any mode has the forms of a report, where the steps of its dreams are
 /// counted.
 pub fn reports_of_runs_are_formed()
@@ -37,6 +39,6 @@ pub fn earlier_talks_stay()
 
 /// A batch that stops where memory is wanting loses no answer to a request that it has printed: none
 /// waits for its answer, or the last call on a child was refused for want of memory.
-pub fn batches_lose_no_answer()
-    ensures { BatchesLoseNoAnswer }
+pub fn batches_lose_no_answer<H: Host, O: Sink>()
+    ensures { BatchesLoseNoAnswer H.Host O.Sink }
 {}

@@ -24,11 +24,11 @@ rounds-init g c = record {
   works = c.requires.works;
   ready = c.requires.ready;
   all_run = c.requires.all_run;
-  so_far = so_far_none c.args.head.now c.args.task.now c.args.session.now.entries (due_instances c.args.dues.now);
+  so_far = so_far_none c.args.posed.now.head.now c.args.posed.now.task.now c.args.session.now.entries (due_instances c.args.dues.now);
   counts = refl;
   grows = omega arith;
   goes = goes_none c.args.session.now.entries (g.O.Sink.taken c.args.out.now);
-  order = calls_none c.args.task.now (workers_in c.args.head.now) c.args.session.now.entries (g.H.Host.log c.args.host.now);
+  order = calls_none c.args.posed.now.task.now (workers_in c.args.posed.now.head.now) c.args.session.now.entries (g.H.Host.log c.args.host.now);
   same = record { started = refl; running = λ k. refl };
   host = omega arith;
   sink = omega arith;
@@ -47,8 +47,8 @@ returns-then-is_empty g c = record {
         let none = empty_of c.rounds.rest.now (sym c.is_empty.ensures ∙ c.if-is_empty.true) in
         let none_long = ap length none in
         let ran =
-        so_far_end c.args.head.now c.args.task.now c.args.session.now.entries (due_instances c.args.dues.now) now.entries
-        (due_instances c.rounds.rest.now) (none_of_none c.args.head.now now.entries c.rounds.rest.now none) i.so_far in
+        so_far_end c.args.posed.now.head.now c.args.posed.now.task.now c.args.session.now.entries (due_instances c.args.dues.now) now.entries
+        (due_instances c.rounds.rest.now) (none_of_none c.args.posed.now.head.now now.entries c.rounds.rest.now none) i.so_far in
         record {
           more = ran.0;
           pushed = ran.1;
@@ -74,18 +74,18 @@ returns-then-count-eq0 g c = record {
         let now = c.rounds.session in
         let i = c.rounds.invariant in
         let some = filled_of c.rounds.rest.now (sym c.is_empty.ensures ∙ c.if-is_empty.false) in
-        let all = spent c.args.head.now c.args.task.now now c.rounds.rest.now c.next_round-count.result i.works.of i.works.listens.session
-        c.next_round-count.ensures.cut (c.next_round-count.ensures.some c.args.task.now i.works.listens.session) some c.if-count-eq0.true in
+        let all = spent c.args.posed.now.head.now c.args.posed.now.task.now now c.rounds.rest.now c.next_round-count.result i.works.of i.works.listens.session
+        c.next_round-count.ensures.cut (c.next_round-count.ensures.some c.args.posed.now.task.now i.works.listens.session) some c.if-count-eq0.true in
         let ran =
-        so_far_end c.args.head.now c.args.task.now c.args.session.now.entries (due_instances c.args.dues.now) now.entries
+        so_far_end c.args.posed.now.head.now c.args.posed.now.task.now c.args.session.now.entries (due_instances c.args.dues.now) now.entries
         (due_instances c.rounds.rest.now)
-        (none_left c.args.head.now c.args.task.now now (due_instances c.rounds.rest.now) i.works.listens.session all) i.so_far in
+        (none_left c.args.posed.now.head.now c.args.posed.now.task.now now (due_instances c.rounds.rest.now) i.works.listens.session all) i.so_far in
         record {
           more = ran.0;
           pushed = ran.1;
           batch = ran.2;
           grows = i.grows;
-          ends = (all, omega (arith, all, some, i.counts), first_of c.args.task.now now.entries c.rounds.rest.now i.ready some);
+          ends = (all, omega (arith, all, some, i.counts), first_of c.args.posed.now.task.now now.entries c.rounds.rest.now i.ready some);
         };
     adds = record { goes = c.rounds.invariant.goes; order = c.rounds.invariant.order };
     stopped = tt;
@@ -104,8 +104,8 @@ returns-in_err-run_round g c = record {
     ran = search rules;
     adds = search rules;
     stopped =
-        let head = c.args.head.now in
-        let task = c.args.task.now in
+        let head = c.args.posed.now.head.now in
+        let task = c.args.posed.now.task.now in
         let s = c.args.session.now in
         let now = c.rounds.session in
         let i = c.rounds.invariant in
@@ -175,7 +175,7 @@ rounds-preserved g c =
     let long : length c.split_at.result.0.now ≡ count = ap length front ∙ length-take-le count rest c.next_round-count.ensures.cut.within in
     let some : 0 < length rest = filled_of rest (sym c.is_empty.ensures ∙ c.if-is_empty.false) in
     let round =
-    subst (λ ds. (more : List Entry) × (new.entries ≡ now.entries ++ more) × IsRound c.args.task.now now.entries (due_instances ds) more)
+    subst (λ ds. (more : List Entry) × (new.entries ≡ now.entries ++ more) × IsRound c.args.posed.now.task.now now.entries (due_instances ds) more)
     front (done.ran.more, done.ran.pushed, done.ran.round) in
     let counted : asks_of new.entries ≡ asks_of now.entries + count =
     omega (arith, done.session.counted, done.ran.asked, i.works.listens.session.counted, long) in
@@ -189,22 +189,22 @@ rounds-preserved g c =
         };
         learnt = done.ran.learnt;
       };
-      ready = subst (AreReady c.args.task.now new.entries) (sym back) (done.ran.rest rest count front i.ready);
+      ready = subst (AreReady c.args.posed.now.task.now new.entries) (sym back) (done.ran.rest rest count front i.ready);
       all_run =
           λ later k child p at in_p.
           done.same.running child ∙ i.all_run some k child p (ap (λ ps. slice_get ps k) (sym done.ran.pools) ∙ at) in_p;
       so_far = subst (λ ds.
-          SoFar c.args.head.now c.args.task.now c.args.session.now.entries (due_instances c.args.dues.now) new.entries (due_instances ds))
+          SoFar c.args.posed.now.head.now c.args.posed.now.task.now c.args.session.now.entries (due_instances c.args.dues.now) new.entries (due_instances ds))
           (sym back)
-          (so_far_step c.args.head.now c.args.task.now c.args.session.now.entries (due_instances c.args.dues.now) now rest count new.entries
+          (so_far_step c.args.posed.now.head.now c.args.posed.now.task.now c.args.session.now.entries (due_instances c.args.dues.now) now rest count new.entries
           i.works.of i.works.listens.session c.next_round-count.ensures.cut (omega (arith, c.if-count-eq0.false)) round counted i.so_far);
       counts = omega (arith, done.ran.asked, long, ap length back, length-drop count rest, c.next_round-count.ensures.cut.within, i.counts);
       grows = omega (arith, done.ran.asked, i.grows);
       goes = goes_then c.args.session.now.entries now.entries new.entries (g.O.Sink.taken c.args.out.now)
           (g.O.Sink.taken c.rounds.out) (g.O.Sink.taken c.run_round.new.out) i.goes done.adds.goes;
-      order = calls_then c.args.task.now (workers_in c.args.head.now) c.args.session.now.entries now.entries new.entries
+      order = calls_then c.args.posed.now.task.now (workers_in c.args.posed.now.head.now) c.args.session.now.entries now.entries new.entries
           (g.H.Host.log c.args.host.now) (g.H.Host.log c.rounds.host) (g.H.Host.log c.run_round.new.host) i.order
-          (subst (λ ps. AddsCalls c.args.task.now ps now.entries new.entries (g.H.Host.log c.rounds.host) (g.H.Host.log c.run_round.new.host))
+          (subst (λ ps. AddsCalls c.args.posed.now.task.now ps now.entries new.entries (g.H.Host.log c.rounds.host) (g.H.Host.log c.run_round.new.host))
           i.works.of.pools done.adds.order);
       same = record { started = done.same.started ∙ i.same.started; running = λ k. done.same.running k ∙ i.same.running k };
       host = omega (arith, done.causes.host.later, i.host);

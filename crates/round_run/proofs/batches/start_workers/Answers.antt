@@ -23,8 +23,8 @@ returns-then-is_empty g c =
           ready = λ some. absurd (omega (arith, none, some));
           idle = λ _ k. refl;
           log = subst (Extends (g.H.Host.log c.args.host.now) (g.H.Host.log c.args.host.now))
-              (sym (ap (starts_before c.args.head.now.pools (length c.args.session.now.asked)) none
-              ∙ starts_idle c.args.head.now.pools (length c.args.session.now.asked))) (extends_none (g.H.Host.log c.args.host.now));
+              (sym (ap (starts_before c.args.posed.now.head.now.pools (length c.args.session.now.asked)) none
+              ∙ starts_idle c.args.posed.now.head.now.pools (length c.args.session.now.asked))) (extends_none (g.H.Host.log c.args.host.now));
         };
         refused = tt;
         state = c.requires.rests.works.listens.state;
@@ -36,7 +36,7 @@ returns-then-is_empty g c =
 
 pub returns-then-asks-eq0 : goal.returns-then-asks-eq0
 returns-then-asks-eq0 g c =
-    let head = c.args.head.now in
+    let head = c.args.posed.now.head.now in
     let s = c.args.session.now in
     let some : 0 < length c.args.dues.now = filled_of c.args.dues.now (sym c.is_empty.ensures ∙ c.if-is_empty.false) in
     let asked : length s.asked ≡ 0 = sym c.asks-asks.ensures ∙ c.if-asks-eq0.true in
@@ -53,7 +53,7 @@ returns-then-asks-eq0 g c =
             session = works.listens.session;
             working = works.listens.working;
             state = starts.state;
-            told = told_started c.args.task.now s.version s.pools s.entries (g.H.Host.running c.args.host.now)
+            told = told_started c.args.posed.now.task.now s.version s.pools s.entries (g.H.Host.running c.args.host.now)
                 (g.H.Host.running c.start_all.new.host) (held_of c.args.lines.now)
                 (held_of c.start_all.new.self) (g.H.Host.spoken c.args.host.now)
                 (g.H.Host.spoken c.start_all.new.host)

@@ -1,5 +1,7 @@
+use Rattle.round_run.specs.Told.{stretch}
 use Rattle.run_laws.proofs.MemoryLemmas.{batch_loses_none}
 use Rattle.run_laws.proofs.laws.batches_lose_no_answer.Goals as goal
 
 pub returns : goal.returns
-returns c = batch_loses_none
+returns g c = λ old new host_old host_new out_old out_new dues done.
+    batch_loses_none old new (stretch g.H.Host g.O.Sink host_old host_new out_old out_new) dues done
