@@ -154,7 +154,7 @@ fn branch<L: Look, W: Wanted, const N: usize>(
     Ok(())
 }
 
-/// Whether the tuple agrees with the partial one, has the types and is wanted.
+/// Whether the tuple agrees with the partial one, is wanted and has the types.
 fn is_answer<L: Look, W: Wanted>(query: &Query<'_, L, W>, partial: &Partial, tuple: &[Obj]) -> bool
     requires query { IsAskable query.now.sorts.now (W.can_judge query.now.wanted.now) [] }
     requires long { length tuple.now ≡ length query.now.sorts.now }
@@ -162,8 +162,8 @@ fn is_answer<L: Look, W: Wanted>(query: &Query<'_, L, W>, partial: &Partial, tup
         (W.wants query.now.wanted.now) partial.now [] tuple.now }
 {
     partial.agrees(tuple)
-        && have_types(query.alloc, query.look, tuple, query.sorts)
         && query.wanted.wants(tuple)
+        && have_types(query.alloc, query.look, tuple, query.sorts)
 }
 
 /// Adds the tuple, of which each object is fixed, if it has the types and is wanted.
