@@ -96,7 +96,7 @@ cup_closed n = both_or_none (n == 1)
 
 -- ---- a whole level
 
-first_due : IsDue fetch (known_of fetch []) (notes_of fetch []) cup
+pub first_due : IsDue fetch (known_of fetch []) (notes_of fetch []) cup
 unfolding role_of
 first_due = record { stream = grip; named = refl; reachable = refl; unfinished = refl }
 

@@ -4,3 +4,4 @@ pub mod TreesLemmas
 pub mod SpelledLemmas
 pub mod PlanLemmas
 pub mod LevelLemmas
+pub mod RefusalsLemmas

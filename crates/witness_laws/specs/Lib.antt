@@ -2,3 +2,4 @@ pub mod Fetch
 pub mod Texts
 pub mod Level
 pub mod Laws
+pub mod Refusals

@@ -1,4 +1,6 @@
-//! Laws by which the premises of the program's clauses are met in an example.
+//! Laws of an example, by which the premises of the program's clauses are met, and of what the
+//! definitions refuse.
 #![tactic(auto)]
 
 pub mod laws;
+pub mod refusals;
