@@ -2,7 +2,7 @@
 ghost use Rattle.std.specs.Prelude.{◌≡◌, ◌∷◌, [], ◌≤◌, IfOk, OnOk, Some, slice_get};
 ghost use Rattle.std.specs.BinaryHeap.{heap_items};
 ghost use Rattle.grounder.specs.Applicable.{IsApplicable, AreApplicable};
-ghost use Rattle.grounder.specs.Candidates.{AreCandidates};
+ghost use Rattle.grounder.specs.Finder.{FindsSteps};
 ghost use Rattle.task_model.specs.Fit.{IsFit};
 ghost use Rattle.task_model.specs.declared.limits.TheConstants.{MOST_STATES};
 ghost use Rattle.best_first.specs.Explored.{LeadsToState};
@@ -13,7 +13,7 @@ use crate::estimate::Estimate;
 use crate::expand::{Scene, Turn, grow};
 use crate::explore::{End, Explored, MOST_CANDIDATES};
 use crate::tree::Tree;
-use grounder::Candidates;
+use grounder::StepFinder;
 use plan_check::meets_goal;
 use std::alloc::{AllocError, Global};
 use std::cmp::Reverse;
@@ -242,7 +242,7 @@ fn visit_some<L: Look, E: Estimate>(
 fn expand<L: Look, E: Estimate>(
     alloc: Global,
     scene: &Scene<'_, L>,
-    candidates: &Candidates,
+    finder: &StepFinder,
     estimate: &mut E,
     frontier: &mut Frontier,
     from: Open,
@@ -252,14 +252,13 @@ fn expand<L: Look, E: Estimate>(
     requires frontier { IsFrontier scene.now.task.now (L.known scene.now.look.now) scene.now.limit
         frontier.old.tree.store frontier.old.tree.links.items
         (in_heap from ∷ heap_items frontier.old.queue) }
-    requires candidates { AreCandidates scene.now.task.now (L.known scene.now.look.now)
-        candidates.now }
+    requires finds { FindsSteps scene.now.task.now (L.known scene.now.look.now) finder.now }
     ensures { IfOk result (Spreads scene.now.task.now (L.known scene.now.look.now)
         scene.now.limit frontier.new.tree.store frontier.new.tree.links.items
         (heap_items frontier.new.queue)) }
 {
     let state = frontier.tree.store.get(from.place)?;
-    let steps = candidates.applicable(alloc, scene.task, scene.look, &state)?;
+    let steps = finder.applicable(alloc, scene.task, scene.look, &state)?;
     let steps = steps.as_slice();
     let choice = &mut frontier.choice;
     choice.choose(scene, estimate, from, &state, steps)?;
@@ -310,7 +309,7 @@ fn explore_from<L: Look, E: Estimate>(
     if meets_goal(scene.task, scene.look, &state) {
         return Ok(End::Goal);
     }
-    let candidates = Candidates::new(alloc, scene.task, scene.look, MOST_CANDIDATES)?;
+    let finder = StepFinder::new(alloc, scene.task, scene.look, MOST_CANDIDATES)?;
     let rank = estimate.estimate(scene.task, scene.look, &state);
     frontier.queue.push(Reverse(Open {
         rank,
@@ -322,7 +321,7 @@ fn explore_from<L: Look, E: Estimate>(
         let Some(Reverse(from)) = frontier.queue.pop() else {
             return Ok(End::All);
         };
-        match expand(alloc, scene, &candidates, estimate, frontier, from)? {
+        match expand(alloc, scene, &finder, estimate, frontier, from)? {
             Turn::On => {}
             Turn::Goal => return Ok(End::Goal),
             Turn::More => return Ok(End::More),

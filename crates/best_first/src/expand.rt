@@ -1,7 +1,7 @@
 //! One state's successors.
 ghost use Rattle.std.specs.Prelude.{◌≡◌, ◌+◌, ◌<◌, ◌≤◌, ◌↔◌, length, IsTrue, IfOk, OnOk, Some, slice_get};
 ghost use Rattle.grounder.specs.Applicable.{IsApplicable, AreApplicable};
-ghost use Rattle.grounder.specs.Candidates.{AreCandidates};
+ghost use Rattle.grounder.specs.Finder.{FindsSteps};
 ghost use Rattle.task_model.specs.Fit.{IsFit};
 ghost use Rattle.task_model.specs.State.{Atoms, with_atoms, without_atoms};
 ghost use Rattle.task_model.specs.Steps.{IsStep};
@@ -9,7 +9,7 @@ ghost use Rattle.task_model.specs.declared.limits.TheConstants.{MOST_STATES};
 ghost use Rattle.best_first.specs.Explored.{ExploringEnds, GrowsByStep, IsExplored, IsGrown, LeadsToState, Comes};
 
 use crate::tree::{Link, Tree};
-use grounder::Candidates;
+use grounder::StepFinder;
 use plan_check::{Changes, changes_of, meets_goal, step_cost};
 use state_store::StateStore;
 use std::alloc::{AllocError, Global};
@@ -196,7 +196,7 @@ fn visit_all<L: Look>(
 pub(crate) fn expand<L: Look>(
     alloc: Global,
     scene: &Scene<'_, L>,
-    candidates: &Candidates,
+    finder: &StepFinder,
     tree: &mut Tree,
     from: u32,
 ) -> Result<Turn, AllocError>
@@ -205,12 +205,11 @@ pub(crate) fn expand<L: Look>(
     requires explored { IsExplored scene.now.task.now (L.known scene.now.look.now)
         scene.now.seeks_goal scene.now.limit tree.old.store tree.old.links.items from }
     requires there { from < length tree.old.store }
-    requires candidates { AreCandidates scene.now.task.now (L.known scene.now.look.now)
-        candidates.now }
+    requires finds { FindsSteps scene.now.task.now (L.known scene.now.look.now) finder.now }
     ensures { IfOk result (Comes scene.now.task.now (L.known scene.now.look.now)
         scene.now.seeks_goal scene.now.limit tree.new.store tree.new.links.items (from + 1)) }
 {
     let state = tree.store.get(from)?;
-    let steps = candidates.applicable(alloc, scene.task, scene.look, &state)?;
+    let steps = finder.applicable(alloc, scene.task, scene.look, &state)?;
     visit_all(scene, tree, from, &state, steps.as_slice())
 }

@@ -6,7 +6,7 @@ ghost use Rattle.best_first.specs.Outcome.{BeginsAt, ComesTo, explored_as};
 
 use crate::expand::{Scene, Turn, ends, expand};
 use crate::tree::Tree;
-use grounder::Candidates;
+use grounder::StepFinder;
 use std::alloc::{AllocError, Global};
 use task_model::Look;
 
@@ -70,10 +70,10 @@ fn explore_from<L: Look>(
     if ends(scene, &tree.store, 0)? {
         return Ok(End::Goal);
     }
-    let candidates = Candidates::new(alloc, scene.task, scene.look, MOST_CANDIDATES)?;
+    let finder = StepFinder::new(alloc, scene.task, scene.look, MOST_CANDIDATES)?;
     let mut next: u32 = 0;
     while next as usize <= tree.links.len() {
-        match expand(alloc, scene, &candidates, tree, next)? {
+        match expand(alloc, scene, &finder, tree, next)? {
             Turn::On => next += 1,
             Turn::Goal => return Ok(End::Goal),
             Turn::More => return Ok(End::More),

@@ -1,3 +1,4 @@
 pub mod PartsLemmas
 pub mod ListingLemmas
 pub mod CandidatesLemmas
+pub mod AsksLemmas

@@ -1,16 +1,12 @@
-//! What is found once for all states of a search.
-ghost use Rattle.std.specs.Prelude.{◌≡◌, IfOk, IfSome, OnOk, true, Some, slice_get};
+//! The arguments that what is static allows.
+ghost use Rattle.std.specs.Prelude.{◌≡◌, IfOk, IfSome, true};
 ghost use Rattle.task_model.specs.Fit.{IsFit, is_fit_action};
-ghost use Rattle.grounder.specs.Applicable.{AreApplicable};
 ghost use Rattle.grounder.specs.Candidates.{AreCandidates, AreCandidateRows};
-ghost use Rattle.grounder.specs.Listing.{AddsSteps};
 
 use crate::atoms::static_atoms;
-use crate::steps::{Scene, add_steps};
 use fact_join::{JoinFault, Partial, Query, Wanted, join};
-use formula_memo::Memo;
 use std::alloc::{AllocError, Global};
-use task_model::{Action, GroundAction, Look, Obj, Seq, State, Task, Wide};
+use task_model::{Action, Look, Obj, Seq, Task, Wide};
 
 /// Any tuple is wanted.
 #[derive(Clone, Copy)]
@@ -63,33 +59,6 @@ fn rows_of<L: Look>(
     }
 }
 
-/// Puts the steps of the action that can be taken behind the others: those of these rows for which
-/// its other conditions are true. Fails only where memory is wanting.
-fn add_from_rows<L: Look>(
-    scene: &Scene<'_, L>,
-    rows: &[Wide],
-    steps: &mut Vec<GroundAction>,
-) -> Result<(), AllocError>
-    requires fit { IsFit scene.now.task.now }
-    requires named { slice_get scene.now.task.now.domain.actions scene.now.number
-        ≡ Some scene.now.action.now }
-    requires rows { AreCandidateRows scene.now.task.now.domain (L.known scene.now.look.now)
-        scene.now.action.now rows.now }
-    ensures { OnOk result (AddsSteps scene.now.task.now (L.known scene.now.look.now)
-        scene.now.state.now scene.now.number steps.old.items steps.new.items) }
-{
-    let mut memo = Memo::empty(scene.state.allocator());
-    for args in rows {
-        if scene.can_go(&mut memo, args.as_slice()) {
-            steps.push(GroundAction {
-                action: scene.number,
-                args: args.copy()?,
-            })?;
-        }
-    }
-    Ok(())
-}
-
 /// For each action of a task the arguments that have the types of its parameters and make its
 /// static atoms known facts, found once for all states of a search: no state changes them.
 #[derive(Drop)]
@@ -122,35 +91,5 @@ impl Candidates {
         Ok(Candidates {
             actions: Seq::from_vec(actions),
         })
-    }
-
-    /// What the function `applicable` gives. Fails only where memory is wanting.
-    pub fn applicable<L: Look>(
-        &self,
-        alloc: Global,
-        task: &Task,
-        look: &L,
-        state: &State,
-    ) -> Result<Vec<GroundAction>, AllocError>
-        requires fit { IsFit task.now }
-        requires candidates { AreCandidates task.now (L.known look.now) self.now }
-        ensures { IfOk result (λ steps. AreApplicable task.now (L.known look.now) state.now
-            steps.items) }
-    {
-        let mut steps = Vec::new(alloc);
-        for (number, action) in task.domain.actions.as_slice().iter().enumerate() {
-            let scene = Scene {
-                task,
-                look,
-                state,
-                number: number as u32,
-                action,
-            };
-            match &self.actions.as_slice()[number] {
-                Some(rows) => add_from_rows(&scene, rows.as_slice(), &mut steps)?,
-                None => add_steps(alloc, &scene, &mut steps)?,
-            }
-        }
-        Ok(steps)
     }
 }

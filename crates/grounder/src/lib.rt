@@ -2,10 +2,13 @@
 #![tactic(auto)]
 
 mod actions;
+mod asks;
 mod atoms;
 mod candidates;
+mod finder;
 mod steps;
 
 pub use actions::applicable;
 pub use atoms::{fluent_atom, tops};
 pub use candidates::Candidates;
+pub use finder::StepFinder;

@@ -2,10 +2,14 @@
 ghost use Rattle.std.specs.Prelude.{◌≡◌, ◌≤◌, OnOk, IfOk, length, true, Some, slice_get};
 ghost use Rattle.task_model.specs.Fit.{IsFit, is_fit_action};
 ghost use Rattle.formula_memo.specs.Remembered.{StandsFor};
+ghost use Rattle.task_model.specs.Truth.{slots_of};
+ghost use Rattle.grounder.specs.Asks.{AreMet};
+ghost use Rattle.grounder.specs.Parts.{tops_of};
 ghost use Rattle.grounder.specs.Candidates.{can_go_on};
 ghost use Rattle.grounder.specs.Listing.{AddsSteps, AreArguments};
 
-use crate::atoms::{static_atom, static_atoms, tops};
+use crate::asks::Ask;
+use crate::atoms::{static_atoms, tops};
 use fact_join::{Partial, Query, Wanted, join};
 use formula_eval::Env;
 use formula_memo::{Memo, holds_once, holds_with};
@@ -50,12 +54,14 @@ impl<'a, L: Look> Wanted for Scene<'a, L> {
 }
 
 impl<'a, L: Look> Scene<'a, L> {
-    /// Whether the action can be taken with these objects as far as its static atoms don't say: all
-    /// other parts of its condition are true, and its cost has a value.
-    pub(crate) fn can_go(&self, memo: &mut Memo, args: &[Obj]) -> bool
+    /// Whether the action can be taken with these objects, for which all that its condition asks is so
+    /// but what is to be judged: that is true too, and the cost has a value.
+    pub(crate) fn can_go(&self, memo: &mut Memo, args: &[Obj], asks: &[Ask]) -> bool
         requires fit { IsFit self.now.task.now }
         requires action { is_fit_action self.now.task.now.domain self.now.action.now ≡ true }
         requires few { length args.now ≤ 16 }
+        requires met { AreMet self.now.task.now.domain (L.known self.now.look.now) self.now.state.now
+            (slots_of args.now) (tops_of self.now.action.now.condition) asks.now }
         requires stands { StandsFor self.now.task.now.domain (L.known self.now.look.now)
             self.now.state.now memo.old }
         ensures value { result ≡ can_go_on self.now.task.now (L.known self.now.look.now)
@@ -64,8 +70,8 @@ impl<'a, L: Look> Scene<'a, L> {
             self.now.state.now memo.new }
     {
         let mut env = Env::new(args);
-        for part in tops(&self.action.condition) {
-            if static_atom(&self.task.domain, part).is_none()
+        for (place, part) in tops(&self.action.condition).iter().enumerate() {
+            if asks[place].is_judged()
                 && !holds_with(self.task, self.look, self.state, memo, part, &mut env)
             {
                 return false;

@@ -1,7 +1,7 @@
 //! Search for a cheapest plan.
 ghost use Rattle.std.specs.Prelude.{◌≡◌, ◌≤◌, ◌↔◌, IfOk};
 ghost use Rattle.best_first.specs.Answer.{HasPlan, IsNothing, IsLimit};
-ghost use Rattle.grounder.specs.Candidates.{AreCandidates};
+ghost use Rattle.grounder.specs.Finder.{FindsSteps};
 ghost use Rattle.optimal_search.specs.Answer.{ComesToLeast, IsCheapest, Visits};
 ghost use Rattle.optimal_search.specs.Consistent.{StaysSuited};
 ghost use Rattle.optimal_search.specs.Searches.{IsJustClosed};
@@ -13,7 +13,7 @@ use crate::consistent::Consistent;
 use crate::relax::{Expansion, Scene, relax_all};
 use crate::search::Search;
 use best_first::{Found, Link, MOST_CANDIDATES, path};
-use grounder::Candidates;
+use grounder::StepFinder;
 use plan_check::meets_goal;
 use std::alloc::{AllocError, Global};
 use task_model::{Look, Task};
@@ -45,14 +45,13 @@ pub(crate) enum Explored {
 fn visit<L: Look, C: Consistent>(
     alloc: Global,
     scene: &Scene<'_, L>,
-    candidates: &Candidates,
+    finder: &StepFinder,
     estimate: &mut C,
     search: &mut Search,
     place: u32,
 ) -> Result<Turn, AllocError>
     requires fit { IsFit scene.now.task.now }
-    requires candidates { AreCandidates scene.now.task.now (L.known scene.now.look.now)
-        candidates.now }
+    requires finds { FindsSteps scene.now.task.now (L.known scene.now.look.now) finder.now }
     requires taken { IsJustClosed scene.now.task.now (L.known scene.now.look.now)
         (C.bound estimate.old) scene.now.limit search.old place }
     ensures visits { IfOk result (Visits scene.now.task.now (L.known scene.now.look.now)
@@ -64,7 +63,7 @@ fn visit<L: Look, C: Consistent>(
     if meets_goal(scene.task, scene.look, &state) {
         return Ok(Turn::Goal);
     }
-    let steps = candidates.applicable(alloc, scene.task, scene.look, &state)?;
+    let steps = finder.applicable(alloc, scene.task, scene.look, &state)?;
     let from = Expansion {
         number: search.links.len() as u32,
         place,
@@ -94,11 +93,11 @@ fn explore<L: Look, C: Consistent>(
     ensures { IfOk result (ComesToLeast scene.now.task.now (L.known scene.now.look.now)
         scene.now.limit) }
 {
-    let candidates = Candidates::new(alloc, scene.task, scene.look, MOST_CANDIDATES)?;
+    let finder = StepFinder::new(alloc, scene.task, scene.look, MOST_CANDIDATES)?;
     let mut search = Search::new(alloc, scene.task)?;
     let mut place = 0;
     loop {
-        match visit(alloc, scene, &candidates, estimate, &mut search, place)? {
+        match visit(alloc, scene, &finder, estimate, &mut search, place)? {
             Turn::On => {}
             Turn::Goal => return Ok(Explored::Goal(search.links)),
             Turn::More => return Ok(Explored::More),

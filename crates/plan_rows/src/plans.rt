@@ -7,7 +7,7 @@ use crate::words::{numbers_of, step_of};
 use fact_store::Facts;
 use formula_eval::{Env, holds};
 use formula_memo::{Memo, holds_memo, holds_once};
-use grounder::{Candidates, applicable};
+use grounder::{Candidates, StepFinder, applicable};
 use plan_check::{apply, check, initial};
 use plan_deorder::{Order, deorder, keeps};
 use std::alloc::{AllocError, Global};
@@ -200,8 +200,8 @@ fn kept_applicable(
 ) -> Result<Vec<GroundAction>, AllocError>
     requires { IsFit task.now }
 {
-    let candidates = Box::new(alloc, Candidates::new(alloc, task, facts, most as usize)?)?;
-    candidates.applicable(alloc, task, facts, state)
+    let finder = Box::new(alloc, StepFinder::new(alloc, task, facts, most as usize)?)?;
+    finder.applicable(alloc, task, facts, state)
 }
 
 /// The steps that can be taken at first: by candidates of which at most so many are kept as the

@@ -37,7 +37,7 @@ pub(crate) fn number_of(numbered: &mut IndexSet<Atom>, atom: &Atom) -> Result<u3
 
 /// The numbers of atoms, in their order; those that are new are put behind the others. Fails only
 /// where memory is wanting, or where there are 2^32 other atoms.
-pub(crate) fn numbers_of(
+pub fn numbers_of(
     alloc: Global,
     numbered: &mut IndexSet<Atom>,
     atoms: &[Atom],

@@ -1,5 +1,5 @@
 use Rattle.grounder.proofs.ListingLemmas.{AreListed}
-use Rattle.grounder.proofs.candidates.Candidates.applicable.Given as goal
+use Rattle.grounder.proofs.finder.StepFinder.applicable.Given as goal
 
 -- the steps of the actions that were passed are there
 abbrev pub invariant-loop-number : goal.invariant-loop-number
