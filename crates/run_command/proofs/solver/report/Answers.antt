@@ -1,4 +1,4 @@
-use Rattle.std.proofs.Common.{◌∙◌, inl, inr, refl}
+use Rattle.std.proofs.Common.{◌∙◌, ap, inl, inr, refl}
 use Rattle.round_run.proofs.CallsRunLemmas.{stops_none}
 use Rattle.round_run.proofs.StoppedLemmas.{handed}
 use Rattle.run_command.proofs.HeadsLemmas.{head_alone, head_runs}
@@ -82,7 +82,7 @@ returns-in-Ok-clause-solved g c =
         headed = c.head_of-head.ensures _ _ served;
       };
       reported = c.in-Ok.ensures.ran.reported;
-      unneeded = c.in-Ok.ensures.ran.unneeded;
+      unneeded = λ none. ap g.H.Host.log (c.in-Ok.ensures.ran.unneeded none);
       asks = asks_all (held_solve c.args.words.now) c.in_ok-task.task c.in_ok-meant.meant (g.F.Files.told c.args.files.now) _ _ _
           (later_on _ _ _ c.read_task.ensures.later c.meant_pools.ensures.later) _ _ _
           (spelled_in c.paths_of-paths.ensures c.in_ok-task.ensures.task)
