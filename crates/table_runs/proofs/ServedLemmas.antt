@@ -1,22 +1,26 @@
 -- Each request of whole turns, of any mode, goes to a child of the pools.
-use Rattle.std.proofs.Common.{◌≡◌, ℕ, zero, suc, ◌+◌, ◌<◌, inl, inr, Bool, true, false, List, [], ◌∷◌, ◌++◌, map, length, take, count_by, refl, sym, ap, subst, ◌∙◌, Option, None, Some, slice_get, arith, append_assoc}
-use Rattle.std.proofs.lemmas.List.{append-nil}
+use Rattle.std.proofs.Common.{◌≡◌, ℕ, zero, suc, ◌+◌, ◌<◌, inl, inr, Bool, true, false, List, [], ◌∷◌, ◌++◌, map, length, take, length-append, eqb-true, count_by, refl, sym, ap, subst, ◌∙◌, Option, None, Some, slice_get, arith, append_assoc}
+use Rattle.std.proofs.Math.Seq.{take-append-add}
+use Rattle.std.proofs.lemmas.Bool.{cases_lt}
+use Rattle.std.proofs.lemmas.List.{append-nil, length-take-le, take-append-le}
 use Rattle.std.proofs.lemmas.List.Elements.{All-contains}
 use Rattle.std.proofs.lemmas.Option.{slice_get_within, slice_get-map}
 use Rattle.std.specs.Option.{option_map}
 use Rattle.instance_queue.specs.Level.{due_instances}
 use Rattle.instance_queue.specs.declared.due.Due.{Due}
-use Rattle.lemmas.proofs.Members.{append_cases, get_append, get_behind, member_at}
+use Rattle.lemmas.proofs.Members.{append_cases, from_take, get_append, get_at_length, take_next, get_behind, member_at}
 use Rattle.lemmas.proofs.Options.{and_then_some}
 use Rattle.mode_turns.proofs.ModesLemmas.{as_family}
 use Rattle.mode_turns.specs.Modes.{TurnOf, nothing_kept}
 use Rattle.pools.proofs.PoolsLemmas.{server_is, workers_fit}
-use Rattle.pools.specs.Pools.{AreFitPools, Workers, child_for, has_stream, server, shares_of, asked_streams, workers_of}
-use Rattle.round_run.proofs.DialogueRequestLemmas.{AreReplies, closed_by, last_join, no_requests, requests_join, stream_shown}
-use Rattle.round_run.specs.Dialogue.{IsOneOf, Request, called_stream, last_round, requests_after, requests_of, workers_in}
-use Rattle.lemmas.proofs.Counts.{count_whole}
+use Rattle.pools.specs.Pools.{AreFitPools, HasChild, Workers, child_for, has_stream, server, shares_of, asked_streams, workers_of}
+use Rattle.round_run.proofs.DialogueRequestLemmas.{AreAsks, AreReplies, all_replies, closed_by, no_replies, replies_join, requests_front, requests_long, last_join, no_requests, requests_join, stream_shown}
+use Rattle.round_run.specs.Calls.{answers_by}
+use Rattle.round_run.specs.Dialogue.{IsOneOf, Request, count_to, is_to, replies_of, called_stream, last_round, requests_after, requests_of, workers_in}
+use Rattle.lemmas.proofs.Counts.{count_joined, count_passes, count_whole}
+use Rattle.table_runs.proofs.AskingPlaceLemmas.{passing_there}
 use Rattle.table_runs.proofs.AgreeLemmas.{answer_is}
-use Rattle.table_runs.specs.Asking.{GoToPools}
+use Rattle.table_runs.specs.Asking.{AreAskedInTurn, GoToPools}
 use Rattle.task_model.proofs.KnownLemmas.{numbers_decided}
 use Rattle.task_model.specs.Dreams as dreams
 use Rattle.task_model.specs.Fit.{IsFit, is_name}
@@ -29,7 +33,7 @@ use Rattle.gen_lines.specs.Request.{stream_name}
 use Rattle.transcript_model.proofs.NamedObjectLemmas.{passes_all}
 use Rattle.transcript_model.proofs.NamesLemmas.{position_at}
 use Rattle.transcript_model.specs.Dreaming.{Sent}
-use Rattle.transcript_model.specs.Legal.{IsLegal, asks_of, is_answer, is_mark}
+use Rattle.transcript_model.specs.Legal.{IsLegal, asks_of, is_answer, is_ask, is_mark}
 use Rattle.transcript_model.specs.Names.{call_of_instance, places_of, stream_named}
 use Rattle.transcript_model.specs.Rounds as rounds
 use Rattle.transcript_model.specs.Rounds.{AreAnswers, AreRounds, AreRoundsRun, IsBatch, Limits, calls_left, fits, limits_of, requests, requests_from}
@@ -180,37 +184,163 @@ module _ (task : Task) (pools : List Workers) (fit : IsFit task) (able : AreFitP
           → child_for pools (streams_in (take k list)) s.instance.stream ≡ p.first + count_by (has_stream p) (streams_in (take k list))
       from p e = rw e refl
 
+  -- the pool that serves it, and the child's number there
+  record Place (list : List Instance) (k child : ℕ) : Type 0 where
+    place : ℕ
+    pool : Workers
+    at : slice_get pools place ≡ Some pool
+    stream : ℕ
+    there : slice_get (streams_in list) k ≡ Some stream
+    serves : has_stream pool stream ≡ true
+    is : child ≡ pool.first + count_by (has_stream pool) (take k (streams_in list))
+    has : HasChild pool child
+
+  placed : (list : List Instance) (k child : ℕ) → fits (shares_of pools) list ≡ true → Sends [] list k child → Place list k child
+  placed list k child few s =
+      let found = able.served s.instance.stream s.below in
+      let is = server_is pools s.instance.stream found.0 found.1 in
+      let p = found.0 in
+      let at : slice_get (streams_in list) k ≡ Some s.instance.stream =
+      slice_get-map (λ (i : Instance). i.stream) list k ∙ ap (option_map (λ (i : Instance). i.stream)) s.there in
+      let enough = count_whole (has_stream p) (streams_in list) k s.instance.stream at is.2 in
+      let most =
+      workers_fit pools (map due_of list) (ap (fits (shares_of pools)) (instances_are list) ∙ few) is.0 p is.1 in
+      let many = ap (count_by (has_stream p)) (streams_are list) in
+      let child_is : child ≡ p.first + count_by (has_stream p) (take k (streams_in list)) =
+      s.is ∙ from p found.1 ∙ ap (λ ss. p.first + count_by (has_stream p) ss) (take_streams list k) in
+      record {
+        place = is.0;
+        pool = p;
+        at = is.1;
+        stream = s.instance.stream;
+        there = at;
+        serves = is.2;
+        is = child_is;
+        has = record { from = omega (arith, child_is); to = omega (arith, child_is, enough, most, many) };
+      }
+    where
+      from : (p : Workers) → server pools s.instance.stream ≡ Some p
+          → child_for pools (streams_in (take k list)) s.instance.stream ≡ p.first + count_by (has_stream p) (streams_in (take k list))
+      from p e = rw e refl
+
+  -- no child is asked twice in a round
+  not_again : (list : List Instance) (m k child : ℕ) → fits (shares_of pools) list ≡ true → m < k
+      → Sends [] list m child → Sends [] list k child → ⊥
+  not_again list m k child few less first second =
+      let a = placed list m child few first in
+      let b = placed list k child few second in
+      let same : a.place ≡ b.place = able.apart a.place b.place child a.pool b.pool a.at b.at a.has b.has in
+      let both : Some a.pool ≡ Some b.pool = sym a.at ∙ ap (slice_get pools) same ∙ b.at in
+      let pool : a.pool ≡ b.pool = cc in
+      let later : child ≡ a.pool.first + count_by (has_stream a.pool) (take k (streams_in list)) =
+      b.is ∙ ap (λ (p : Workers). p.first + count_by (has_stream p) (take k (streams_in list))) (sym pool) in
+      absurd (omega (arith, a.is, later, count_passes (has_stream a.pool) (streams_in list) m k a.stream less a.there a.serves))
+
+  none_to : (c : ℕ) (rs : List Request) → ((m : ℕ) (r : Request) → slice_get rs m ≡ Some r → r.child ≡ c → ⊥) → count_to c rs ≡ 0
+  none_to c rs each = elim (cases_lt 0 (count_to c rs)) [
+    | inl some ↦
+        let found = passing_there (is_to c) rs some in
+        absurd (each found.0 found.1 found.2 (eqb-true found.1.child c found.3))
+    | inr none ↦ omega (arith, none)
+  ]
+
   -- ---- parts of transcripts
 
   -- the requests go to children of the pools, and none stands at the end
   record AreServed (es : List Entry) : Type 0 where
     each : GoToPools task pools es
     closed : last_round task [] es ≡ []
+    even : length (replies_of es) ≡ length (requests_of task pools es)
+    in_turn : AreAskedInTurn task pools es
 
   none_served : AreServed []
-  none_served = record { each = λ k r at. absurd (cc); closed = refl }
+  none_served = record {
+    each = λ k r at. absurd (cc);
+    closed = refl;
+    even = refl;
+    in_turn = λ k number turn call at. absurd (cc (at));
+  }
 
   joined_served : (xs ys : List Entry) → AreServed xs → AreServed ys → AreServed (xs ++ ys)
   joined_served xs ys first second = record {
     each = both;
     closed = last_join task [] xs ys ∙ ap (λ round. last_round task round ys) first.closed ∙ second.closed;
+    even = evens;
+    in_turn = turns;
   }
     where
-      parts : requests_of task pools (xs ++ ys) ≡ requests_of task pools xs ++ requests_of task pools ys
-      parts =
-          requests_join task pools [] xs ys
-          ∙ ap (λ round. requests_of task pools xs ++ requests_after task pools round ys) first.closed
+      parts : (t : List Entry) → requests_of task pools (xs ++ t) ≡ requests_of task pools xs ++ requests_of task pools t
+      parts t =
+          requests_join task pools [] xs t
+          ∙ ap (λ round. requests_of task pools xs ++ requests_after task pools round t) first.closed
+
+      evens : length (replies_of (xs ++ ys)) ≡ length (requests_of task pools (xs ++ ys))
+      evens = omega (
+        arith,
+        ap length (replies_join xs ys),
+        length-append (replies_of xs) (replies_of ys),
+        ap length (parts ys),
+        length-append (requests_of task pools xs) (requests_of task pools ys),
+        first.even,
+        second.even,
+      )
+
+      -- what went to a child behind the first entries, and what was answered
+      behind : (t : List Entry) (c : ℕ) → count_to c (requests_of task pools t) ≡ answers_by task pools t c
+          → count_to c (requests_of task pools (xs ++ t)) ≡ answers_by task pools (xs ++ t) c
+      behind t c is =
+          let many : length (replies_of (xs ++ t)) ≡ length (requests_of task pools xs) + length (replies_of t) =
+          omega (arith, ap length (replies_join xs t), length-append (replies_of xs) (replies_of t), first.even) in
+          ap (count_to c) (parts t) ∙ count_joined (is_to c) (requests_of task pools xs) (requests_of task pools t)
+          ∙ ap (λ n. count_to c (requests_of task pools xs) + n) is
+          ∙ sym (count_joined (is_to c) (requests_of task pools xs) (take (length (replies_of t)) (requests_of task pools t)))
+          ∙ ap (count_to c) (sym (take-append-add (requests_of task pools xs) (requests_of task pools t) (length (replies_of t))))
+          ∙ ap (λ rs. count_to c (take (length (requests_of task pools xs) + length (replies_of t)) rs)) (sym (parts t))
+          ∙ ap (λ n. count_to c (take n (requests_of task pools (xs ++ t)))) (sym many)
+
+      turns : AreAskedInTurn task pools (xs ++ ys)
+      turns k number turn call at =
+          elim (append_cases xs ys k (entry.Ask number turn call) at) [
+            | inl early ↦
+                let front : take k (xs ++ ys) ≡ take k xs =
+                take-append-le k xs ys (let within = slice_get_within xs k (entry.Ask number turn call) early in omega (arith, within)) in
+                subst (λ es. count_to (child_for pools (last_round task [] es) (called_stream task call)) (requests_of task pools es)
+                ≡ answers_by task pools es (child_for pools (last_round task [] es) (called_stream task call))) (sym front)
+                (first.in_turn k number turn call early)
+            | inr later ↦
+                let t : List Entry = take later.0 ys in
+                let front : take k (xs ++ ys) ≡ xs ++ t =
+                ap (λ n. take n (xs ++ ys)) later.1 ∙ take-append-add xs ys later.0 in
+                let round : last_round task [] (xs ++ t) ≡ last_round task [] t =
+                last_join task [] xs t ∙ ap (λ r. last_round task r t) first.closed in
+                let c : ℕ = child_for pools (last_round task [] t) (called_stream task call) in
+                let same : child_for pools (last_round task [] (xs ++ t)) (called_stream task call) ≡ c =
+                ap (λ r. child_for pools r (called_stream task call)) round in
+                subst (λ es. count_to (child_for pools (last_round task [] es) (called_stream task call)) (requests_of task pools es)
+                ≡ answers_by task pools es (child_for pools (last_round task [] es) (called_stream task call))) (sym front)
+                (subst (λ d. count_to d (requests_of task pools (xs ++ t)) ≡ answers_by task pools (xs ++ t) d) (sym same)
+                (behind t c (second.in_turn later.0 number turn call later.2)))
+          ]
 
       both : GoToPools task pools (xs ++ ys)
       both k r at =
-          elim (append_cases (requests_of task pools xs) (requests_of task pools ys) k r (sym (ap (λ rs. slice_get rs k) parts) ∙ at)) [
+          elim (append_cases (requests_of task pools xs) (requests_of task pools ys) k r (sym (ap (λ rs. slice_get rs k) (parts ys)) ∙ at)) [
             | inl early ↦ first.each k r early
             | inr later ↦ second.each later.0 r later.2
           ]
 
+  lone_mark : (e : Entry) → is_mark e ≡ true → AreAskedInTurn task pools (e ∷ [])
+  lone_mark e is zero number turn call at =
+      let same : e ≡ entry.Ask number turn call = cc in
+      absurd (let bad : false ≡ true = ap is_mark (sym same) ∙ is in cc)
+  lone_mark e is (suc k) number turn call at = absurd (cc (at))
+
   mark_served : (e : Entry) → is_mark e ≡ true → AreServed (e ∷ [])
   mark_served (entry.Ask number turn call) is = absurd (cc)
-  mark_served e is = record { each = λ k r at. absurd (cc); closed = refl }
+  mark_served (entry.Got number tuples values) is = absurd (cc)
+  mark_served (entry.Value number value) is = absurd (cc)
+  mark_served (entry.End number) is = absurd (cc)
+  mark_served e is = record { each = λ k r at. absurd (cc); closed = refl; even = refl; in_turn = lone_mark e is }
 
   marked_served : (e : Entry) (rest : List Entry) → is_mark e ≡ true → AreServed rest → AreServed (e ∷ rest)
   marked_served e rest is later = joined_served (e ∷ []) rest (mark_served e is) later
@@ -228,10 +358,22 @@ module _ (task : Task) (pools : List Workers) (fit : IsFit task) (able : AreFitP
   answers_long n (suc many) [] are = absurd are
   answers_long n (suc many) (x ∷ es) are = ap suc (answers_long (n + 1) many es are.1)
 
+  requests_ask : (before : List Entry) (n : ℕ) (list : List Instance) → AreAsks (requests_from task before n list)
+  requests_ask before n [] k e at = absurd (cc)
+  requests_ask before n (i ∷ list) zero e at =
+      let same : entry.Ask n (yields_of (notes_of task before) i) (call_of_instance task (names_of task before) i) ≡ e = cc in
+      ap is_ask (sym same)
+  requests_ask before n (i ∷ list) (suc k) e at = requests_ask before (n + 1) list k e at
+
+  requests_many : (before : List Entry) (n : ℕ) (list : List Instance) → length (requests_from task before n list) ≡ length list
+  requests_many before n [] = refl
+  requests_many before n (i ∷ list) = ap suc (requests_many before (n + 1) list)
+
   round_served : (before : List Entry) (list : List Instance) (answers : List Entry) → 0 < length list
       → fits (shares_of pools) list ≡ true → AreAnswers (asks_of before + 1) (length list) answers
       → NameStreams task (requests task before list ++ answers) → AreServed (requests task before list ++ answers)
-  round_served before list answers some few right named = record { each = one; closed = closed }
+  round_served before list answers some few right named =
+      record { each = one; closed = closed; even = evens; in_turn = turns }
     where
       asks : List Entry
       asks = requests task before list
@@ -256,6 +398,96 @@ module _ (task : Task) (pools : List Workers) (fit : IsFit task) (able : AreFitP
           last_join task [] asks answers
           ∙ closed_by task (last_round task [] asks) answers replies
           (omega (arith, answers_long (asks_of before + 1) (length list) answers right, some))
+
+      are_asks : AreAsks asks
+      are_asks = requests_ask before (asks_of before + 1) list
+
+      evens : length (replies_of (asks ++ answers)) ≡ length (requests_of task pools (asks ++ answers))
+      evens = omega (
+        arith,
+        ap length (replies_join asks answers ∙ ap (λ es. es ++ replies_of answers) (no_replies asks are_asks)),
+        ap length (all_replies answers replies),
+        answers_long (asks_of before + 1) (length list) answers right,
+        ap length only,
+        requests_long task pools [] asks are_asks,
+        requests_many before (asks_of before + 1) list,
+      )
+
+      turns : AreAskedInTurn task pools (asks ++ answers)
+      turns k number turn call at =
+          elim (append_cases asks answers k (entry.Ask number turn call) at) [
+            | inl early ↦
+                let within = slice_get_within asks k (entry.Ask number turn call) early in
+                let front : take k (asks ++ answers) ≡ take k asks = take-append-le k asks answers (omega (arith, within)) in
+                subst (λ es. count_to (child_for pools (last_round task [] es) (called_stream task call)) (requests_of task pools es)
+                ≡ answers_by task pools es (child_for pools (last_round task [] es) (called_stream task call))) (sym front)
+                (first_of_child k number turn call early)
+            | inr later ↦
+                absurd (let bad : is_answer (entry.Ask number turn call) ≡ true = replies later.0 (entry.Ask number turn call) later.2 in cc)
+          ]
+        where
+          none_yet : (t : List Entry) → AreAsks t → (c : ℕ) → answers_by task pools t c ≡ 0
+          none_yet t are c = ap (λ es. count_to c (take (length es) (requests_of task pools t))) (no_replies t are)
+
+          requests_one : (m : ℕ) (r : Request) → slice_get (requests_of task pools asks) m ≡ Some r
+              → (j : ℕ) × (q : Request) × (slice_get (requests_of task pools asks) j ≡ Some q) × (j ≡ m) × (q ≡ r)
+          requests_one m r is = (m, r, is, refl, refl)
+
+          sends : {m : ℕ} {r : Request}
+              → ((j : ℕ) × (q : Request) × (slice_get (requests_of task pools asks) j ≡ Some q) × (j ≡ m) × (q ≡ r))
+              → Sends [] list m r.child
+          sends {m} {r} (j, q, is, place, own) =
+              subst (λ n. Sends [] list n r.child) place
+              (subst (λ (x : Request). Sends [] list j x.child) own
+              (sends_at before (asks_of before + 1) [] list (names_front task asks answers named) j q is))
+
+          there_at : (k number turn : ℕ) (call : Call) → slice_get asks k ≡ Some (entry.Ask number turn call)
+              → slice_get (requests_of task pools asks) k
+              ≡ Some (record {
+                child = child_for pools (last_round task [] (take k asks)) (called_stream task call);
+                number = number;
+                turn = turn;
+                call = call;
+              })
+          there_at k number turn call at =
+              let next = take_next asks k (entry.Ask number turn call) at in
+              let within = slice_get_within asks k (entry.Ask number turn call) at in
+              let r : Request = record {
+                child = child_for pools (last_round task [] (take k asks)) (called_stream task call);
+                number = number;
+                turn = turn;
+                call = call;
+              } in
+              let fronts : AreAsks (take k asks) = λ m e there. are_asks m e (from_take asks k m e there).1 in
+              let long : length (requests_of task pools (take k asks)) ≡ k =
+              requests_long task pools [] (take k asks) fronts ∙ length-take-le k asks (omega (arith, within)) in
+              let grew : take (suc k) (requests_of task pools asks) ≡ requests_of task pools (take k asks) ++ r ∷ [] =
+              sym (requests_front task pools [] asks (suc k) are_asks) ∙ ap (requests_of task pools) next
+              ∙ requests_join task pools [] (take k asks) (entry.Ask number turn call ∷ []) in
+              (from_take (requests_of task pools asks) (suc k) k r
+              (ap (λ rs. slice_get rs k) grew ∙ ap (slice_get (requests_of task pools (take k asks) ++ r ∷ [])) (sym long)
+              ∙ get_at_length (requests_of task pools (take k asks)) r)).1
+
+          apart_children : (k number turn : ℕ) (call : Call) → slice_get asks k ≡ Some (entry.Ask number turn call)
+              → count_to (child_for pools (last_round task [] (take k asks)) (called_stream task call)) (requests_of task pools (take k asks)) ≡ 0
+          apart_children k number turn call at =
+              let c : ℕ = child_for pools (last_round task [] (take k asks)) (called_stream task call) in
+              let own : slice_get (requests_of task pools asks) k
+              ≡ Some (record { child = c; number = number; turn = turn; call = call }) = there_at k number turn call at in
+              let front : requests_of task pools (take k asks) ≡ take k (requests_of task pools asks) =
+              requests_front task pools [] asks k are_asks in
+              none_to c (requests_of task pools (take k asks))
+              (λ m r is same.
+              let from = from_take (requests_of task pools asks) k m r (ap (λ rs. slice_get rs m) (sym front) ∙ is) in
+              not_again list m k r.child few from.0 (sends (requests_one m r from.1)) (subst (Sends [] list k) (sym same)
+              (sends (requests_one k (record { child = c; number = number; turn = turn; call = call }) own))))
+
+          first_of_child : (k number turn : ℕ) (call : Call) → slice_get asks k ≡ Some (entry.Ask number turn call)
+              → (let c : ℕ = child_for pools (last_round task [] (take k asks)) (called_stream task call) in
+              count_to c (requests_of task pools (take k asks)) ≡ answers_by task pools (take k asks) c)
+          first_of_child k number turn call at =
+              let c : ℕ = child_for pools (last_round task [] (take k asks)) (called_stream task call) in
+              apart_children k number turn call at ∙ sym (none_yet (take k asks) (λ m e there. are_asks m e (from_take asks k m e there).1) c)
 
   -- ---- batches
 
@@ -366,6 +598,16 @@ module _ (task : Task) (pools : List Workers) (fit : IsFit task) (able : AreFitP
 shares_are : (ps : List Pool) → map rounds.share_of ps ≡ shares_of (map workers_of ps)
 shares_are [] = refl
 shares_are (p ∷ ps) = ap (λ qs. rounds.share_of p ∷ qs) (shares_are ps)
+
+-- The requests of turns none of which stops inside: each stands behind the answers to all earlier ones of its child.
+pub asked_in_turn : (task : Task) (head : Head) (entries : List Entry) (stage : Stage) → IsFit task → AreFitPools task (workers_in head)
+    → IsLegal head.version task entries → AreTurnsOf head.mode (limits_of head) task entries stage → ¬ (stage ≡ inside)
+    → AreAskedInTurn task (workers_in head) entries
+asked_in_turn task head entries stage fit able legal turns resting =
+    let served =
+    turns_served task (workers_in head) fit able (limits_of head) (shares_are head.pools) head.mode nothing_kept [] entries stage
+    (as_family head.mode (limits_of head) task entries stage turns) resting (legal_names task head.version entries legal) in
+    served.in_turn
 
 -- The requests of turns none of which stops inside.
 pub go_to_pools : (task : Task) (head : Head) (entries : List Entry) (stage : Stage) → IsFit task → AreFitPools task (workers_in head)
