@@ -106,7 +106,8 @@ pub(crate) fn write_child<H: Host>(
         (seen_by_host H.running H.faults H.log host.old)
         (seen_by_host H.running H.faults H.log host.new)
         result (λ events. log.new.whole ≡ true
-        → IsBringing child kept.old.asked.items bytes.now kept.old.life kept.new.life result events) }
+        → IsBringing child kept.old.asked.items bytes.now kept.old.life kept.new.life
+        result events) }
     ensures leads { IsLed (H.leads host.old host.new) (wants_memory result) }
 {
     let before = kept.asked.len();

@@ -20,7 +20,7 @@ use Rattle.restart_runs.proofs.PiecesLemmas.{ArePieces, pieces_done}
 use Rattle.restart_runs.proofs.StandsLemmas.{IsDue, Stands, follows_no, more_of, not_counted, stands_still}
 use Rattle.restart_runs.specs.Again.{AreCallsAgain, Answered, FollowsAgain, words_for}
 use Rattle.restart_runs.proofs.WorkersLemmas.{GoToWorkers, IsWorkerIn}
-use Rattle.restart_runs.specs.Brought.{AreAskedInTurn}
+use Rattle.table_runs.specs.Asking.{AreAskedInTurn}
 use Rattle.round_run.proofs.DialogueLemmas.{count_own}
 use Rattle.round_run.proofs.DialogueRequestLemmas.{replies_join, requests_counted, requests_join}
 use Rattle.round_run.specs.Calls.{AreCallsOf, Follows, Hearing, answers_by, next_request}

@@ -1,5 +1,5 @@
 -- A run over a host that starts its children again leaves the log of such a run below.
-use Rattle.std.proofs.Common.{◌≡◌, ℕ, zero, suc, ◌<◌, ◌≤◌, true, List, [], ◌++◌, Option, Some, refl, sym, ap, subst, ◌∙◌, arith, append_assoc, All}
+use Rattle.std.proofs.Common.{inl, inr, ◌≡◌, ℕ, zero, suc, ◌<◌, ◌≤◌, true, List, [], ◌++◌, Option, Some, refl, sym, ap, subst, ◌∙◌, arith, append_assoc, All}
 use Rattle.std.proofs.lemmas.List.{append_cancel_left}
 use Rattle.std.proofs.lemmas.List.Elements.{All-nil, All-weaker}
 use Rattle.io_world.specs.Logs.{Calls, told_of}
@@ -15,6 +15,10 @@ use Rattle.restart_runs.proofs.WorkersLemmas.{GoToWorkers, IsWorkerIn, worker_in
 use Rattle.restart_runs.specs.Laws.{OuterCallsAreBrought, OuterRunsAreTabled}
 use Rattle.round_run.specs.Calls.{Follows, IsStop, LogRan, starts_before, starts_of}
 use Rattle.round_run.specs.Dialogue.{Dialogue, workers_in}
+use Rattle.table_runs.proofs.ServedLemmas.{asked_in_turn}
+use Rattle.transcript_model.specs.Outcomes.{MayStand}
+use Rattle.transcript_model.specs.Turns.{Stage, inside}
+use Rattle.transcript_model.specs.declared.outcome.Outcome.{Outcome}
 use Rattle.transcript_model.specs.Legal.{asks_of}
 use Rattle.transcript_model.specs.declared.head.Pool.{Pool}
 use Rattle.transcript_model.specs.declared.limits.TheConstants.{MOST_CALLS}
@@ -66,8 +70,13 @@ outer_brought task head entries calls past os is fit able legal few served alone
 told_whole : (calls : Calls) → calls.whole ≡ true → told_of calls ≡ Some calls.events
 told_whole calls whole = rw whole refl
 
+-- where an outcome may stand no batch is open
+resting : (stage : Stage) (o : Outcome) → MayStand stage o → ¬ (stage ≡ inside)
+resting stage o (inl between_so) is = absurd (cc (between_so, is))
+resting stage o (inr cut) is = absurd (cc (cut.0, is))
+
 pub outer_tabled : OuterRunsAreTabled
-outer_tabled task head entries stage o last old new memory past after fit able few run ran alone carries whole was now =
+outer_tabled task head entries stage o last old new memory past after fit able few run ran carries whole was now =
     let done = carries.done past after was now whole in
     let grown : (before : List Event) × (Some past ≡ Some before) × (after ≡ before ++ carries.events) =
     subst (λ (told : Option (List Event)). LogGrows told (Some after) carries.events) was
@@ -80,6 +89,7 @@ outer_tabled task head entries stage o last old new memory past after fit able f
     (subst (λ (told : Option (List Event)). LogRan task head entries (told_of old.log) told) (told_whole new.log whole) ran)) in
     let talks = subst (λ zs. Dialogue task head.version (workers_in head) entries (λ child. Some (spelled child silence zs))) done.1
     run.talks in
+    let alone = asked_in_turn task head entries stage fit able run.legal run.turns (resting stage o run.stands) in
     let kept : asks_of entries ≤ MOST_CALLS = omega (arith, asks_kept task head entries stage run.turns, few) in
     let again : LogRanAgain task head entries (Some past) (Some (past ++ carries.events)) =
     outer_brought task head entries old.log.events past done.0 carries.events fit able run.legal kept run.served alone ran_so talks done.2 in

@@ -7,11 +7,10 @@ use Rattle.pools.specs.Pools.{AreFitPools}
 use Rattle.restart_host.specs.Leads.{Carries, Parts}
 use Rattle.restart_host.specs.Uses.{AreDone}
 use Rattle.restart_runs.specs.Again.{FollowsAgain, LogRanAgain}
-use Rattle.restart_runs.specs.Brought.{AreAskedInTurn}
 use Rattle.restart_runs.specs.Tabled.{AnsweredAgain, IsAgainRun, IsTabledAgain, SpeakAgain}
 use Rattle.round_run.specs.Calls.{LogRan}
 use Rattle.round_run.specs.Dialogue.{Dialogue, workers_in}
-use Rattle.table_runs.specs.Asking.{AnsweredBy, GoToPools}
+use Rattle.table_runs.specs.Asking.{AnsweredBy, AreAskedInTurn, GoToPools}
 use Rattle.table_runs.specs.Tabled.{IsTabled, IsTalkedRun}
 use Rattle.task_model.specs.Fit.{IsFit}
 use Rattle.task_model.specs.declared.task.Task.{Task}
@@ -56,8 +55,7 @@ OuterRunsAreTabled =
     (task : Task) (head : Head) (entries : List Entry) (stage : Stage) (o : Outcome) (last : ℕ) (old new : Parts)
     (memory : Bool) (past after : List Event) → IsFit task → AreFitPools task (workers_in head)
     → head.calls ≤ MOST_CALLS → IsTalkedRun task head entries stage o (said_of new.log)
-    → LogRan task head entries (told_of old.log) (told_of new.log)
-    → AreAskedInTurn task (workers_in head) entries → Carries last old new memory → new.log.whole ≡ true
+    → LogRan task head entries (told_of old.log) (told_of new.log) → Carries last old new memory → new.log.whole ≡ true
     → old.below.log ≡ Some past → new.below.log ≡ Some after
     → IsTabledAgain task head entries (Some past) (Some after) o
 

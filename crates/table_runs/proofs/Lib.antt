@@ -3,6 +3,7 @@ pub mod AnswersLemmas
 pub mod AskingLemmas
 pub mod AskingNameLemmas
 pub mod AskingPlaceLemmas
+pub mod SentLemmas
 pub mod ServedLemmas
 pub mod SpeakLemmas
 pub mod TabledLemmas

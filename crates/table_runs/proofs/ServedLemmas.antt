@@ -1,39 +1,27 @@
 -- Each request of whole turns, of any mode, goes to a child of the pools.
-use Rattle.std.proofs.Common.{◌≡◌, ℕ, zero, suc, ◌+◌, ◌<◌, inl, inr, Bool, true, false, List, [], ◌∷◌, ◌++◌, map, length, take, count_by, refl, sym, ap, subst, ◌∙◌, Option, None, Some, slice_get, arith, append_assoc}
-use Rattle.std.proofs.lemmas.List.{append-nil}
-use Rattle.std.proofs.lemmas.List.Elements.{All-contains}
-use Rattle.std.proofs.lemmas.Option.{slice_get_within, slice_get-map}
-use Rattle.std.specs.Option.{option_map}
-use Rattle.instance_queue.specs.Level.{due_instances}
-use Rattle.instance_queue.specs.declared.due.Due.{Due}
-use Rattle.lemmas.proofs.Members.{append_cases, get_append, get_behind, member_at}
-use Rattle.lemmas.proofs.Options.{and_then_some}
+use Rattle.std.proofs.Common.{◌≡◌, ℕ, zero, suc, ◌+◌, ◌<◌, inl, inr, Bool, true, false, List, [], ◌∷◌, ◌++◌, map, length, take, length-append, refl, sym, ap, subst, ◌∙◌, Some, slice_get, arith}
+use Rattle.std.proofs.Math.Seq.{take-append-add}
+use Rattle.std.proofs.lemmas.List.{append-nil, length-take-le, take-append-le}
+use Rattle.std.proofs.lemmas.Option.{slice_get_within}
+use Rattle.lemmas.proofs.Members.{append_cases, from_take, get_at_length, take_next}
 use Rattle.mode_turns.proofs.ModesLemmas.{as_family}
 use Rattle.mode_turns.specs.Modes.{TurnOf, nothing_kept}
-use Rattle.pools.proofs.PoolsLemmas.{server_is, workers_fit}
-use Rattle.pools.specs.Pools.{AreFitPools, Workers, child_for, has_stream, server, shares_of, asked_streams, workers_of}
-use Rattle.round_run.proofs.DialogueRequestLemmas.{AreReplies, closed_by, last_join, no_requests, requests_join, stream_shown}
-use Rattle.round_run.specs.Dialogue.{IsOneOf, Request, called_stream, last_round, requests_after, requests_of, workers_in}
-use Rattle.lemmas.proofs.Counts.{count_whole}
+use Rattle.pools.specs.Pools.{AreFitPools, Workers, child_for, shares_of, workers_of}
+use Rattle.round_run.proofs.DialogueRequestLemmas.{AreAsks, AreReplies, all_replies, closed_by, no_replies, replies_join, requests_front, requests_long, last_join, no_requests, requests_join}
+use Rattle.round_run.specs.Calls.{answers_by}
+use Rattle.round_run.specs.Dialogue.{Request, count_to, is_to, replies_of, called_stream, last_round, requests_after, requests_of, workers_in}
+use Rattle.lemmas.proofs.Counts.{count_joined}
 use Rattle.table_runs.proofs.AgreeLemmas.{answer_is}
-use Rattle.table_runs.specs.Asking.{GoToPools}
-use Rattle.task_model.proofs.KnownLemmas.{numbers_decided}
+use Rattle.table_runs.proofs.SentLemmas.{requests_ask, requests_many, NameStreams, Sends, legal_names, names_behind, names_front, none_to, not_again, sends_at, sent_one}
+use Rattle.table_runs.specs.Asking.{AreAskedInTurn, GoToPools}
 use Rattle.task_model.specs.Dreams as dreams
-use Rattle.task_model.specs.Fit.{IsFit, is_name}
-use Rattle.task_model.specs.Known.{same_numbers}
-use Rattle.task_model.specs.Streams.{yields_of}
+use Rattle.task_model.specs.Fit.{IsFit}
 use Rattle.task_model.specs.declared.stream.Instance.{Instance}
-use Rattle.task_model.specs.declared.stream.Stream.{Stream}
 use Rattle.task_model.specs.declared.task.Task.{Task}
-use Rattle.gen_lines.specs.Request.{stream_name}
-use Rattle.transcript_model.proofs.NamedObjectLemmas.{passes_all}
-use Rattle.transcript_model.proofs.NamesLemmas.{position_at}
 use Rattle.transcript_model.specs.Dreaming.{Sent}
 use Rattle.transcript_model.specs.Legal.{IsLegal, asks_of, is_answer, is_mark}
-use Rattle.transcript_model.specs.Names.{call_of_instance, places_of, stream_named}
 use Rattle.transcript_model.specs.Rounds as rounds
 use Rattle.transcript_model.specs.Rounds.{AreAnswers, AreRounds, AreRoundsRun, IsBatch, Limits, calls_left, fits, limits_of, requests, requests_from}
-use Rattle.transcript_model.specs.Transcript.{names_of, notes_of}
 use Rattle.transcript_model.specs.Turns.{AreBatches, AreTurns, AreTurnsOf, IsDreamTurn, IsEmptyTurn, IsFallback, IsFirstBatch, IsLevel, IsPickTurn, Kept, Stage, cut_off, finished, further, inside, last, level, none_left, reset, retiring, stopped, whole}
 use Rattle.transcript_model.specs.declared.entry.Call.{Call}
 use Rattle.transcript_model.specs.declared.entry.Entry.{Entry}
@@ -43,174 +31,104 @@ use Rattle.transcript_model.specs.declared.head.Pool.{Pool}
 use Rattle.transcript_model.specs.declared.head.Mode.{Mode}
 use Rattle.transcript_model.specs.declared.head.Mode.TheVariants.{Incremental, Focused, Binding, Adaptive}
 
--- ---- the streams that are named
-
-module _ (task : Task) where
-  -- each request's stream is one of the task
-  abbrev NameStreams : List Entry → Type 0
-  NameStreams es =
-      (k n turn : ℕ) (call : Call) → slice_get es k ≡ Some (entry.Ask n turn call)
-      → (place : ℕ) × (stream_named task call.name ≡ Some place)
-
-  legal_names : (version : ℕ) (entries : List Entry) → IsLegal version task entries → NameStreams entries
-  legal_names version entries legal k n turn call at =
-      let right = legal k (entry.Ask n turn call) at in
-      let named =
-      and_then_some (λ stream. option_map (λ inputs. record { stream = stream; inputs = inputs })
-      (places_of (names_of task (take k entries)) call.args)) (stream_named task call.name) right.instance right.named in
-      (named.0, named.1)
-
-  names_front : (xs ys : List Entry) → NameStreams (xs ++ ys) → NameStreams xs
-  names_front xs ys all k n turn call at = all k n turn call (get_append xs ys k (entry.Ask n turn call) at)
-
-  names_behind : (xs ys : List Entry) → NameStreams (xs ++ ys) → NameStreams ys
-  names_behind xs ys all k n turn call at =
-      all (length xs + k) n turn call (get_behind xs ys k (entry.Ask n turn call) at)
-
-  -- a stream whose name is found is one of the task
-  stream_below : IsFit task → (k place : ℕ) → stream_named task (stream_name task k) ≡ Some place → k < length task.streams
-  stream_below fit k place named = by (slice_get task.streams k) refl
-    where
-      by : (o : Option Stream) → slice_get task.streams k ≡ o → k < length task.streams
-      by (Some s) is = slice_get_within task.streams k s is
-      by None is =
-          let unnamed : stream_name task k ≡ [] = rw is refl in
-          let found = position_at (λ (s : Stream). same_numbers (stream_name task k) s.name) task.streams place named in
-          let same = (numbers_decided (stream_name task k) found.0.name).0 found.2 in
-          let there = slice_get-map (λ (s : Stream). s.name) task.streams place ∙ ap (option_map (λ (s : Stream). s.name)) found.1 in
-          let right : is_name found.0.name ≡ true =
-          All-contains (λ name. is_name name ≡ true) (map (λ (s : Stream). s.name) task.streams) found.0.name
-          (passes_all is_name (λ name. is_name name ≡ true) (map (λ (s : Stream). s.name) task.streams)
-          (λ name e. e) fit.streams.names.each) (member_at (map (λ (s : Stream). s.name) task.streams) place found.0.name there) in
-          let wrong : false ≡ true = ap is_name (sym unnamed ∙ same) ∙ right in
-          absurd (cc)
-
--- ---- how many of a round a pool serves
-
-abbrev due_of : Instance → Due
-due_of i = record { instance = i; turn = 0 }
-
-instances_are : (list : List Instance) → due_instances (map due_of list) ≡ list
-instances_are [] = refl
-instances_are (i ∷ list) = ap (λ is. i ∷ is) (instances_are list)
-
-abbrev streams_in : List Instance → List ℕ
-streams_in = map (λ (i : Instance). i.stream)
-
-streams_are : (list : List Instance) → asked_streams (map due_of list) ≡ streams_in list
-streams_are [] = refl
-streams_are (i ∷ list) = ap (λ ss. i.stream ∷ ss) (streams_are list)
-
-take_streams : (list : List Instance) (k : ℕ) → streams_in (take k list) ≡ take k (streams_in list)
-take_streams list zero = refl
-take_streams [] (suc k) = refl
-take_streams (i ∷ list) (suc k) = ap (λ ss. i.stream ∷ ss) (take_streams list k)
-
 module _ (task : Task) (pools : List Workers) (fit : IsFit task) (able : AreFitPools task pools) where
-  -- ---- one round
-
-  -- the instance of a request of a round, and its child
-  record Sends (round : List ℕ) (list : List Instance) (k child : ℕ) : Type 0 where
-    instance : Instance
-    there : slice_get list k ≡ Some instance
-    below : instance.stream < length task.streams
-    is : child ≡ child_for pools (round ++ streams_in (take k list)) instance.stream
-
-  -- the stream of the first request, as it is shown
-  first_below : (before : List Entry) (n : ℕ) (i : Instance) (list : List Instance)
-      → NameStreams task (requests_from task before n (i ∷ list)) → i.stream < length task.streams
-  first_below before n i list named =
-      let found =
-      named 0 n (yields_of (notes_of task before) i) (call_of_instance task (names_of task before) i) refl in
-      stream_below task fit i.stream found.0 found.1
-
-  sends_at : (before : List Entry) (n : ℕ) (round : List ℕ) (list : List Instance) → NameStreams task (requests_from task before n list)
-      → (k : ℕ) (r : Request) → slice_get (requests_after task pools round (requests_from task before n list)) k ≡ Some r
-      → Sends round list k r.child
-  sends_at before n round [] named k r at = absurd (cc)
-  sends_at before n round (i ∷ list) named zero r at =
-      let call = call_of_instance task (names_of task before) i in
-      let below = first_below before n i list named in
-      let same : child_for pools round (called_stream task call) ≡ r.child = cc in
-      record {
-        instance = i;
-        there = refl;
-        below = below;
-        is =
-            sym same
-            ∙ ap (child_for pools round) (stream_shown task (names_of task before) i fit below)
-            ∙ ap (λ ss. child_for pools ss i.stream) (sym (append-nil round));
-      }
-  sends_at before n round (i ∷ list) named (suc k) r at =
-      let shown = stream_shown task (names_of task before) i fit (first_below before n i list named) in
-      let later =
-      sends_at before (n + 1) (round ++ i.stream ∷ []) list (λ m number turn c e. named (suc m) number turn c e) k r
-      (subst (λ s. slice_get (requests_after task pools (round ++ s ∷ []) (requests_from task before (n + 1) list)) k ≡ Some r)
-      shown at) in
-      record {
-        instance = later.instance;
-        there = later.there;
-        below = later.below;
-        is =
-            later.is
-            ∙ ap (λ ss. child_for pools ss later.instance.stream) (append_assoc round (i.stream ∷ []) (streams_in (take k list)));
-      }
-
-  -- the child is one of the pool that serves the stream
-  sent_one : (list : List Instance) (k child : ℕ) → fits (shares_of pools) list ≡ true → Sends [] list k child → IsOneOf pools child
-  sent_one list k child few s =
-      let found = able.served s.instance.stream s.below in
-      let is = server_is pools s.instance.stream found.0 found.1 in
-      let p = found.0 in
-      let at : slice_get (streams_in list) k ≡ Some s.instance.stream =
-      slice_get-map (λ (i : Instance). i.stream) list k ∙ ap (option_map (λ (i : Instance). i.stream)) s.there in
-      let enough = count_whole (has_stream p) (streams_in list) k s.instance.stream at is.2 in
-      let most =
-      workers_fit pools (map due_of list) (ap (fits (shares_of pools)) (instances_are list) ∙ few) is.0 p is.1 in
-      let many = ap (count_by (has_stream p)) (streams_are list) in
-      let child_is = s.is ∙ from p found.1 ∙ ap (λ ss. p.first + count_by (has_stream p) ss) (take_streams list k) in
-      record {
-        place = is.0;
-        pool = p;
-        at = is.1;
-        has = record { from = omega (arith, child_is); to = omega (arith, child_is, enough, most, many) };
-      }
-    where
-      from : (p : Workers) → server pools s.instance.stream ≡ Some p
-          → child_for pools (streams_in (take k list)) s.instance.stream ≡ p.first + count_by (has_stream p) (streams_in (take k list))
-      from p e = rw e refl
-
   -- ---- parts of transcripts
 
   -- the requests go to children of the pools, and none stands at the end
   record AreServed (es : List Entry) : Type 0 where
     each : GoToPools task pools es
     closed : last_round task [] es ≡ []
+    even : length (replies_of es) ≡ length (requests_of task pools es)
+    in_turn : AreAskedInTurn task pools es
 
   none_served : AreServed []
-  none_served = record { each = λ k r at. absurd (cc); closed = refl }
+  none_served = record {
+    each = λ k r at. absurd (cc);
+    closed = refl;
+    even = refl;
+    in_turn = λ k number turn call at. absurd (cc (at));
+  }
 
   joined_served : (xs ys : List Entry) → AreServed xs → AreServed ys → AreServed (xs ++ ys)
   joined_served xs ys first second = record {
     each = both;
     closed = last_join task [] xs ys ∙ ap (λ round. last_round task round ys) first.closed ∙ second.closed;
+    even = evens;
+    in_turn = turns;
   }
     where
-      parts : requests_of task pools (xs ++ ys) ≡ requests_of task pools xs ++ requests_of task pools ys
-      parts =
-          requests_join task pools [] xs ys
-          ∙ ap (λ round. requests_of task pools xs ++ requests_after task pools round ys) first.closed
+      parts : (t : List Entry) → requests_of task pools (xs ++ t) ≡ requests_of task pools xs ++ requests_of task pools t
+      parts t =
+          requests_join task pools [] xs t
+          ∙ ap (λ round. requests_of task pools xs ++ requests_after task pools round t) first.closed
+
+      evens : length (replies_of (xs ++ ys)) ≡ length (requests_of task pools (xs ++ ys))
+      evens = omega (
+        arith,
+        ap length (replies_join xs ys),
+        length-append (replies_of xs) (replies_of ys),
+        ap length (parts ys),
+        length-append (requests_of task pools xs) (requests_of task pools ys),
+        first.even,
+        second.even,
+      )
+
+      -- what went to a child behind the first entries, and what was answered
+      behind : (t : List Entry) (c : ℕ) → count_to c (requests_of task pools t) ≡ answers_by task pools t c
+          → count_to c (requests_of task pools (xs ++ t)) ≡ answers_by task pools (xs ++ t) c
+      behind t c is =
+          let many : length (replies_of (xs ++ t)) ≡ length (requests_of task pools xs) + length (replies_of t) =
+          omega (arith, ap length (replies_join xs t), length-append (replies_of xs) (replies_of t), first.even) in
+          ap (count_to c) (parts t) ∙ count_joined (is_to c) (requests_of task pools xs) (requests_of task pools t)
+          ∙ ap (λ n. count_to c (requests_of task pools xs) + n) is
+          ∙ sym (count_joined (is_to c) (requests_of task pools xs) (take (length (replies_of t)) (requests_of task pools t)))
+          ∙ ap (count_to c) (sym (take-append-add (requests_of task pools xs) (requests_of task pools t) (length (replies_of t))))
+          ∙ ap (λ rs. count_to c (take (length (requests_of task pools xs) + length (replies_of t)) rs)) (sym (parts t))
+          ∙ ap (λ n. count_to c (take n (requests_of task pools (xs ++ t)))) (sym many)
+
+      turns : AreAskedInTurn task pools (xs ++ ys)
+      turns k number turn call at =
+          elim (append_cases xs ys k (entry.Ask number turn call) at) [
+            | inl early ↦
+                let front : take k (xs ++ ys) ≡ take k xs =
+                take-append-le k xs ys (let within = slice_get_within xs k (entry.Ask number turn call) early in omega (arith, within)) in
+                subst (λ es. count_to (child_for pools (last_round task [] es) (called_stream task call)) (requests_of task pools es)
+                ≡ answers_by task pools es (child_for pools (last_round task [] es) (called_stream task call))) (sym front)
+                (first.in_turn k number turn call early)
+            | inr later ↦
+                let t : List Entry = take later.0 ys in
+                let front : take k (xs ++ ys) ≡ xs ++ t =
+                ap (λ n. take n (xs ++ ys)) later.1 ∙ take-append-add xs ys later.0 in
+                let round : last_round task [] (xs ++ t) ≡ last_round task [] t =
+                last_join task [] xs t ∙ ap (λ r. last_round task r t) first.closed in
+                let c : ℕ = child_for pools (last_round task [] t) (called_stream task call) in
+                let same : child_for pools (last_round task [] (xs ++ t)) (called_stream task call) ≡ c =
+                ap (λ r. child_for pools r (called_stream task call)) round in
+                subst (λ es. count_to (child_for pools (last_round task [] es) (called_stream task call)) (requests_of task pools es)
+                ≡ answers_by task pools es (child_for pools (last_round task [] es) (called_stream task call))) (sym front)
+                (subst (λ d. count_to d (requests_of task pools (xs ++ t)) ≡ answers_by task pools (xs ++ t) d) (sym same)
+                (behind t c (second.in_turn later.0 number turn call later.2)))
+          ]
 
       both : GoToPools task pools (xs ++ ys)
       both k r at =
-          elim (append_cases (requests_of task pools xs) (requests_of task pools ys) k r (sym (ap (λ rs. slice_get rs k) parts) ∙ at)) [
+          elim (append_cases (requests_of task pools xs) (requests_of task pools ys) k r (sym (ap (λ rs. slice_get rs k) (parts ys)) ∙ at)) [
             | inl early ↦ first.each k r early
             | inr later ↦ second.each later.0 r later.2
           ]
 
+  lone_mark : (e : Entry) → is_mark e ≡ true → AreAskedInTurn task pools (e ∷ [])
+  lone_mark e is zero number turn call at =
+      let same : e ≡ entry.Ask number turn call = cc in
+      absurd (let bad : false ≡ true = ap is_mark (sym same) ∙ is in cc)
+  lone_mark e is (suc k) number turn call at = absurd (cc (at))
+
   mark_served : (e : Entry) → is_mark e ≡ true → AreServed (e ∷ [])
   mark_served (entry.Ask number turn call) is = absurd (cc)
-  mark_served e is = record { each = λ k r at. absurd (cc); closed = refl }
+  mark_served (entry.Got number tuples values) is = absurd (cc)
+  mark_served (entry.Value number value) is = absurd (cc)
+  mark_served (entry.End number) is = absurd (cc)
+  mark_served e is = record { each = λ k r at. absurd (cc); closed = refl; even = refl; in_turn = lone_mark e is }
 
   marked_served : (e : Entry) (rest : List Entry) → is_mark e ≡ true → AreServed rest → AreServed (e ∷ rest)
   marked_served e rest is later = joined_served (e ∷ []) rest (mark_served e is) later
@@ -231,7 +149,8 @@ module _ (task : Task) (pools : List Workers) (fit : IsFit task) (able : AreFitP
   round_served : (before : List Entry) (list : List Instance) (answers : List Entry) → 0 < length list
       → fits (shares_of pools) list ≡ true → AreAnswers (asks_of before + 1) (length list) answers
       → NameStreams task (requests task before list ++ answers) → AreServed (requests task before list ++ answers)
-  round_served before list answers some few right named = record { each = one; closed = closed }
+  round_served before list answers some few right named =
+      record { each = one; closed = closed; even = evens; in_turn = turns }
     where
       asks : List Entry
       asks = requests task before list
@@ -247,8 +166,8 @@ module _ (task : Task) (pools : List Workers) (fit : IsFit task) (able : AreFitP
 
       one : GoToPools task pools (asks ++ answers)
       one k r at =
-          sent_one list k r.child few
-          (sends_at before (asks_of before + 1) [] list (names_front task asks answers named) k r
+          sent_one task pools fit able list k r.child few
+          (sends_at task pools fit able before (asks_of before + 1) [] list (names_front task asks answers named) k r
           (sym (ap (λ rs. slice_get rs k) only) ∙ at))
 
       closed : last_round task [] (asks ++ answers) ≡ []
@@ -256,6 +175,96 @@ module _ (task : Task) (pools : List Workers) (fit : IsFit task) (able : AreFitP
           last_join task [] asks answers
           ∙ closed_by task (last_round task [] asks) answers replies
           (omega (arith, answers_long (asks_of before + 1) (length list) answers right, some))
+
+      are_asks : AreAsks asks
+      are_asks = requests_ask task before (asks_of before + 1) list
+
+      evens : length (replies_of (asks ++ answers)) ≡ length (requests_of task pools (asks ++ answers))
+      evens = omega (
+        arith,
+        ap length (replies_join asks answers ∙ ap (λ es. es ++ replies_of answers) (no_replies asks are_asks)),
+        ap length (all_replies answers replies),
+        answers_long (asks_of before + 1) (length list) answers right,
+        ap length only,
+        requests_long task pools [] asks are_asks,
+        requests_many task before (asks_of before + 1) list,
+      )
+
+      turns : AreAskedInTurn task pools (asks ++ answers)
+      turns k number turn call at =
+          elim (append_cases asks answers k (entry.Ask number turn call) at) [
+            | inl early ↦
+                let within = slice_get_within asks k (entry.Ask number turn call) early in
+                let front : take k (asks ++ answers) ≡ take k asks = take-append-le k asks answers (omega (arith, within)) in
+                subst (λ es. count_to (child_for pools (last_round task [] es) (called_stream task call)) (requests_of task pools es)
+                ≡ answers_by task pools es (child_for pools (last_round task [] es) (called_stream task call))) (sym front)
+                (first_of_child k number turn call early)
+            | inr later ↦
+                absurd (let bad : is_answer (entry.Ask number turn call) ≡ true = replies later.0 (entry.Ask number turn call) later.2 in cc)
+          ]
+        where
+          none_yet : (t : List Entry) → AreAsks t → (c : ℕ) → answers_by task pools t c ≡ 0
+          none_yet t are c = ap (λ es. count_to c (take (length es) (requests_of task pools t))) (no_replies t are)
+
+          requests_one : (m : ℕ) (r : Request) → slice_get (requests_of task pools asks) m ≡ Some r
+              → (j : ℕ) × (q : Request) × (slice_get (requests_of task pools asks) j ≡ Some q) × (j ≡ m) × (q ≡ r)
+          requests_one m r is = (m, r, is, refl, refl)
+
+          sends : {m : ℕ} {r : Request}
+              → ((j : ℕ) × (q : Request) × (slice_get (requests_of task pools asks) j ≡ Some q) × (j ≡ m) × (q ≡ r))
+              → Sends task pools fit able [] list m r.child
+          sends {m} {r} (j, q, is, place, own) =
+              subst (λ n. Sends task pools fit able [] list n r.child) place
+              (subst (λ (x : Request). Sends task pools fit able [] list j x.child) own
+              (sends_at task pools fit able before (asks_of before + 1) [] list (names_front task asks answers named) j q is))
+
+          there_at : (k number turn : ℕ) (call : Call) → slice_get asks k ≡ Some (entry.Ask number turn call)
+              → slice_get (requests_of task pools asks) k
+              ≡ Some (record {
+                child = child_for pools (last_round task [] (take k asks)) (called_stream task call);
+                number = number;
+                turn = turn;
+                call = call;
+              })
+          there_at k number turn call at =
+              let next = take_next asks k (entry.Ask number turn call) at in
+              let within = slice_get_within asks k (entry.Ask number turn call) at in
+              let r : Request = record {
+                child = child_for pools (last_round task [] (take k asks)) (called_stream task call);
+                number = number;
+                turn = turn;
+                call = call;
+              } in
+              let fronts : AreAsks (take k asks) = λ m e there. are_asks m e (from_take asks k m e there).1 in
+              let long : length (requests_of task pools (take k asks)) ≡ k =
+              requests_long task pools [] (take k asks) fronts ∙ length-take-le k asks (omega (arith, within)) in
+              let grew : take (suc k) (requests_of task pools asks) ≡ requests_of task pools (take k asks) ++ r ∷ [] =
+              sym (requests_front task pools [] asks (suc k) are_asks) ∙ ap (requests_of task pools) next
+              ∙ requests_join task pools [] (take k asks) (entry.Ask number turn call ∷ []) in
+              (from_take (requests_of task pools asks) (suc k) k r
+              (ap (λ rs. slice_get rs k) grew ∙ ap (slice_get (requests_of task pools (take k asks) ++ r ∷ [])) (sym long)
+              ∙ get_at_length (requests_of task pools (take k asks)) r)).1
+
+          apart_children : (k number turn : ℕ) (call : Call) → slice_get asks k ≡ Some (entry.Ask number turn call)
+              → count_to (child_for pools (last_round task [] (take k asks)) (called_stream task call)) (requests_of task pools (take k asks)) ≡ 0
+          apart_children k number turn call at =
+              let c : ℕ = child_for pools (last_round task [] (take k asks)) (called_stream task call) in
+              let own : slice_get (requests_of task pools asks) k
+              ≡ Some (record { child = c; number = number; turn = turn; call = call }) = there_at k number turn call at in
+              let front : requests_of task pools (take k asks) ≡ take k (requests_of task pools asks) =
+              requests_front task pools [] asks k are_asks in
+              none_to task pools fit able c (requests_of task pools (take k asks))
+              (λ m r is same.
+              let from = from_take (requests_of task pools asks) k m r (ap (λ rs. slice_get rs m) (sym front) ∙ is) in
+              not_again task pools fit able list m k r.child few from.0 (sends (requests_one m r from.1)) (subst (Sends task pools fit able [] list k) (sym same)
+              (sends (requests_one k (record { child = c; number = number; turn = turn; call = call }) own))))
+
+          first_of_child : (k number turn : ℕ) (call : Call) → slice_get asks k ≡ Some (entry.Ask number turn call)
+              → (let c : ℕ = child_for pools (last_round task [] (take k asks)) (called_stream task call) in
+              count_to c (requests_of task pools (take k asks)) ≡ answers_by task pools (take k asks) c)
+          first_of_child k number turn call at =
+              let c : ℕ = child_for pools (last_round task [] (take k asks)) (called_stream task call) in
+              apart_children k number turn call at ∙ sym (none_yet (take k asks) (λ m e there. are_asks m e (from_take asks k m e there).1) c)
 
   -- ---- batches
 
@@ -366,6 +375,16 @@ module _ (task : Task) (pools : List Workers) (fit : IsFit task) (able : AreFitP
 shares_are : (ps : List Pool) → map rounds.share_of ps ≡ shares_of (map workers_of ps)
 shares_are [] = refl
 shares_are (p ∷ ps) = ap (λ qs. rounds.share_of p ∷ qs) (shares_are ps)
+
+-- The requests of turns none of which stops inside: each stands behind the answers to all earlier ones of its child.
+pub asked_in_turn : (task : Task) (head : Head) (entries : List Entry) (stage : Stage) → IsFit task → AreFitPools task (workers_in head)
+    → IsLegal head.version task entries → AreTurnsOf head.mode (limits_of head) task entries stage → ¬ (stage ≡ inside)
+    → AreAskedInTurn task (workers_in head) entries
+asked_in_turn task head entries stage fit able legal turns resting =
+    let served =
+    turns_served task (workers_in head) fit able (limits_of head) (shares_are head.pools) head.mode nothing_kept [] entries stage
+    (as_family head.mode (limits_of head) task entries stage turns) resting (legal_names task head.version entries legal) in
+    served.in_turn
 
 -- The requests of turns none of which stops inside.
 pub go_to_pools : (task : Task) (head : Head) (entries : List Entry) (stage : Stage) → IsFit task → AreFitPools task (workers_in head)

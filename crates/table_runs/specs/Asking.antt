@@ -1,5 +1,5 @@
 -- Children that answer by a table, by what was said with them.
-use Rattle.std.specs.Prelude.{◌≡◌, ℕ, ◌<◌, List, [], ◌∷◌, ◌&&◌, Option, None, Some, codes, slice_get, if◌then◌else◌}
+use Rattle.std.specs.Prelude.{◌≡◌, ℕ, ◌<◌, List, [], ◌∷◌, ◌&&◌, Option, None, Some, codes, slice_get, take, if◌then◌else◌}
 use Rattle.std.specs.Char.{is_ascii_digit}
 use Rattle.std.specs.List.{list_all}
 use Rattle.std.specs.Str.{bytes_eq}
@@ -7,13 +7,15 @@ use Rattle.std.specs.Str.Parse.{digits_value}
 use Rattle.gen_lines.specs.Lines.{lines_of}
 use Rattle.gen_lines.specs.Reply.{fields, is_filled, reply_of}
 use Rattle.io_world.specs.Talks.{Talk}
-use Rattle.pools.specs.Pools.{Workers}
-use Rattle.round_run.specs.Dialogue.{IsOneOf, Request, called_stream, count_to, requests_of}
+use Rattle.pools.specs.Pools.{Workers, child_for}
+use Rattle.round_run.specs.Calls.{answers_by}
+use Rattle.round_run.specs.Dialogue.{IsOneOf, Request, called_stream, count_to, last_round, requests_of}
 use Rattle.session_core.specs.Slots.{wanted_at}
 use Rattle.task_model.specs.declared.task.Task.{Task}
 use Rattle.transcript_model.specs.Tables.{Answers}
 use Rattle.transcript_model.specs.declared.entry.Call.{Call}
 use Rattle.transcript_model.specs.declared.entry.Entry.{Entry}
+use Rattle.transcript_model.specs.declared.entry.Entry.TheVariants as entry
 
 -- ---- what a line asks
 
@@ -65,3 +67,10 @@ AskedTell task pools entries spoken =
 abbrev pub GoToPools : Task → List Workers → List Entry → Type 0
 GoToPools task pools entries =
     (k : ℕ) (r : Request) → slice_get (requests_of task pools entries) k ≡ Some r → IsOneOf pools r.child
+
+-- each request stands behind the answers to all earlier ones that went to its child
+abbrev pub AreAskedInTurn : Task → List Workers → List Entry → Type 0
+AreAskedInTurn task pools entries =
+    (k number turn : ℕ) (call : Call) → slice_get entries k ≡ Some (entry.Ask number turn call)
+    → (let child : ℕ = child_for pools (last_round task [] (take k entries)) (called_stream task call) in
+    count_to child (requests_of task pools (take k entries)) ≡ answers_by task pools (take k entries) child)
