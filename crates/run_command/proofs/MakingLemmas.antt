@@ -23,6 +23,7 @@ made_in_range w is = subst AreInRange (sym is) (record {
   workers = (omega arith, omega arith);
   protocol = (omega arith, omega arith);
   alone = λ path e. absurd (cc);
+  restarts = omega arith;
   cheapest = λ e. refl;
 })
 

@@ -44,6 +44,7 @@ fn made_words(alloc: Global) -> Result<SolveConfig, AllocError>
         depth: DEFAULT_DEPTH as u8,
         protocol: 1,
         optimal: false,
+        restarts: 0,
     })
 }
 
