@@ -4,10 +4,11 @@ use Rattle.std.proofs.lemmas.Result.{IfErr-weaker, IfOk-weaker, err_from_is_err_
 use Rattle.std.specs.Result.{IfOk, IsErrAnd, OnOk}
 use Rattle.io_world.specs.Faults.{HasCause, last_count}
 use Rattle.io_world.specs.Talks.{Talk}
+use Rattle.round_run.proofs.LedLemmas.{Joins, goes_asks, led_then, still_then}
 use Rattle.round_run.proofs.TurnLineLemmas.{advances_on, line_advances, line_breaks, turn_breaks_as, turn_breaks_on}
 use Rattle.round_run.specs.TurnLines.{Advances, TurnBreaks, IsMarked, opens_requests}
 use Rattle.round_run.specs.Desk.{AtDesk, Broken, HasDone, IsSameDesk, OnBatch, OnTurn, Order, RestsAt}
-use Rattle.round_run.specs.Told.{Stretch, Told}
+use Rattle.round_run.specs.Told.{Became, Stretch, Told}
 use Rattle.round_run.proofs.BreakingRunLemmas.{run_breaks_as}
 use Rattle.round_run.proofs.StoppedLemmas.{goes_then, stopped_as, stopped_then}
 use Rattle.round_run.specs.Breaking.{RunBreaks}
@@ -23,8 +24,8 @@ use Rattle.transcript_model.specs.declared.entry.Entry.{Entry}
 use Rattle.transcript_model.specs.declared.head.Head.{Head}
 
 -- from what was told here to what was told there
-abbrev pub between : ℕ → Told → Told → Stretch
-between last was now = record { last = last; was = was; now = now }
+abbrev pub between : ℕ → Told → Told → Became → Stretch
+between last was now host = record { last = last; was = was; now = now; host = host }
 
 -- two desks one after another
 pub both : (old mid new : AtDesk) → IsSameDesk old mid → IsSameDesk mid new → IsSameDesk old new
@@ -63,21 +64,21 @@ module _ {T : Type 0} (old new : AtDesk) (c : Stretch) (Came : Task → Head →
 -- ---- one after another
 
 -- what came behind a part of a turn is of the same turn
-pub turn_then : {T U : Type 0} (old mid new : AtDesk) (last : ℕ) (was half now : Told) (First : T → Type 0)
-    (Early : List Entry → Type 0) (Some : Task → Head → U → Type 0) (Front : Task → Head → List Entry → Type 0)
+pub turn_then : {T U : Type 0} {early later all : Became} (old mid new : AtDesk) (last : ℕ) (was half now : Told) → Joins early later all
+    → (First : T → Type 0) (Early : List Entry → Type 0) (Some : Task → Head → U → Type 0) (Front : Task → Head → List Entry → Type 0)
     (What : U → Type 0) (Wider : List Entry → Type 0) (x : T) (r : Result U RunFault)
-    → OnTurn old mid (between last was half) First Early (Ok x)
-    → OnTurn mid new (between last half now) (Some mid.task mid.head) (Front mid.task mid.head) r
+    → OnTurn old mid (between last was half early) First Early (Ok x)
+    → OnTurn mid new (between last half now later) (Some mid.task mid.head) (Front mid.task mid.head) r
     → ((y : U) → Some old.task old.head y → What y)
     → ((es : List Entry) → IsLegal old.head.version old.task es → Front old.task old.head es → Wider es)
-    → OnTurn old new (between last was now) What Wider r
-turn_then {T} {U} old mid new last was half now First Early Some Front What Wider x r first second what wider =
+    → OnTurn old new (between last was now all) What Wider r
+turn_then {T} {U} {early} {later} {all} old mid new last was half now joins First Early Some Front What Wider x r first second what wider =
     let task = old.task in
     let head = old.head in
     let a = old.state.entries in
     let b = mid.state.entries in
     let here = Front task head in
-    let next = goes_of mid new (between last half now) (λ t h. Advances t h) (λ t h. TurnBreaks t h) Some Front r mid.task task
+    let next = goes_of mid new (between last half now later) (λ t h. Advances t h) (λ t h. TurnBreaks t h) Some Front r mid.task task
     mid.head head first.same.task first.same.head second in
     record {
       same = both old mid new first.same next.same;
@@ -99,20 +100,25 @@ turn_then {T} {U} old mid new last was half now First Early Some Front What Wide
           (λ more told there. turn_breaks_as task head here Wider wider b fault half.host.log now.host.log more) s)) next.stopped;
       state = next.state;
       causes = causes_behind last was half now (let ok : Result T RunFault = Ok x in ok) r first.causes next.causes;
+      led = led_then joins first.led next.led;
+      still = still_then joins a b new.state.entries (goes_asks a b was.taken half.taken first.adds.goes) first.still r
+          (on_ok_weaker r (λ (adds : GoesInOrder b new.state.entries half.taken now.taken
+          (Advances task head b new.state.entries half.host.log now.host.log)).
+          goes_asks b new.state.entries half.taken now.taken adds.goes) next.adds) next.still;
     }
 
 -- a batch behind a line that may have requests behind it
-pub line_then : {T U : Type 0} (e : Entry) → is_mark e ≡ true → (old mid new : AtDesk) → opens_requests old.head.mode e ≡ true
+pub line_then : {T U : Type 0} {early host : Became} (e : Entry) → is_mark e ≡ true → (old mid new : AtDesk) → opens_requests old.head.mode e ≡ true
     → (last : ℕ) (was half now : Told) → half.host ≡ was.host → (Early : List Entry → Type 0)
     → (Some : Task → Head → U → Type 0) (Front : Task → Head → List Entry → Type 0)
     (What : U → Type 0) (Wider : List Entry → Type 0) (x : T) (r : Result U RunFault)
-    → OnTurn old mid (between last was half) (λ _. IsMarked e old.state mid.state) Early (Ok x)
-    → OnBatch mid new (between last half now) (Some mid.task mid.head) (Front mid.task mid.head) r
+    → OnTurn old mid (between last was half early) (λ _. IsMarked e old.state mid.state) Early (Ok x)
+    → OnBatch mid new (between last half now host) (Some mid.task mid.head) (Front mid.task mid.head) r
     → ((y : U) → Some old.task old.head y → RestsAt new now.host → asks_of new.state.entries ≡ asks_of old.state.entries → ⊥)
     → ((y : U) → Some old.task old.head y → What y)
     → ((es : List Entry) → IsLegal old.head.version old.task es → Front old.task old.head es → Wider es)
-    → OnTurn old new (between last was now) What Wider r
-line_then {T} {U} e mark old mid new opens last was half now still Early Some Front What Wider x r first second asks what wider =
+    → OnTurn old new (between last was now host) What Wider r
+line_then {T} {U} {early} {host} e mark old mid new opens last was half now still Early Some Front What Wider x r first second asks what wider =
     let task = old.task in
     let head = old.head in
     let a = old.state.entries in
@@ -120,7 +126,7 @@ line_then {T} {U} e mark old mid new opens last was half now still Early Some Fr
     let here = Front task head in
     let is = first.ran.entries in
     let log = ap (λ h. h.log) still in
-    let next = goes_of mid new (between last half now) (λ t h. Runs t h) (λ t h. RunBreaks t h) Some Front r mid.task task
+    let next = goes_of mid new (between last half now host) (λ t h. Runs t h) (λ t h. RunBreaks t h) Some Front r mid.task task
     mid.head head first.same.task first.same.head second in
     record {
       same = both old mid new first.same next.same;
@@ -139,8 +145,15 @@ line_then {T} {U} e mark old mid new opens last was half now still Early Some Fr
           (subst (λ l. RunBreaks task head b fault l now.host.log here more) log broken)) s)) next.stopped;
       state = next.state;
       causes = causes_behind last was half now (let ok : Result T RunFault = Ok x in ok) r first.causes next.causes;
+      led = next.led;
+      still = asked r next.ran next.holds;
     }
   where
+    asked : (q : Result U RunFault) → IfOk q (Some old.task old.head) → OnOk q (RestsAt new now.host)
+        → OnOk q (asks_of new.state.entries ≡ asks_of old.state.entries → host.same)
+    asked (Ok y) ran there = λ none. absurd (asks y ran there none)
+    asked (Err fault) ran there = tt
+
     added : (q : Result U RunFault) → IfOk q (Some old.task old.head) → OnOk q (RestsAt new now.host)
         → OnOk q (GoesInOrder mid.state.entries new.state.entries half.taken now.taken
         (Runs old.task old.head mid.state.entries new.state.entries half.host.log now.host.log))
@@ -174,6 +187,8 @@ turn_as old new c Some What Front Wider r goes what wider =
           (λ more told there. turn_breaks_as task head Front Wider wider a fault c.was.host.log c.now.host.log more) s) goes.stopped;
       state = goes.state;
       causes = goes.causes;
+      led = goes.led;
+      still = goes.still;
     }
 
 -- a fault that is handed on
@@ -195,6 +210,8 @@ turn_handed {T} {U} old new c Some What Front Wider fault r is goes wider =
         host = record { later = all.causes.host.later; cause = λ same. all.causes.host.cause (ap Err (same_fault same)) };
         sink = record { later = all.causes.sink.later; cause = λ same. all.causes.sink.cause (ap Err (same_fault same)) };
       };
+      led = all.led;
+      still = tt;
     })
   where
     same_fault : {x y : RunFault} → (let s : Result U RunFault = Err x in s) ≡ Err y → x ≡ y
@@ -215,6 +232,8 @@ turn_ok old new c Some What Front Wider x y goes what = record {
     host = record { later = goes.causes.host.later; cause = λ is. absurd (cc) };
     sink = record { later = goes.causes.sink.later; cause = λ is. absurd (cc) };
   };
+  led = goes.led;
+  still = goes.still;
 }
 
 -- what is so of the task and head of a desk is so of those of the first

@@ -27,5 +27,6 @@ pub mod TalkingEndLemmas
 pub mod TalkingHeardLemmas
 pub mod TurnLineLemmas
 pub mod MarkLemmas
+pub mod LedLemmas
 pub mod GoingLemmas
 pub mod QuietLemmas

@@ -2,13 +2,14 @@
 use Rattle.std.proofs.Common.{◌≡◌, ◌⊎◌, ◌++◌, ◌∷◌, ◌∙◌, [], ℕ, List, Option, Result, Ok, Err, true, inl, length, refl, sym, subst, arith}
 use Rattle.std.specs.Result.{IfErr, OnOk}
 use Rattle.io_world.specs.Faults.{HasCause, last_count}
+use Rattle.round_run.proofs.LedLemmas.{StillHost, alone, led_none}
 use Rattle.round_run.proofs.TurnLineLemmas.{mark_advances, quiet_turn}
 use Rattle.round_run.proofs.MarkLemmas.{rests_marked}
 use Rattle.round_run.specs.TurnLines.{TurnBreaks, IsMarked}
 use Rattle.round_run.specs.Desk.{AtDesk, IsFrontOfMark, OnTurn, RestsAt}
 use Rattle.round_run.specs.Told.{HostTold, quiet}
 use Rattle.round_run.proofs.BreakingLemmas.{tells_memory, tells_written}
-use Rattle.round_run.proofs.StoppedLemmas.{stopped_as, stopped_memory, written_no_generator}
+use Rattle.round_run.proofs.StoppedLemmas.{on_ok, stopped_as, stopped_memory, written_no_generator}
 use Rattle.round_run.proofs.TalkingLemmas.{dialogue_told, told_of}
 use Rattle.round_run.specs.Batches.{AreStarted}
 use Rattle.round_run.specs.Dialogue.{workers_in}
@@ -52,6 +53,8 @@ module _ (task : Task) (head : Head) (held : Held) (e : Entry) (mark : is_mark e
     stopped = tt;
     state = rests.works.listens.state;
     causes = record { host = record { later = omega arith; cause = λ is. absurd (cc) }; sink = cause };
+    led = led_none tt;
+    still = λ none. tt;
   }
   mark_turn (Err fault) marked session goes stopped only cause =
       let works = rests.works in
@@ -74,41 +77,62 @@ module _ (task : Task) (head : Head) (held : Held) (e : Entry) (mark : is_mark e
           host = record { later = omega arith; cause = λ is. absurd (written_no_generator fault only (same_fault is)) };
           sink = cause;
         };
+        led = led_none tt;
+        still = tt;
       }
     where
       same_fault : {x y : RunFault} → (let r : Result (Unit {0}) RunFault = Err x in r) ≡ Err y → x ≡ y
       same_fault is = cc
 
+-- such a part, told of a host that is left alone
+pub turn_alone : {T : Type 0} (old new : AtDesk) (still : StillHost) (taken taken_now : Option (List ℕ)) (lost lost_now : ℕ)
+    (What : T → Type 0) (Front : List Entry → Type 0) (r : Result T RunFault)
+    → OnTurn old new (quiet still.last still.told taken taken_now lost lost_now) What Front r
+    → OnTurn old new (alone still taken taken_now lost lost_now) What Front r
+turn_alone {T} old new still taken taken_now lost lost_now What Front r goes = record {
+  same = goes.same;
+  holds = goes.holds;
+  ran = goes.ran;
+  adds = goes.adds;
+  stopped = goes.stopped;
+  state = goes.state;
+  causes = goes.causes;
+  led = led_none still.leads;
+  still = on_ok r _ (λ none. still.same);
+}
+
 -- memory was wanting, and nothing was done
-pub turn_memory : {T : Type 0} (desk : AtDesk) (host : HostTold) (last : ℕ) (taken : Option (List ℕ)) (lost : ℕ)
-    (What : T → Type 0) (Front : List Entry → Type 0) (fault : RunFault) → RestsAt desk host → fault ≡ Memory
+pub turn_memory : {T : Type 0} (desk : AtDesk) (still : StillHost) (taken : Option (List ℕ)) (lost : ℕ)
+    (What : T → Type 0) (Front : List Entry → Type 0) (fault : RunFault) → RestsAt desk still.told → fault ≡ Memory
     → (IsLegal desk.head.version desk.task desk.state.entries → Front desk.state.entries)
-    → OnTurn desk desk (quiet last host taken taken lost lost) What Front (let r : Result T RunFault = Err fault in r)
-turn_memory {T} desk host last taken lost What Front fault rests memory front =
+    → OnTurn desk desk (alone still taken taken lost lost) What Front (let r : Result T RunFault = Err fault in r)
+turn_memory {T} desk still taken lost What Front fault rests memory front =
     let task = desk.task in
     let head = desk.head in
     let s = desk.state in
     let works = rests.works in
     let session = works.listens.session in
     let legal = subst (λ v. IsLegal v task s.entries) works.of.version session.legal in
-    let talks = dialogue_told task head.version (workers_in head) s.entries (length s.asked) host.running (held_of desk.held) host.spoken
-    session.counted (subst (λ ps. AreStarted ps (length s.asked) host.running) works.of.pools rests.started)
-    (told_of head s works.of task s.entries host.running (held_of desk.held) host.spoken works.listens.told) in
+    let talks = dialogue_told task head.version (workers_in head) s.entries (length s.asked) still.told.running (held_of desk.held) still.told.spoken
+    session.counted (subst (λ ps. AreStarted ps (length s.asked) still.told.running) works.of.pools rests.started)
+    (told_of head s works.of task s.entries still.told.running (held_of desk.held) still.told.spoken works.listens.told) in
     record {
       same = record { task = refl; head = refl };
       holds = tt;
       ran = tt;
       adds = tt;
       stopped =
-          stopped_memory head.version task (workers_in head) host.spoken Front s.entries fault taken
-          (TurnBreaks task head s.entries fault host.log host.log) legal (front legal) talks
-          (quiet_turn task head Front entry.Level refl s.entries fault host.log
+          stopped_memory head.version task (workers_in head) still.told.spoken Front s.entries fault taken
+          (TurnBreaks task head s.entries fault still.told.log still.told.log) legal (front legal) talks
+          (quiet_turn task head Front entry.Level refl s.entries fault still.told.log
           (tells_memory (HasNoneOpen s.entries) fault session.none_open memory) [] (inl refl)) memory;
       state = works.listens.state;
       causes = record {
         host = record { later = omega arith; cause = λ is. absurd (no_generator memory (same_fault is)) };
         sink = record { later = omega arith; cause = λ is. absurd (no_write memory (same_fault is)) };
       };
+      led = led_none still.leads;
+      still = tt;
     }
   where
     same_fault : {x y : RunFault} → (let r : Result T RunFault = Err x in r) ≡ Err y → x ≡ y

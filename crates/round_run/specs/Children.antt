@@ -1,11 +1,12 @@
 -- What is done with one child, and how all workers are started.
-use Rattle.std.specs.Prelude.{◌≡◌, ℕ, [], List, take, true, false, Result, Ok, Err, IfErr, IsErrOf, OnOk, OnErr, MatchResult}
+use Rattle.std.specs.Prelude.{◌≡◌, ◌≤◌, ℕ, [], List, take, true, false, Result, Ok, Err, IfErr, IsErrOf, OnOk, OnErr, MatchResult}
 use Rattle.io_world.specs.Faults.{Extends, HasCause}
 use Rattle.io_world.specs.Talks.{Becomes, Empties, Hears, Logs, LogsGiven, LogsGivenPart, LogsTaken, LogsTakenPart, Same, Writes, started}
 use Rattle.io_world.specs.declared.host.HostFault.{HostFault}
 use Rattle.round_run.specs.Breaking.{LogHears}
-use Rattle.round_run.specs.Calls.{LogReads, LogStartsPart, starts_of}
+use Rattle.round_run.specs.Calls.{LogReads, LogStartsPart, LogStops, starts_of}
 use Rattle.round_run.specs.Held.{Held, is_child_running}
+use Rattle.round_run.specs.Led.{IsLed, stops_for_memory}
 use Rattle.round_run.specs.Resting.{KeepsSilent}
 use Rattle.round_run.specs.Rolling.{IsHostFault}
 use Rattle.round_run.specs.Starts.{AllWork}
@@ -33,6 +34,7 @@ pub record StartsOne (child : ℕ) (words : List (List ℕ)) (c : Course) (resul
       × Logs c.was.log c.now.log (started child words (Err cause)))
   pub only : IfErr result MayHear
   pub cause : HasCause Generator c.last c.was.faults c.now.faults result
+  pub led : IsLed c.host.leads (stops_for_memory result)
 
 -- The same, where it is kept which children run.
 pub record StartsHeld (child : ℕ) (words : List (List ℕ)) (old new : Held) (c : Course)
@@ -45,6 +47,7 @@ pub record StartsHeld (child : ℕ) (words : List (List ℕ)) (old new : Held) (
       × Logs c.was.log c.now.log (started child words (Err cause)))
   pub only : IfErr result MayHear
   pub cause : HasCause Generator c.last c.was.faults c.now.faults result
+  pub led : IsLed c.host.leads (stops_for_memory result)
 
 -- All workers of the pools were started, in the order of their numbers; or the first of them, and the next start was
 -- refused.
@@ -57,6 +60,18 @@ pub record StartsAll (pools : List Pool) (old new : Held) (c : Course) (result :
   pub refused : IfErr result (λ fault. LogStartsPart (starts_of pools) fault c.was.log c.now.log)
   pub only : IfErr result MayHear
   pub cause : HasCause Generator c.last c.was.faults c.now.faults result
+  pub led : IsLed c.host.leads (stops_for_memory result)
+
+-- ---- stops
+
+-- Afterwards no child runs, and nothing but stops came to the log. Where none ran the host is as it was.
+pub record StopsAll (c : Course) : Type 0 where
+  pub idle : (child : ℕ) → c.now.running child ≡ false
+  pub none : ((child : ℕ) → c.was.running child ≡ false) → c.host.same
+  pub stops : LogStops c.was.log c.now.log
+  pub spoken : Same c.was.spoken c.now.spoken
+  pub later : c.was.faults ≤ c.now.faults
+  pub leads : c.host.leads false
 
 -- ---- requests and answers
 
@@ -70,6 +85,7 @@ pub record SendsBytes (child : ℕ) (bytes : List ℕ) (c : Course) (result : Re
       × LogsTakenPart child bytes cause c.was.log c.now.log)
   pub only : IfErr result MayHear
   pub cause : HasCause Generator c.last c.was.faults c.now.faults result
+  pub led : IsLed c.host.leads (stops_for_memory result)
 
 -- Bytes of the child were put into its buffer, until that holds a line or is full; or a read was refused.
 pub record FillsBuffer (child : ℕ) (old new : List ℕ) (c : Course) (result : Result (Unit {0}) RunFault) : Type 0 where
@@ -81,6 +97,7 @@ pub record FillsBuffer (child : ℕ) (old new : List ℕ) (c : Course) (result :
       × LogsGivenPart child [] cause c.was.log c.now.log)
   pub only : IfErr result MayHear
   pub cause : HasCause Generator c.last c.was.faults c.now.faults result
+  pub led : IsLed c.host.leads (stops_for_memory result)
 
 -- The session took the line as the child's answer, or the line is none.
 pub record TakesLine (child : ℕ) (line : List ℕ) (old new : State) (result : Result (Unit {0}) RunFault) : Type 0 where
@@ -100,3 +117,4 @@ pub record HearsLine (child : ℕ) (old new : State) (held left : List ℕ) (c :
   pub kept : (task : Task) → IsSession task old → IsSession task new
   pub running : Same c.was.running c.now.running
   pub cause : HasCause Generator c.last c.was.faults c.now.faults result
+  pub led : IsLed c.host.leads (stops_for_memory result)

@@ -9,6 +9,7 @@ use Rattle.round_run.specs.Breaking.{RunBreaks}
 use Rattle.round_run.specs.Calls.{Runs}
 use Rattle.round_run.specs.Dialogue.{workers_in}
 use Rattle.round_run.specs.Held.{Held, is_child_running}
+use Rattle.round_run.specs.Led.{IsLed, stops_for_memory}
 use Rattle.round_run.specs.Resting.{AreCaused, GoesInOrder, Rests}
 use Rattle.round_run.specs.Rolling.{Goes, Stopped}
 use Rattle.round_run.specs.Stops.{MayWrite}
@@ -18,6 +19,7 @@ use Rattle.round_run.specs.declared.fault.RunFault.TheVariants.{Write}
 use Rattle.session_core.specs.Session.{IsNew, IsOf, IsSession}
 use Rattle.session_core.specs.State.{State}
 use Rattle.task_model.specs.declared.task.Task.{Task}
+use Rattle.transcript_model.specs.Legal.{asks_of}
 use Rattle.transcript_model.specs.declared.entry.Entry.{Entry}
 use Rattle.transcript_model.specs.declared.head.Head.{Head}
 
@@ -55,7 +57,8 @@ Broken = List Entry → RunFault → Option (List Event) → Option (List Event)
     → Type 0
 
 -- What a part of a run has done. Behind an Ok the desk stands so again, this is so of what was answered, and entries
--- came behind the others, were written, and came by such calls. Behind a fault what was to be written is such a front.
+-- came behind the others, were written, and came by such calls; where no request came the host is as it was. Behind a
+-- fault what was to be written is such a front. A call that wanted memory was the last, and so the run stops.
 pub record HasDone {T : Type 0} (task : Task) (head : Head) (old new : AtDesk) (c : Stretch)
     (Holds : AtDesk → HostTold → Type 0) (Came : Order) (Broke : Broken)
     (What : T → Type 0) (Front : List Entry → Type 0) (result : Result T RunFault) : Type 0 where
@@ -68,6 +71,8 @@ pub record HasDone {T : Type 0} (task : Task) (head : Head) (old new : AtDesk) (
       c.was.taken c.now.taken c.now.host.spoken (Broke old.state.entries fault c.was.host.log c.now.host.log))
   pub state : Same c.now.host.running (is_child_running new.held)
   pub causes : AreCaused c.last c.was.host.faults c.now.host.faults c.was.lost c.now.lost result
+  pub led : IsLed c.host.leads (stops_for_memory result)
+  pub still : OnOk result (asks_of new.state.entries ≡ asks_of old.state.entries → c.host.same)
 
 -- by the starts of all workers, where the first request is among them, and the calls of each entry
 abbrev pub OnBatch : {T : Type 0} → AtDesk → AtDesk → Stretch → (T → Type 0) → (List Entry → Type 0)

@@ -4,6 +4,7 @@ pub mod Calls
 pub mod Children
 pub mod Dialogue
 pub mod Held
+pub mod Led
 pub mod Open
 pub mod Resting
 pub mod Rolling

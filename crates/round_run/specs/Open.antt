@@ -1,5 +1,5 @@
 -- What is done in an open round, in a whole round, and in the rounds of a batch.
-use Rattle.std.specs.Prelude.{◌≡◌, ◌++◌, ℕ, ◌<◌, List, length, take, Result, IfErr, IfOk, OnOk}
+use Rattle.std.specs.Prelude.{◌≡◌, ◌⊎◌, ◌++◌, ℕ, ◌<◌, List, length, take, Result, IfErr, IfOk, OnOk}
 use Rattle.instance_queue.specs.Level.{due_instances}
 use Rattle.instance_queue.specs.declared.due.Due.{Due}
 use Rattle.io_world.specs.Faults.{HasCause}
@@ -8,6 +8,7 @@ use Rattle.round_run.specs.Breaking.{LogBreaks}
 use Rattle.round_run.specs.Calls.{AddsCalls, LogStartsPart, starts_of}
 use Rattle.round_run.specs.Dialogue.{workers_in}
 use Rattle.round_run.specs.Held.{Held, is_child_running}
+use Rattle.round_run.specs.Led.{IsLed, stops_for_memory}
 use Rattle.round_run.specs.Resting.{AreCaused, GoesInOrder, HasStarted, IsFrontOfBatch, Listens, RanBatch, RanRound, Rolled, Stays, StaysIdle, Works}
 use Rattle.round_run.specs.Rolling.{Goes, IsFrontPart, Stopped, finished_round}
 use Rattle.round_run.specs.Stops.{MayHear}
@@ -56,6 +57,7 @@ pub record SendsOn (old new : State) (c : Stretch) (sent sent_now : ℕ) (before
   pub kept : (task : Task) → IsSession task old → IsSession task new
   pub running : Same c.was.host.running c.now.host.running
   pub causes : AreCaused c.last c.was.host.faults c.now.host.faults c.was.lost c.now.lost result
+  pub led : IsLed c.host.leads (stops_for_memory result)
 
 -- Answers of an open round whose requests are all sent, from so many that were heard to so many, were heard, and their
 -- lines written. Of children that don't run the same bytes are kept.
@@ -74,6 +76,7 @@ pub record HearsOn (old new : State) (held left : Held) (c : Stretch) (heard hea
   pub kept : (task : Task) → IsSession task old → IsSession task new
   pub same : StaysIdle held left c.was.host.running c.now.host.running
   pub causes : AreCaused c.last c.was.host.faults c.now.host.faults c.was.lost c.now.lost result
+  pub led : IsLed c.host.leads (stops_for_memory result)
 
 -- ---- rounds
 
@@ -90,6 +93,7 @@ pub record RunsRound (task : Task) (dues : List Due) (old new : State) (held lef
       c.now.host.spoken (LogBreaks task old.version old.pools old.entries fault c.was.host.log c.now.host.log))
   pub same : Stays held left c.was.host.running c.now.host.running
   pub causes : AreCaused c.last c.was.host.faults c.now.host.faults c.was.lost c.now.lost result
+  pub led : IsLed c.host.leads (stops_for_memory result)
 
 -- The asks were run in rounds, as far as calls were left; behind a fault, where something was to be asked, the first of
 -- these rounds.
@@ -105,6 +109,8 @@ pub record RunsRounds (task : Task) (head : Head) (dues : List Due) (old new : S
       (LogBreaks task head.version (workers_in head) old.entries fault c.was.host.log c.now.host.log))
   pub same : Stays held left c.was.host.running c.now.host.running
   pub causes : AreCaused c.last c.was.host.faults c.now.host.faults c.was.lost c.now.lost result
+  pub led : IsLed c.host.leads (stops_for_memory result)
+  pub still : OnOk result (length new.asked ≡ length old.asked → c.host.same)
 
 -- All workers run, if something is to be asked; or a start was refused, and nothing was asked before.
 pub record StartsWorkers (task : Task) (head : Head) (dues : List Due) (s : State) (left : Held) (c : Course)
@@ -115,3 +121,5 @@ pub record StartsWorkers (task : Task) (head : Head) (dues : List Due) (s : Stat
       × LogStartsPart (starts_of head.pools) fault c.was.log c.now.log)
   pub state : Same c.now.running (is_child_running left)
   pub cause : HasCause Generator c.last c.was.faults c.now.faults result
+  pub led : IsLed c.host.leads (stops_for_memory result)
+  pub still : OnOk result ((0 < length s.asked) ⊎ (length dues ≡ 0) → c.host.same)

@@ -33,8 +33,7 @@ pub(crate) fn run_rounds<H: Host, O: Sink>(
     requires ready { AreReady task.now session.old.entries dues.now }
     requires all_run { 0 < length dues.now → AllRun session.old.pools (H.running host.old) }
     ensures runs { RunsRounds task.now head.now dues.now session.old session.new lines.old lines.new
-        (stretch H.last H.running H.spoken H.log H.faults O.taken O.faults host.old host.new
-        out.old out.new) result }
+        (stretch H.Host O.Sink host.old host.new out.old out.new) result }
 {
     let mut rest = dues;
     'rounds: loop {
@@ -63,8 +62,7 @@ pub(crate) fn start_workers<H: Host>(
     requires pools { AreStartable head.now.pools }
     requires rests { Rests task.now head.now session.now lines.old (H.running host.old)
         (H.spoken host.old) }
-    ensures starts { StartsWorkers task.now head.now dues.now session.now lines.new (course H.last
-        H.running H.spoken H.log H.faults host.old host.new) result }
+    ensures starts { StartsWorkers task.now head.now dues.now session.now lines.new (course H.Host host.old host.new) result }
 {
     if dues.is_empty() {
         return Ok(());

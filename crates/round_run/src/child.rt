@@ -32,8 +32,7 @@ pub(crate) fn start<H: Host>(host: &mut H, child: u8, argv: &[String]) -> Result
     requires number { child < CHILDREN }
     requires words { 0 < length argv.now }
     requires idle { H.running host.old child ≡ false }
-    ensures starts { StartsOne child (map string_bytes argv.now) (course H.last H.running H.spoken
-        H.log H.faults host.old host.new) result }
+    ensures starts { StartsOne child (map string_bytes argv.now) (course H.Host host.old host.new) result }
 {
     match host.start(child, argv) {
         Ok(()) => Ok(()),
@@ -45,8 +44,7 @@ pub(crate) fn start<H: Host>(host: &mut H, child: u8, argv: &[String]) -> Result
 pub(crate) fn send<H: Host>(host: &mut H, child: u8, request: &[u8]) -> Result<(), RunFault>
     requires number { child < CHILDREN }
     requires runs { H.running host.old child ≡ true }
-    ensures sends { SendsBytes child request.now (course H.last H.running H.spoken H.log H.faults
-        host.old host.new) result }
+    ensures sends { SendsBytes child request.now (course H.Host host.old host.new) result }
 {
     match send_all(host, child, request) {
         Ok(()) => Ok(()),
@@ -58,8 +56,7 @@ pub(crate) fn send<H: Host>(host: &mut H, child: u8, request: &[u8]) -> Result<(
 fn fill<H: Host>(host: &mut H, child: u8, buffer: &mut LineBuf) -> Result<(), RunFault>
     requires number { child < CHILDREN }
     requires runs { H.running host.old child ≡ true }
-    ensures fills { FillsBuffer child buffer.old buffer.new (course H.last H.running H.spoken H.log
-        H.faults host.old host.new) result }
+    ensures fills { FillsBuffer child buffer.old buffer.new (course H.Host host.old host.new) result }
 {
     let mut bytes = [0; LINE_BYTES];
     let room = &mut bytes[..buffer.room()];
@@ -108,8 +105,7 @@ pub(crate) fn hear<H: Host>(
     requires number { child < CHILDREN }
     requires runs { H.running host.old child ≡ true }
     requires awaits { Awaits session.old child }
-    ensures hears { HearsLine child session.old session.new buffer.old buffer.new (course H.last
-        H.running H.spoken H.log H.faults host.old host.new) result }
+    ensures hears { HearsLine child session.old session.new buffer.old buffer.new (course H.Host host.old host.new) result }
 {
     match buffer.next_line() {
         Seen::Line(line) => return take_line(session, child, line),

@@ -42,14 +42,14 @@ impl<'a> Model for Desk<'a> {
 }
 
 impl<'a> Desk<'a> {
-    ghost use Rattle.std.specs.Prelude.{◌≡◌, ◌≤◌, ℕ, false, true, IfOk};
+    ghost use Rattle.std.specs.Prelude.{◌≡◌, ℕ, false, true, IfOk};
     ghost use Rattle.io_world.specs.Talks.{Same};
     ghost use Rattle.round_run.specs.Batches.{IsRunnable};
-    ghost use Rattle.round_run.specs.Calls.{LogStops};
+    ghost use Rattle.round_run.specs.Children.{StopsAll};
     ghost use Rattle.round_run.specs.Desk.{IsClean, IsDesk, IsFrontOfMark, OnBatch, OnTurn, RestsAt};
     ghost use Rattle.round_run.specs.Held.{is_child_running};
     ghost use Rattle.round_run.specs.Resting.{IsFrontOfBatch, RanBatch};
-    ghost use Rattle.round_run.specs.Told.{HostTold, stretch, host_told, quiet};
+    ghost use Rattle.round_run.specs.Told.{HostTold, course, host_told, quiet, stretch};
     ghost use Rattle.round_run.specs.TurnLines.{IsMarked};
     ghost use Rattle.session_core.specs.Ready.{AreReady};
     ghost use Rattle.session_core.specs.Session.{IsLearnt};
@@ -134,10 +134,9 @@ impl<'a> Desk<'a> {
         out: &mut O,
         dues: &[Due],
     ) -> Result<Batch, RunFault>
-        requires rests { RestsAt self.old (host_told H.running H.spoken H.log H.faults host.old) }
+        requires rests { RestsAt self.old (host_told H.Host host.old) }
         requires ready { AreReady self.old.task self.old.state.entries dues.now }
-        ensures goes { OnBatch self.old self.new (stretch H.last H.running H.spoken H.log H.faults
-            O.taken O.faults host.old host.new out.old out.new)
+        ensures goes { OnBatch self.old self.new (stretch H.Host O.Sink host.old host.new out.old out.new)
             (RanBatch self.old.task self.old.head dues.now self.old.state self.new.state)
             (IsFrontOfBatch self.old.task self.old.head self.old.state.entries dues.now) result }
     {
@@ -163,11 +162,7 @@ impl<'a> Desk<'a> {
     /// Stops all children that were started. That one fails changes nothing.
     pub fn stop_all<H: Host>(&self, host: &mut H)
         requires state { Same (H.running host.old) (is_child_running self.now.held) }
-        ensures idle { (child : ℕ) → H.running host.new child ≡ false }
-        ensures none { ((k : ℕ) → H.running host.old k ≡ false) → H.log host.new ≡ H.log host.old }
-        ensures stops { LogStops (H.log host.old) (H.log host.new) }
-        ensures spoken { Same (H.spoken host.old) (H.spoken host.new) }
-        ensures later { H.faults host.old ≤ H.faults host.new }
+        ensures stops { StopsAll (course H.Host host.old host.new) }
     {
         self.lines.stop_all(host)
     }

@@ -1,9 +1,9 @@
 //! What was read from children and not yet taken as lines, and which were started.
-ghost use Rattle.std.specs.Prelude.{◌≡◌, [], ◌≤◌, ℕ, false, map, string_bytes, option_copied, IfOk};
+ghost use Rattle.std.specs.Prelude.{◌≡◌, [], ℕ, false, map, string_bytes, option_copied, IfOk};
 ghost use Rattle.std.specs.List.{find};
 ghost use Rattle.io_world.specs.Talks.{Same};
-ghost use Rattle.round_run.specs.Calls.{LogStops, has_child};
-ghost use Rattle.round_run.specs.Children.{StartsAll, StartsHeld};
+ghost use Rattle.round_run.specs.Calls.{has_child};
+ghost use Rattle.round_run.specs.Children.{StartsAll, StartsHeld, StopsAll};
 ghost use Rattle.round_run.specs.Held.{is_child_running};
 ghost use Rattle.round_run.specs.Resting.{MayStart};
 ghost use Rattle.round_run.specs.Starts.{AreStartable, NoneWorks};
@@ -81,7 +81,7 @@ impl Lines {
         requires may { MayStart self.old child argv.now }
         requires state { Same (H.running host.old) (is_child_running self.old) }
         ensures starts { StartsHeld child (map string_bytes argv.now) self.old self.new
-            (course H.last H.running H.spoken H.log H.faults host.old host.new) result }
+            (course H.Host host.old host.new) result }
     {
         start(host, child, argv)?;
         self.started[child as usize] = true;
@@ -97,8 +97,7 @@ impl Lines {
         requires pools { AreStartable pools.now }
         requires idle { NoneWorks pools.now (is_child_running self.old) }
         requires state { Same (H.running host.old) (is_child_running self.old) }
-        ensures starts { StartsAll pools.now self.old self.new (course H.last H.running H.spoken
-            H.log H.faults host.old host.new) result }
+        ensures starts { StartsAll pools.now self.old self.new (course H.Host host.old host.new) result }
     {
         for child in 0..CHILDREN as u8 {
             if let Some(pool) = pool_with(pools, child) {
@@ -111,11 +110,7 @@ impl Lines {
     /// Stops all children that were started. That one fails changes nothing.
     pub fn stop_all<H: Host>(&self, host: &mut H)
         requires state { Same (H.running host.old) (is_child_running self.now) }
-        ensures idle { (child : ℕ) → H.running host.new child ≡ false }
-        ensures none { ((k : ℕ) → H.running host.old k ≡ false) → H.log host.new ≡ H.log host.old }
-        ensures stops { LogStops (H.log host.old) (H.log host.new) }
-        ensures spoken { Same (H.spoken host.old) (H.spoken host.new) }
-        ensures later { H.faults host.old ≤ H.faults host.new }
+        ensures stops { StopsAll (course H.Host host.old host.new) }
     {
         let _ = &self.buffers;
         for child in 0..CHILDREN as u8 {

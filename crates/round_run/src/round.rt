@@ -38,8 +38,7 @@ fn send_one<H: Host, O: Sink>(
 ) -> Result<(), RunFault>
     requires rolling { IsRolling session.old (H.running host.old) place 0 }
     requires within { place < length session.old.slots }
-    ensures sends { SendsOn session.old session.new (stretch H.last H.running H.spoken H.log
-        H.faults O.taken O.faults host.old host.new out.old out.new) place (place + 1)
+    ensures sends { SendsOn session.old session.new (stretch H.Host O.Sink host.old host.new out.old out.new) place (place + 1)
         (asked_to session.old place) (asked_to session.old (place + 1)) result }
 {
     let (child, request) = session.request(place);
@@ -57,8 +56,7 @@ fn send_all<H: Host, O: Sink>(
 ) -> Result<(), RunFault>
     requires rolling { IsRolling session.old (H.running host.old) 0 0 }
     requires count { count ≡ length session.old.slots }
-    ensures sends { SendsOn session.old session.new (stretch H.last H.running H.spoken H.log
-        H.faults O.taken O.faults host.old host.new out.old out.new) 0 count session.old.entries
+    ensures sends { SendsOn session.old session.new (stretch H.Host O.Sink host.old host.new out.old out.new) 0 count session.old.entries
         (session.old.entries ++ session.old.asks) result }
 {
     for place in 0..count {
@@ -77,8 +75,7 @@ fn hear_child<H: Host>(
     requires up { IsUp lines.old (H.running host.old) child }
     requires awaits { Awaits session.old child }
     ensures hears { HearsLine child session.old session.new (held_of lines.old child)
-        (held_of lines.new child) (course H.last H.running H.spoken H.log H.faults host.old
-        host.new) result }
+        (held_of lines.new child) (course H.Host host.old host.new) result }
     ensures keeps { KeepsOthers lines.old lines.new child }
 {
     hear(session, &mut lines.buffers[child as usize], host, child)
@@ -95,8 +92,7 @@ fn hear_one<H: Host, O: Sink>(
     requires rolling { IsRolling session.old (H.running host.old) (length session.old.slots) place }
     requires within { place < length session.old.slots }
     requires state { Same (H.running host.old) (is_child_running lines.old) }
-    ensures hears { HearsOn session.old session.new lines.old lines.new (stretch H.last H.running
-        H.spoken H.log H.faults O.taken O.faults host.old host.new out.old out.new) place
+    ensures hears { HearsOn session.old session.new lines.old lines.new (stretch H.Host O.Sink host.old host.new out.old out.new) place
         (place + 1) (heard_to session.old session.old.slots place)
         (heard_to session.old session.new.slots (place + 1)) result }
 {
@@ -119,8 +115,7 @@ fn hear_all<H: Host, O: Sink>(
     requires rolling { IsRolling session.old (H.running host.old) count 0 }
     requires count { count ≡ length session.old.slots }
     requires state { Same (H.running host.old) (is_child_running lines.old) }
-    ensures hears { HearsOn session.old session.new lines.old lines.new (stretch H.last H.running
-        H.spoken H.log H.faults O.taken O.faults host.old host.new out.old out.new) 0 count
+    ensures hears { HearsOn session.old session.new lines.old lines.new (stretch H.Host O.Sink host.old host.new out.old out.new) 0 count
         (session.old.entries ++ session.old.asks)
         (session.old.entries ++ session.old.asks ++ finished_round session.new.slots) result }
 {
@@ -144,8 +139,7 @@ pub(crate) fn run_round<H: Host, O: Sink>(
     requires listens { Listens task.now session.old lines.old (H.running host.old)
         (H.spoken host.old) }
     ensures runs { RunsRound task.now dues.now session.old session.new lines.old lines.new
-        (stretch H.last H.running H.spoken H.log H.faults O.taken O.faults host.old host.new
-        out.old out.new) result }
+        (stretch H.Host O.Sink host.old host.new out.old out.new) result }
 {
     let count = match session.begin_round(task, dues) {
         Ok(count) => count,

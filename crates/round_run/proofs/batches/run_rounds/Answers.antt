@@ -11,6 +11,7 @@ use Rattle.round_run.proofs.BreakingLemmas.{breaks_as, breaks_then}
 use Rattle.round_run.specs.Breaking.{LogBreaks}
 use Rattle.round_run.proofs.CallsLemmas.{calls_none, calls_then}
 use Rattle.round_run.proofs.BatchLemmas.{empty_of, filled_of, first_of}
+use Rattle.round_run.proofs.LedLemmas.{joined, led_handed, led_none, led_then}
 use Rattle.round_run.proofs.RollingFrontLemmas.{all_work, so_far_front}
 use Rattle.round_run.proofs.StoppedLemmas.{goes_none, goes_then, handed, stopped_as, stopped_then}
 use Rattle.round_run.specs.Calls.{AddsCalls}
@@ -31,6 +32,8 @@ rounds-init g c = record {
   same = record { started = refl; running = λ k. refl };
   host = omega arith;
   sink = omega arith;
+  led = led_none (g.met.H.Host.stays c.args.host.now);
+  still = λ none. refl;
 }
 
 pub returns-then-is_empty : goal.returns-then-is_empty
@@ -57,6 +60,8 @@ returns-then-is_empty g c = record {
     stopped = tt;
     same = c.rounds.invariant.same;
     causes = search rules;
+    led = c.rounds.invariant.led;
+    still = c.rounds.invariant.still;
   };
 }
 
@@ -86,6 +91,8 @@ returns-then-count-eq0 g c = record {
     stopped = tt;
     same = c.rounds.invariant.same;
     causes = search rules;
+    led = c.rounds.invariant.led;
+    still = c.rounds.invariant.still;
   };
 }
 
@@ -148,6 +155,10 @@ returns-in_err-run_round g c = record {
         );
     same = search rules;
     causes = search rules;
+    led = led_handed _ c.in_err-run_round.field-0.0 c.from_residual.result c.from_residual.ensures.1
+        (led_then (joined g.H.Host g.met.H.Host.chains c.args.host.now c.rounds.host c.run_round.new.host)
+        c.rounds.invariant.led c.in_err-run_round.ensures.runs.led);
+    still = search rules;
   };
 }
 
@@ -198,6 +209,8 @@ rounds-preserved g c =
       same = record { started = done.same.started ∙ i.same.started; running = λ k. done.same.running k ∙ i.same.running k };
       host = omega (arith, done.causes.host.later, i.host);
       sink = omega (arith, done.causes.sink.later, i.sink);
+      led = led_then (joined g.H.Host g.met.H.Host.chains c.args.host.now c.rounds.host c.run_round.new.host) i.led done.led;
+      still = λ same. absurd (omega (arith, done.ran.asked, long, i.grows, same, c.if-count-eq0.false));
     }
 
 pub rounds-smaller : goal.rounds-smaller

@@ -1,10 +1,11 @@
-use Rattle.std.proofs.Common.{◌≡◌, ◌+◌, ◌<◌, ◌≤◌, length}
+use Rattle.std.proofs.Common.{◌≡◌, ◌+◌, ◌<◌, ◌≤◌, length, false}
 use Rattle.instance_queue.specs.Level.{due_instances}
 use Rattle.session_core.specs.Ready.{AreReady}
 use Rattle.round_run.proofs.BatchLemmas.{SoFar}
 use Rattle.round_run.proofs.batches.run_rounds.Given as goal
 use Rattle.round_run.specs.Calls.{AddsCalls}
 use Rattle.round_run.specs.Dialogue.{workers_in}
+use Rattle.round_run.specs.Led.{IsLed}
 use Rattle.round_run.specs.Rolling.{Goes}
 use Rattle.round_run.specs.Resting.{Stays, Works}
 use Rattle.round_run.specs.Batches.{AllRun}
@@ -23,6 +24,8 @@ invariant-rounds g l = record {
   same : Stays l.initial.lines l.lines (g.H.Host.running l.initial.host) (g.H.Host.running l.host);
   host : g.H.Host.faults l.initial.host ≤ g.H.Host.faults l.host;
   sink : g.O.Sink.faults l.initial.out ≤ g.O.Sink.faults l.out;
+  led : IsLed (g.H.Host.leads l.initial.host l.host) false;
+  still : length l.session.asked ≡ length l.initial.session.asked → l.host ≡ l.initial.host;
 }
 
 -- each round takes asks away

@@ -1,9 +1,10 @@
-use Rattle.std.proofs.Common.{◌≡◌, ◌<◌, ◌∙◌, ℕ, true, false, [], ap, arith, refl, slice_get, subst, sym, length, unwrap_or, rules}
+use Rattle.std.proofs.Common.{◌≡◌, ◌<◌, ◌∙◌, inl, inr, ℕ, true, false, [], ap, arith, refl, slice_get, subst, sym, length, unwrap_or, rules}
 use Rattle.io_world.proofs.TalksLemmas.{extends_none}
 use Rattle.io_world.specs.Faults.{Extends}
 use Rattle.round_run.proofs.BatchLemmas.{empty_of, filled_of}
 use Rattle.round_run.proofs.CallsRunLemmas.{starts_first, starts_idle}
 use Rattle.round_run.specs.Calls.{starts_before, starts_of}
+use Rattle.round_run.proofs.LedLemmas.{led_none}
 use Rattle.round_run.proofs.StartsLemmas.{all_run}
 use Rattle.round_run.proofs.StoppedLemmas.{ok_two, on_ok}
 use Rattle.round_run.proofs.TalkingLemmas.{told_started}
@@ -28,6 +29,8 @@ returns-then-is_empty g c =
         refused = tt;
         state = c.requires.rests.works.listens.state;
         cause = search rules;
+        led = led_none (g.met.H.Host.stays c.args.host.now);
+        still = λ none. refl;
       };
     }
 
@@ -72,5 +75,10 @@ returns-then-asks-eq0 g c =
         refused = search rules;
         state = starts.state;
         cause = starts.cause;
+        led = starts.led;
+        still = on_ok c.start_all.result _ (elim [
+          | inl before ↦ absurd (omega (arith, before, asked))
+          | inr none ↦ absurd (omega (arith, none, some))
+        ]);
       };
     }

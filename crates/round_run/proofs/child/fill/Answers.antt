@@ -1,6 +1,7 @@
 use Rattle.std.proofs.lemmas.Grind.{common_steps}
-use Rattle.std.proofs.Common.{rules, ◌≡◌, ◌+◌, ap, arith, length, sym, take, ◌∙◌}
+use Rattle.std.proofs.Common.{rules, ℕ, ◌≡◌, ◌+◌, ap, arith, length, sym, take, ◌∙◌}
 use Rattle.gen_lines.specs.Lines.{lines_of}
+use Rattle.round_run.proofs.LedLemmas.{led_none, led_refused}
 use Rattle.round_run.proofs.TalkingLineLemmas.{filled}
 use Rattle.round_run.proofs.child.fill.Goals as goal
 
@@ -24,5 +25,20 @@ returns-in-Ok g c = record {
     refused = tt;
     only = tt;
     cause = search rules;
+    led = led_none c.in-Ok.ensures.leads;
+  };
+}
+
+pub returns-in-Err : goal.returns-in-Err
+returns-in-Err g c = record {
+  fills = record {
+    running = search rules;
+    heard = tt;
+    lost = search rules;
+    log = tt;
+    refused = search rules;
+    only = search rules;
+    cause = search rules;
+    led = led_refused ℕ _ c.in-Err.fault c.fault_of.result c.fault_of.ensures c.in-Err.ensures.leads;
   };
 }

@@ -5,6 +5,7 @@ use Rattle.session_core.specs.Heard.{number_at}
 use Rattle.gen_lines.specs.Lines.{left_after}
 use Rattle.round_run.proofs.BreakingLemmas.{hears_given, hears_none, hears_refused, tells_blamed, tells_refused}
 use Rattle.round_run.proofs.CallsRoundLemmas.{reads_given}
+use Rattle.round_run.proofs.LedLemmas.{led_as, led_handed, led_none}
 use Rattle.round_run.proofs.TalkingLineLemmas.{takes_kept, too_long_kept}
 use Rattle.round_run.proofs.StoppedLemmas.{handed, on_ok}
 use Rattle.round_run.proofs.child.hear.Goals as goal
@@ -25,6 +26,7 @@ returns-in-Line g c = record {
     kept = search rules;
     running = search rules;
     cause = search rules;
+    led = led_none (g.met.H.Host.stays c.args.host.now);
   };
 }
 
@@ -40,6 +42,7 @@ returns-in-TooLong g c = record {
     kept = search rules;
     running = search rules;
     cause = search rules;
+    led = led_none (g.met.H.Host.stays c.args.host.now);
   };
 }
 
@@ -57,6 +60,7 @@ returns-in_err-fill g c = record {
     kept = search rules;
     running = search rules;
     cause = search rules;
+    led = led_handed _ c.in_err-fill.field-0.0 c.from_residual.result c.from_residual.ensures.1 c.in_err-fill.ensures.fills.led;
   };
 }
 
@@ -78,6 +82,7 @@ returns-in-Line-next_line g c =
         kept = search rules;
         running = search rules;
         cause = search rules;
+        led = led_as c.in_ok-fill.ensures.fills.led;
       };
     }
 
@@ -97,5 +102,6 @@ returns-in-Part-next_line g c =
         kept = search rules;
         running = search rules;
         cause = search rules;
+        led = led_as c.in_ok-fill.ensures.fills.led;
       };
     }

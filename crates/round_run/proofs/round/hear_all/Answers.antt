@@ -4,6 +4,7 @@ use Rattle.transcript_model.specs.Rounds.{IsRound}
 use Rattle.round_run.proofs.BreakingLemmas.{breaks_then}
 use Rattle.round_run.specs.Breaking.{LogBreaks}
 use Rattle.round_run.proofs.CallsLemmas.{calls_then}
+use Rattle.round_run.proofs.LedLemmas.{joined, led_handed, led_none, led_then}
 use Rattle.round_run.proofs.StoppedLemmas.{goes_then, handed, stopped_then}
 use Rattle.round_run.specs.Calls.{AddsCalls}
 use Rattle.round_run.specs.Open.{heard_to}
@@ -46,7 +47,22 @@ returns-in_err-hear_one g c = record {
     kept = search rules;
     same = search rules;
     causes = search rules;
+    led = led_handed _ c.in_err-hear_one.field-0.0 c.from_residual.result c.from_residual.ensures.1
+        (led_then (joined g.H.Host g.met.H.Host.chains c.args.host.now c.loop-place.host c.hear_one.new.host)
+        c.loop-place.invariant.led c.in_err-hear_one.ensures.hears.led);
   };
+}
+
+pub loop-place-init : goal.loop-place-init
+loop-place-init g c = record {
+  rolled = search rules;
+  goes = search rules;
+  said = search rules;
+  kept = search rules;
+  same = search rules;
+  host = search rules;
+  sink = search rules;
+  led = led_none (g.met.H.Host.stays c.args.host.now);
 }
 
 pub loop-place-preserved : goal.loop-place-preserved
@@ -89,4 +105,5 @@ loop-place-preserved g c =
       };
       host = omega (arith, e.causes.host.later, i.host);
       sink = omega (arith, e.causes.sink.later, i.sink);
+      led = led_then (joined g.H.Host g.met.H.Host.chains c.args.host.now c.loop-place.host c.hear_one.new.host) i.led e.led;
     }

@@ -1,8 +1,9 @@
-use Rattle.std.proofs.Common.{◌++◌, ◌≤◌, length, take}
+use Rattle.std.proofs.Common.{◌++◌, ◌≤◌, length, take, false}
 use Rattle.session_core.specs.Session.{IsSession}
 use Rattle.task_model.specs.declared.task.Task.{Task}
 use Rattle.round_run.proofs.round.hear_all.Given as goal
 use Rattle.round_run.specs.Calls.{AddsCalls}
+use Rattle.round_run.specs.Led.{IsLed}
 use Rattle.round_run.specs.Resting.{Rolled, StaysIdle}
 use Rattle.round_run.specs.Rolling.{Goes, finished_round}
 use Rattle.round_run.specs.Talking.{IsTalking, held_of}
@@ -24,4 +25,5 @@ invariant-loop-place g l = record {
   same : StaysIdle l.initial.lines l.lines (g.H.Host.running l.initial.host) (g.H.Host.running l.host);
   host : g.H.Host.faults l.initial.host ≤ g.H.Host.faults l.host;
   sink : g.O.Sink.faults l.initial.out ≤ g.O.Sink.faults l.out;
+  led : IsLed (g.H.Host.leads l.initial.host l.host) false;
 }

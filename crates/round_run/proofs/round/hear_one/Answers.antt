@@ -10,6 +10,7 @@ use Rattle.round_run.proofs.CallsRoundLemmas.{heard_calls}
 use Rattle.round_run.proofs.CallsBrokenLemmas.{heard_off}
 use Rattle.round_run.specs.Breaking.{LogBreaks}
 use Rattle.round_run.proofs.CallsLemmas.{calls_one}
+use Rattle.round_run.proofs.LedLemmas.{led_as, led_handed}
 use Rattle.round_run.proofs.RollingPrintLemmas.{answers_legal, front_answers, round_legal}
 use Rattle.round_run.proofs.RollingLemmas.{awaited_there, heard_more, printed_there, rolling_same, started_within}
 use Rattle.round_run.proofs.StoppedLemmas.{blamed_listens, goes_one, handed, ok_map, on_ok, stopped_at, stopped_blamed, write_part}
@@ -103,6 +104,7 @@ returns-in_err-hear_child g c = record {
               (λ one. absurd (let bad : true ≡ false = sym runs ∙ sym (ap running one) ∙ off in cc));
         };
     causes = search rules;
+    led = led_handed _ c.in_err-hear_child.field-0.0 c.from_residual.result c.from_residual.ensures.1 c.in_err-hear_child.ensures.hears.led;
   };
 }
 
@@ -254,5 +256,6 @@ returns g c = record {
               (λ one. absurd (let bad : true ≡ false = sym runs ∙ sym (ap running one) ∙ off in cc));
         };
     causes = search rules;
+    led = led_as c.in_ok-hear_child.ensures.hears.led;
   };
 }

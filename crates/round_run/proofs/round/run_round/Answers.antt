@@ -10,6 +10,7 @@ use Rattle.round_run.proofs.BreakingLemmas.{breaks_none, breaks_then, tells_memo
 use Rattle.round_run.specs.Breaking.{LogBreaks}
 use Rattle.round_run.proofs.CallsRoundLemmas.{round_order}
 use Rattle.transcript_model.specs.Rounds.{IsRound}
+use Rattle.round_run.proofs.LedLemmas.{joined, led_as, led_handed, led_none, led_then}
 use Rattle.round_run.proofs.RollingFrontLemmas.{front_first, front_whole}
 use Rattle.transcript_model.proofs.RoundsFrontLemmas.{round_exists}
 use Rattle.round_run.proofs.RollingEndLemmas.{all_heard, count_is, rolling_begun, round_end}
@@ -65,6 +66,7 @@ returns-in_err-send_all g c = record {
         c.in-Ok.ensures.begun (c.in_err-send_all.ensures.sends.stopped task (held_of c.args.lines.now) c.in-Ok.ensures.kept talking));
     same = search rules;
     causes = search rules;
+    led = led_handed _ c.in_err-send_all.field-0.0 c.from_residual.result c.from_residual.ensures.1 c.in_err-send_all.ensures.sends.led;
   };
 }
 
@@ -122,6 +124,9 @@ returns-in_err-hear_all g c = record {
         s.entries (x.entries ++ x.asks) fault was mid log calls goes.more goes.pushed) second);
     same = search rules;
     causes = search rules;
+    led = led_handed _ c.in_err-hear_all.field-0.0 c.from_residual-in_err-hear_all.result c.from_residual-in_err-hear_all.ensures.1
+        (led_then (joined g.H.Host g.met.H.Host.chains c.args.host.now c.send_all.new.host c.hear_all.new.host)
+        c.in_ok-send_all.ensures.sends.led c.in_err-hear_all.ensures.hears.led);
   };
 }
 
@@ -271,6 +276,8 @@ returns-in-Ok-learn g c = record {
     stopped = tt;
     same = search rules;
     causes = search rules;
+    led = led_then (joined g.H.Host g.met.H.Host.chains c.args.host.now c.send_all.new.host c.hear_all.new.host)
+        c.in_ok-send_all.ensures.sends.led c.in_ok-hear_all.ensures.hears.led;
   };
 }
 
@@ -367,6 +374,8 @@ returns-in-Err-learn g c = record {
         c.fault_of-in-Err-learn.ensures);
     same = search rules;
     causes = search rules;
+    led = led_as (led_then (joined g.H.Host g.met.H.Host.chains c.args.host.now c.send_all.new.host c.hear_all.new.host)
+        c.in_ok-send_all.ensures.sends.led c.in_ok-hear_all.ensures.hears.led);
   };
 }
 
@@ -395,5 +404,6 @@ returns-in-Err g c = record {
         c.fault_of.ensures;
     same = search rules;
     causes = search rules;
+    led = led_none (g.met.H.Host.stays c.args.host.now);
   };
 }

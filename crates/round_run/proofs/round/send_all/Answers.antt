@@ -5,6 +5,7 @@ use Rattle.std.proofs.lemmas.List.{take_all}
 use Rattle.round_run.proofs.BreakingLemmas.{breaks_then}
 use Rattle.round_run.specs.Breaking.{LogBreaks}
 use Rattle.round_run.proofs.CallsLemmas.{calls_then}
+use Rattle.round_run.proofs.LedLemmas.{joined, led_handed, led_none, led_then}
 use Rattle.round_run.proofs.StoppedLemmas.{goes_then, handed, stopped_then}
 use Rattle.round_run.specs.Calls.{AddsCalls}
 use Rattle.round_run.specs.Rolling.{Goes, IsFrontPart, Stopped}
@@ -45,7 +46,22 @@ returns-in_err-send_one g c = record {
     kept = search rules;
     running = search rules;
     causes = search rules;
+    led = led_handed _ c.in_err-send_one.field-0.0 c.from_residual.result c.from_residual.ensures.1
+        (led_then (joined g.H.Host g.met.H.Host.chains c.args.host.now c.loop-place.host c.send_one.new.host)
+        c.loop-place.invariant.led c.in_err-send_one.ensures.sends.led);
   };
+}
+
+pub loop-place-init : goal.loop-place-init
+loop-place-init g c = record {
+  rolled = search rules;
+  goes = search rules;
+  said = search rules;
+  kept = search rules;
+  running = search rules;
+  host = search rules;
+  sink = search rules;
+  led = led_none (g.met.H.Host.stays c.args.host.now);
 }
 
 pub loop-place-preserved : goal.loop-place-preserved
@@ -80,6 +96,7 @@ loop-place-preserved g c =
       running = λ k. e.running k ∙ i.running k;
       host = omega (arith, e.causes.host.later, i.host);
       sink = omega (arith, e.causes.sink.later, i.sink);
+      led = led_then (joined g.H.Host g.met.H.Host.chains c.args.host.now c.loop-place.host c.send_one.new.host) i.led e.led;
     }
 
 pub returns : goal.returns
@@ -104,5 +121,6 @@ returns g c =
         kept = c.loop-place.invariant.kept;
         running = c.loop-place.invariant.running;
         causes = search rules;
+        led = c.loop-place.invariant.led;
       };
     }

@@ -1,9 +1,10 @@
-use Rattle.std.proofs.Common.{◌++◌, ◌≤◌, ℕ, List, take}
+use Rattle.std.proofs.Common.{◌++◌, ◌≤◌, ℕ, List, take, false}
 use Rattle.io_world.specs.Talks.{Same}
 use Rattle.session_core.specs.Session.{IsSession}
 use Rattle.task_model.specs.declared.task.Task.{Task}
 use Rattle.round_run.proofs.round.send_all.Given as goal
 use Rattle.round_run.specs.Calls.{AddsCalls}
+use Rattle.round_run.specs.Led.{IsLed}
 use Rattle.round_run.specs.Resting.{Rolled}
 use Rattle.round_run.specs.Rolling.{Goes}
 use Rattle.round_run.specs.Talking.{IsTalking}
@@ -23,4 +24,5 @@ invariant-loop-place g l = record {
   running : Same (g.H.Host.running l.initial.host) (g.H.Host.running l.host);
   host : g.H.Host.faults l.initial.host ≤ g.H.Host.faults l.host;
   sink : g.O.Sink.faults l.initial.out ≤ g.O.Sink.faults l.out;
+  led : IsLed (g.H.Host.leads l.initial.host l.host) false;
 }

@@ -12,6 +12,7 @@ use Rattle.round_run.proofs.CallsBrokenLemmas.{sent_part}
 use Rattle.round_run.specs.Breaking.{LogBreaks}
 use Rattle.transcript_model.specs.Legal.{HasNoneOpen}
 use Rattle.round_run.proofs.CallsLemmas.{calls_one}
+use Rattle.round_run.proofs.LedLemmas.{led_as, led_handed}
 use Rattle.round_run.proofs.RollingPrintLemmas.{asks_legal, front_asks, one_more, round_legal}
 use Rattle.round_run.proofs.RollingLemmas.{rolling_same, rolling_sent, unsent_there}
 use Rattle.round_run.proofs.StoppedLemmas.{goes_one, handed, ok_map, on_ok, stopped_at, stopped_sending, write_part}
@@ -66,6 +67,7 @@ returns-in_err-send g c = record {
     kept = search rules;
     running = search rules;
     causes = search rules;
+    led = led_handed _ c.in_err-send.field-0.0 c.from_residual.result c.from_residual.ensures.1 c.in_err-send.ensures.sends.led;
   };
 }
 
@@ -152,5 +154,6 @@ returns g c = record {
     kept = search rules;
     running = search rules;
     causes = search rules;
+    led = led_as c.in_ok-send.ensures.sends.led;
   };
 }

@@ -1,4 +1,4 @@
-use Rattle.std.proofs.Common.{◌∙◌, ◌<◌, ◌+◌, ap, arith, length, map, option_copied, rules, string_bytes, subst, sym, Err, Ok}
+use Rattle.std.proofs.Common.{false, ◌∙◌, ◌<◌, ◌+◌, ap, arith, length, map, option_copied, rules, string_bytes, subst, sym, Err, Ok}
 use Rattle.std.specs.List.{flat_map}
 use Rattle.lemmas.specs.Lists.{numbers_from}
 use Rattle.io_world.specs.Faults.{Extends}
@@ -6,12 +6,14 @@ use Rattle.io_world.specs.Talks.{Logs, started}
 use Rattle.io_world.proofs.TalksLemmas.{extends_none}
 use Rattle.io_world.specs.declared.host.HostFault.{HostFault}
 use Rattle.round_run.proofs.CallsRunLemmas.{child_refused, child_started}
+use Rattle.round_run.proofs.LedLemmas.{joined, led_handed, led_none, led_then}
 use Rattle.round_run.proofs.StartsLemmas.{IdleFrom, RunBefore, found_worker, has_words, idle_further, idle_still, keeps_then, passed_over, worker_low, runs_more, starts_whole}
 use Rattle.round_run.proofs.StoppedLemmas.{handed}
 use Rattle.round_run.proofs.lines.Lines.start_all.Goals as goal
 use Rattle.round_run.proofs.lines.Lines.start_all.Goals.{in-Some+in_ok-start_child, in_default}
 use Rattle.round_run.specs.Calls.{start_at, start_in}
 use Rattle.round_run.specs.Held.{Held, is_child_running}
+use Rattle.round_run.specs.Led.{IsLed}
 use Rattle.round_run.specs.Resting.{KeepsSilent}
 use Rattle.round_run.specs.Rolling.{IsHostFault}
 
@@ -24,6 +26,17 @@ start_child-requires-clause-may g c =
       words = subst (λ ws. 0 < length ws) (sym c.as_slice.ensures) (has_words pools c.requires.pools own.0 c.in-Some.pool.now own.1);
       idle = c.loop-child.invariant.left own.0 c.loop-child.child c.in-Some.pool.now (omega arith) own.1 own.2;
     }
+
+pub loop-child-init : goal.loop-child-init
+loop-child-init g c = record {
+  state = c.requires.state;
+  done = search rules;
+  left = search rules;
+  quiet = search rules;
+  log = search rules;
+  host = search rules;
+  led = led_none (g.met.H.Host.stays c.args.host.now);
+}
 
 pub loop-child-preserved : goal.loop-child-preserved
 loop-child-preserved g c =
@@ -90,6 +103,14 @@ loop-child-preserved g c =
                 (sym (ap option_copied w.in_default.is) ∙ c.pool_with.ensures) (extends_none (g.H.Host.log c.loop-child.host))))
           ];
       host = search rules;
+      led = elim c.match-pool_with.branch as (λ w. IsLed (g.H.Host.leads c.args.host.now c.match-pool_with.host) false) [
+        | in-Some+in_ok-start_child w ↦
+            subst (λ h. IsLed (g.H.Host.leads c.args.host.now h) false) (sym w.host-is)
+            (led_then (joined g.H.Host g.met.H.Host.chains c.args.host.now c.loop-child.host w.start_child.new.host)
+            c.loop-child.invariant.led w.in_ok-start_child.ensures.starts.led)
+        | in_default w ↦
+            subst (λ h. IsLed (g.H.Host.leads c.args.host.now h) false) (sym w.host-is) c.loop-child.invariant.led
+      ];
     }
 
 pub returns : goal.returns
@@ -106,6 +127,7 @@ returns g c = record {
     refused = tt;
     only = tt;
     cause = search rules;
+    led = c.loop-child.invariant.led;
   };
 }
 
@@ -130,5 +152,8 @@ returns-in_err-start_child g c =
             c.as_slice.ensures starts.refused));
         only = search rules;
         cause = search rules;
+        led = led_handed _ fault c.from_residual.result c.from_residual.ensures.1
+            (led_then (joined g.H.Host g.met.H.Host.chains c.args.host.now c.loop-child.host c.start_child.new.host)
+            c.loop-child.invariant.led starts.led);
       };
     }

@@ -1,4 +1,4 @@
-use Rattle.std.proofs.Common.{◌≤◌}
+use Rattle.std.proofs.Common.{◌≤◌, false}
 use Rattle.std.specs.List.{flat_map}
 use Rattle.lemmas.specs.Lists.{numbers_from}
 use Rattle.io_world.specs.Faults.{Extends}
@@ -7,6 +7,7 @@ use Rattle.round_run.proofs.StartsLemmas.{IdleFrom, RunBefore}
 use Rattle.round_run.proofs.lines.Lines.start_all.Given as goal
 use Rattle.round_run.specs.Calls.{start_at}
 use Rattle.round_run.specs.Held.{is_child_running}
+use Rattle.round_run.specs.Led.{IsLed}
 use Rattle.round_run.specs.Resting.{KeepsSilent}
 
 -- the workers before this child run, and no others do
@@ -19,4 +20,5 @@ invariant-loop-child g l = record {
   log : Extends (g.H.Host.log l.initial.host) (g.H.Host.log l.host)
       (flat_map (start_at l.pools) (numbers_from 0 l.child));
   host : g.H.Host.faults l.initial.host ≤ g.H.Host.faults l.host;
+  led : IsLed (g.H.Host.leads l.initial.host l.host) false;
 }

@@ -11,8 +11,9 @@ invariant-loop-child g l = record {
   others : (k : ℕ) → l.child ≤ k → g.H.Host.running l.host k ≡ is_child_running l.self k;
   most : l.child ≤ 17;
   none : ((k : ℕ) → g.H.Host.running l.initial.host k ≡ false)
-      → g.H.Host.log l.host ≡ g.H.Host.log l.initial.host;
+      → l.host ≡ l.initial.host;
   stops : LogStops (g.H.Host.log l.initial.host) (g.H.Host.log l.host);
   spoken : Same (g.H.Host.spoken l.initial.host) (g.H.Host.spoken l.host);
   host : g.H.Host.faults l.initial.host ≤ g.H.Host.faults l.host;
+  leads : g.H.Host.leads l.initial.host l.host false;
 }
