@@ -1,5 +1,5 @@
 -- What a mode does in a turn, and what turns have done to the session, to the report and to the log.
-use Rattle.std.specs.Prelude.{◌≡◌, ◌⊎◌, ℕ, ◌+◌, ◌*◌, ◌<◌, ◌≤◌, List, ◌++◌, length, count_by, Bool, true, false, Option}
+use Rattle.std.specs.Prelude.{◌≡◌, ◌⊎◌, ℕ, ◌+◌, ◌*◌, ◌<◌, ◌≤◌, List, ◌++◌, length, count_by, Bool, true, false, Option, Result}
 use Rattle.io_world.specs.Talks.{Event, Talk}
 use Rattle.mode_turns.specs.Modes.{TurnOf, nothing_kept}
 use Rattle.session_core.specs.State.{State}
@@ -13,8 +13,11 @@ use Rattle.transcript_model.specs.declared.outcome.LimitKind.TheVariants.{Calls}
 use Rattle.transcript_model.specs.declared.outcome.Outcome.{Outcome}
 use Rattle.transcript_model.specs.declared.outcome.Outcome.TheVariants as outcome
 use Rattle.turn_run.specs.Reports.{IsRun}
+use Rattle.round_run.specs.Desk.{AtDesk, OnTurn}
+use Rattle.round_run.specs.Told.{Stretch}
 use Rattle.round_run.specs.TurnLines.{HasTurnLine}
-use Rattle.turn_run.specs.Turns.{IsSettledEnd, IsSure}
+use Rattle.round_run.specs.declared.fault.RunFault.{RunFault}
+use Rattle.turn_run.specs.Turns.{IsFrontOfRun, IsSettledEnd, IsSure}
 use Rattle.turn_run.specs.declared.turns.Turned.{Turned}
 use Rattle.turn_run.specs.declared.turns.Turned.TheVariants.{Done, Spent, Known}
 use Rattle.round_run.specs.Dialogue.{Dialogue, workers_in}
@@ -60,6 +63,12 @@ IsFrontOfTurn task head kept before es =
     ⊎ IsFrontPart before (λ now. (next : Kept) × (cut : Bool)
     × TurnOf head.mode (limits_of head) task kept before now next cut) es
 
+-- what a turn of a mode has done to a desk, where the mode carried this before and carries that afterwards
+abbrev pub OnModeTurn : AtDesk → AtDesk → Stretch → Kept → Kept → ℕ → ℕ → (ℕ → Type 0) → Result Turned RunFault → Type 0
+OnModeTurn old new c kept next idle idle_now Holds result =
+    OnTurn old new c (RanTurn old.task old.head kept next idle idle_now Holds old.state new.state)
+    (IsFrontOfTurn old.task old.head kept old.state.entries) result
+
 -- ---- all turns
 
 -- before the first turn a mode carries nothing, and none may ask nothing
@@ -78,3 +87,9 @@ pub record RanTurns (task : Task) (head : Head) (s : State) (spoken : ℕ → Op
   pub talks : Dialogue task head.version (workers_in head) s.entries spoken
   pub untouched : length s.asked ≡ 0 → now ≡ was
   pub needed : (now ≡ was) ⊎ HasTurnLine head.mode s.entries
+
+-- what all turns have done to a desk
+abbrev pub OnTurns : AtDesk → AtDesk → Stretch → Result Outcome RunFault → Type 0
+OnTurns old new c result =
+    OnTurn old new c (RanTurns old.task old.head new.state c.now.host.spoken c.was.host.log c.now.host.log)
+    (IsFrontOfRun old.head old.task) result

@@ -1,11 +1,14 @@
 -- Requests behind a line that may have some behind it.
-use Rattle.std.specs.Prelude.{◌≡◌, ◌<◌, List, [], ◌∷◌, ◌++◌, length, true}
+use Rattle.std.specs.Prelude.{◌≡◌, ◌<◌, List, [], ◌∷◌, ◌++◌, length, true, Result}
 use Rattle.instance_queue.specs.Level.{due_instances}
 use Rattle.instance_queue.specs.declared.due.Due.{Due}
 use Rattle.round_run.specs.TurnLines.{opens_requests}
 use Rattle.round_run.specs.Batches.{EndsBatch}
+use Rattle.round_run.specs.Desk.{AtDesk, OnTurn}
 use Rattle.round_run.specs.Rolling.{IsFrontPart}
+use Rattle.round_run.specs.Told.{Stretch}
 use Rattle.round_run.specs.declared.ending.Batch.{Batch}
+use Rattle.round_run.specs.declared.fault.RunFault.{RunFault}
 use Rattle.session_core.specs.Ready.{AreReady}
 use Rattle.session_core.specs.State.{State}
 use Rattle.task_model.specs.declared.stream.Instance.{Instance}
@@ -43,3 +46,9 @@ pub record RanBehind (task : Task) (head : Head) (entry : Entry) (dues : List Du
   pub asks : IsAskedBehind head task old.entries entry (due_instances dues) now
   pub more : length old.asked < length new.asked
   pub ends : EndsBatch task new.entries (length old.asked) (length new.asked) head.calls (length dues) b
+
+-- what that has done to a desk
+abbrev pub OnAskBehind : AtDesk → AtDesk → Stretch → Entry → List Due → Result Batch RunFault → Type 0
+OnAskBehind old new c entry dues result =
+    OnTurn old new c (RanBehind old.task old.head entry dues old.state new.state)
+    (IsFrontBehind old.head old.task old.state.entries entry (due_instances dues)) result

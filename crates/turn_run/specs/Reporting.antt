@@ -7,6 +7,7 @@ use Rattle.turn_run.specs.Reports.{IsBroken, IsReported}
 use Rattle.round_run.specs.Told.{Stretch, HostTold}
 use Rattle.turn_run.specs.declared.whole_run.Ran.{Ran}
 use Rattle.round_run.specs.Held.{is_child_running}
+use Rattle.round_run.specs.Led.{IsLed, stops_for_memory}
 use Rattle.round_run.specs.Resting.{AreCaused, IsAtRest}
 use Rattle.round_run.specs.Batches.{IsRunnable}
 use Rattle.round_run.specs.declared.fault.RunFault.{RunFault}
@@ -24,16 +25,16 @@ pub record IsStillAt (desk : AtDesk) (host : HostTold) : Type 0 where
   pub of : IsOf desk.head desk.state
   pub still : IsAtRest desk.held host.running
 
--- A whole report was written, or a part of one. Where nothing was asked no call was made on a child.
+-- A whole report was written, or a part of one. Where nothing was asked the host is as it was.
 pub record EndsReport (old new : AtDesk) (c : Stretch) (result : Result Ran RunFault) : Type 0 where
   pub reported : IfOk result (IsReported old.task old.head c.now.host.spoken c.was.host.log c.now.host.log
       c.was.taken c.now.taken)
   pub broken : IfErr result (IsBroken old.task old.head c.now.host.spoken c.was.host.log c.now.host.log
       c.was.taken c.now.taken)
-  pub untouched : IfOk result (λ ran. ran.asks ≡ 0 → (c.now.host.log ≡ c.was.host.log)
-      × ((k : ℕ) → c.now.host.running k ≡ false))
+  pub untouched : IfOk result (λ ran. ran.asks ≡ 0 → c.host.same × ((k : ℕ) → c.now.host.running k ≡ false))
   pub state : Same c.now.host.running (is_child_running new.held)
   pub causes : AreCaused c.last c.was.host.faults c.now.host.faults c.was.lost c.now.lost result
+  pub led : IsLed c.host.leads (stops_for_memory result)
 
 -- ---- whole runs
 
@@ -47,14 +48,16 @@ pub record MayRun (mode : Mode) (task : Task) (head : Head) (running : ℕ → B
   pub idle : (k : ℕ) → running k ≡ false
 
 -- What a run has done, from its head to its end: a whole report was written, or a part of one; where nothing is asked
--- no call is made on a child, so none is started without need; no child runs; and a fault of a generator or of the sink
--- is answered only where its count rose.
+-- the host is as it was, so no child is started without need; no child runs; a fault of a generator or of the sink is
+-- answered only where its count rose; and calls led to what the host is now, of which none wanted memory but where the
+-- run stops for that.
 pub record EndsRun (task : Task) (head : Head) (c : Stretch) (result : Result Ran RunFault) : Type 0 where
   pub reported : IfOk result (IsReported task head c.now.host.spoken c.was.host.log c.now.host.log
       c.was.taken c.now.taken)
   pub broken : IfErr result (IsBroken task head c.now.host.spoken c.was.host.log c.now.host.log
       c.was.taken c.now.taken)
-  pub unneeded : IfOk result (λ ran. ran.asks ≡ 0 → c.now.host.log ≡ c.was.host.log)
+  pub unneeded : IfOk result (λ ran. ran.asks ≡ 0 → c.host.same)
   pub idle : (k : ℕ) → c.now.host.running k ≡ false
   pub host : HasCause Generator c.last c.was.host.faults c.now.host.faults result
   pub sink : HasCause Write last_count c.was.lost c.now.lost result
+  pub led : IsLed c.host.leads (stops_for_memory result)

@@ -3,6 +3,7 @@ use Rattle.std.specs.Prelude.{◌≡◌, ℕ, ◌^◌, ◌<◌, ◌≤◌, List,
 use Rattle.instance_queue.specs.Level.{AreDueInTurn}
 use Rattle.instance_queue.specs.declared.due.Due.{Due}
 use Rattle.session_core.specs.Ready.{AreReady}
+use Rattle.session_core.specs.State.{State}
 use Rattle.mode_turns.specs.Lazy.{IsFewDue, IsLazy, IsLazyEnd, IsTurnNeeded}
 use Rattle.task_model.specs.Known.{Known}
 use Rattle.task_model.specs.Plans.{IsFar, IsLeastCost, IsReached, MoreThan}
@@ -16,6 +17,7 @@ use Rattle.transcript_model.specs.declared.head.Head.{Head}
 use Rattle.transcript_model.specs.declared.outcome.LimitKind.TheVariants.{States}
 use Rattle.transcript_model.specs.declared.outcome.Outcome.{Outcome}
 use Rattle.transcript_model.specs.declared.outcome.Outcome.TheVariants as outcome
+use Rattle.round_run.specs.Desk.{AtDesk}
 use Rattle.round_run.specs.declared.ending.Batch.{Batch}
 use Rattle.round_run.specs.declared.ending.Batch.TheVariants.{Done, CallsSpent}
 use Rattle.turn_run.specs.declared.decide.Decision.{Decision}
@@ -74,9 +76,17 @@ pub record IsTurn (head : Head) (task : Task) (entries : List Entry) (asks : ℕ
   pub left : asks < head.calls
   pub needed : IsTurnNeeded (limits_of head) task entries
 
+-- the same of a desk
+abbrev pub IsTurnAt : AtDesk → List Due → Type 0
+IsTurnAt desk dues = IsTurn desk.head desk.task desk.state.entries (length desk.state.asked) dues
+
 abbrev pub IsDecided : Head → Task → List Entry → ℕ → Decision → Type 0
 IsDecided head task entries asks (Ends o) = IsSettledEnd head task entries o
 IsDecided head task entries asks (Asks dues) = IsTurn head task entries asks dues.items
+
+-- the same of a session
+abbrev pub IsDecidedOf : Head → Task → State → Decision → Type 0
+IsDecidedOf head task s = IsDecided head task s.entries (length s.asked)
 
 -- A transcript of the head's mode: whole turns, the last of which may stop at any entry; each begins where one is
 -- needed.

@@ -1,7 +1,6 @@
 //! Requests behind a line that may have some behind it.
-ghost use Rattle.instance_queue.specs.Level.{due_instances};
-ghost use Rattle.turn_run.specs.Asking.{IsFrontBehind, MayAskBehind, RanBehind};
-ghost use Rattle.round_run.specs.Desk.{OnTurn, RestsAt};
+ghost use Rattle.turn_run.specs.Asking.{MayAskBehind, OnAskBehind};
+ghost use Rattle.round_run.specs.Desk.{RestsAt};
 ghost use Rattle.round_run.specs.Told.{stretch, host_told};
 
 use instance_queue::Due;
@@ -23,13 +22,10 @@ pub fn ask_behind<H: Host, O: Sink>(
     entry: Entry,
     dues: &[Due],
 ) -> Result<Batch, RunFault>
-    requires rests { RestsAt desk.old (host_told H.running H.spoken H.log H.faults host.old) }
+    requires rests { RestsAt desk.old (host_told H.Host host.old) }
     requires may { MayAskBehind desk.old.task desk.old.head entry dues.now desk.old.state }
-    ensures goes { OnTurn desk.old desk.new (stretch H.last H.running H.spoken H.log H.faults
-        O.taken O.faults host.old host.new out.old out.new)
-        (RanBehind desk.old.task desk.old.head entry dues.now desk.old.state desk.new.state)
-        (IsFrontBehind desk.old.head desk.old.task desk.old.state.entries entry
-        (due_instances dues.now)) result }
+    ensures goes { OnAskBehind desk.old desk.new (stretch H.Host O.Sink host.old host.new out.old out.new)
+        entry dues.now result }
 {
     desk.mark(out, entry)?;
     desk.batch(host, out, dues)

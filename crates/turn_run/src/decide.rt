@@ -1,7 +1,7 @@
 //! What a turn does: it ends the run, or asks a level.
-ghost use Rattle.std.specs.Prelude.{◌≡◌, length, IfOk, IfErr, MatchOption};
+ghost use Rattle.std.specs.Prelude.{◌≡◌, IfOk, IfErr, MatchOption};
 ghost use Rattle.turn_run.specs.Deciding.{FindsPlan, MayDecide, MayDecideAt, SeeksPlan};
-ghost use Rattle.turn_run.specs.Turns.{IsDecided, IsPast, IsSettledEnd};
+ghost use Rattle.turn_run.specs.Turns.{IsDecidedOf, IsPast, IsSettledEnd};
 ghost use Rattle.mode_turns.specs.Lazy.{IsTurnNeeded};
 ghost use Rattle.round_run.specs.declared.fault.RunFault.TheVariants.{Memory};
 ghost use Rattle.task_model.specs.Plans.{IsSolvable};
@@ -33,8 +33,7 @@ pub enum Decision {
 pub(crate) fn decide<S: PlanSearch>(desk: &Desk<'_>, mode: &S) -> Result<Decision, RunFault>
     requires may { MayDecideAt desk.now }
     requires seeks { SeeksPlan S.cheapest desk.now.head }
-    ensures decided { IfOk result (IsDecided desk.now.head desk.now.task desk.now.state.entries
-        (length desk.now.state.asked)) }
+    ensures decided { IfOk result (IsDecidedOf desk.now.head desk.now.task desk.now.state) }
     ensures only { IfErr result (λ fault. fault ≡ Memory) }
 {
     choose(desk.alloc(), desk.task(), desk.head(), desk.session(), mode)
@@ -50,8 +49,7 @@ fn choose<S: PlanSearch>(
 ) -> Result<Decision, RunFault>
     requires may { MayDecide task.now head.now session.now }
     requires seeks { SeeksPlan S.cheapest head.now }
-    ensures decided { IfOk result (IsDecided head.now task.now session.now.entries
-        (length session.now.asked)) }
+    ensures decided { IfOk result (IsDecidedOf head.now task.now session.now) }
     ensures only { IfErr result (λ fault. fault ≡ Memory) }
 {
     let facts = session.facts();
@@ -73,8 +71,7 @@ fn decide_found(
     requires seeks { SeeksPlan head.now.optimal head.now }
     requires finds { FindsPlan head.now.optimal task.now
         (known_of task.now session.now.entries) head.now.states found }
-    ensures decided { IfOk result (IsDecided head.now task.now session.now.entries
-        (length session.now.asked)) }
+    ensures decided { IfOk result (IsDecidedOf head.now task.now session.now) }
     ensures only { IfErr result (λ fault. fault ≡ Memory) }
 {
     match found {
@@ -97,8 +94,7 @@ fn decide_hopeless(
 ) -> Result<Decision, RunFault>
     requires may { MayDecide task.now head.now session.now }
     requires none { ¬ (IsSolvable task.now (known_of task.now session.now.entries)) }
-    ensures decided { IfOk result (IsDecided head.now task.now session.now.entries
-        (length session.now.asked)) }
+    ensures decided { IfOk result (IsDecidedOf head.now task.now session.now) }
     ensures only { IfErr result (λ fault. fault ≡ Memory) }
 {
     match decide_asks(task, head, session)? {
@@ -136,8 +132,7 @@ fn decide_far(task: &Task, head: &Head, session: &Session) -> Result<Decision, R
     requires seeks { SeeksPlan head.now.optimal head.now }
     requires past { IsPast head.now.optimal task.now (known_of task.now session.now.entries)
         head.now.states }
-    ensures decided { IfOk result (IsDecided head.now task.now session.now.entries
-        (length session.now.asked)) }
+    ensures decided { IfOk result (IsDecidedOf head.now task.now session.now) }
     ensures only { IfErr result (λ fault. fault ≡ Memory) }
 {
     let states = Outcome::Limit(LimitKind::States);
@@ -159,8 +154,7 @@ fn decide_dues(
     requires last { NothingIsDue task.now (known_of task.now session.now.entries)
         (notes_of task.now session.now.entries)
         → IsSettledEnd head.now task.now session.now.entries last }
-    ensures decided { IfOk result (IsDecided head.now task.now session.now.entries
-        (length session.now.asked)) }
+    ensures decided { IfOk result (IsDecidedOf head.now task.now session.now) }
     ensures only { IfErr result (λ fault. fault ≡ Memory) }
 {
     match decide_asks(task, head, session)? {
@@ -176,7 +170,7 @@ fn decide_asks(task: &Task, head: &Head, session: &Session) -> Result<Option<Dec
     ensures decided { IfOk result (λ decision. MatchOption decision
         (NothingIsDue task.now (known_of task.now session.now.entries)
         (notes_of task.now session.now.entries))
-        (IsDecided head.now task.now session.now.entries (length session.now.asked))) }
+        (IsDecidedOf head.now task.now session.now)) }
     ensures only { IfErr result (λ fault. fault ≡ Memory) }
 {
     let dues = match session.due(task) {

@@ -1,10 +1,9 @@
 //! Turns of a mode, one after another.
 ghost use Rattle.std.specs.Prelude.{◌≡◌, ℕ, false, length, OnOk};
-ghost use Rattle.turn_run.specs.Advancing.{IsFreshMode, RanTurns};
+ghost use Rattle.turn_run.specs.Advancing.{IsFreshMode, OnTurns};
 ghost use Rattle.turn_run.specs.Deciding.{IsHeadFor};
-ghost use Rattle.round_run.specs.Desk.{OnTurn, RestsAt};
+ghost use Rattle.round_run.specs.Desk.{RestsAt};
 ghost use Rattle.round_run.specs.Told.{stretch, host_told};
-ghost use Rattle.turn_run.specs.Turns.{IsFrontOfRun};
 ghost use Rattle.session_core.specs.Session.{IsNew};
 
 use crate::decide::{Decision, decide};
@@ -23,11 +22,8 @@ pub(crate) fn run_turns<M: Turns, H: Host, O: Sink>(
     requires mode { IsHeadFor M.mode M.cheapest desk.old.head }
     requires fresh { IsFreshMode (M.kept mode.old) (M.idle mode.old) (M.holds mode.old) }
     requires first { IsNew desk.old.task desk.old.state }
-    requires rests { RestsAt desk.old (host_told H.running H.spoken H.log H.faults host.old) }
-    ensures goes { OnTurn desk.old desk.new (stretch H.last H.running H.spoken H.log H.faults
-        O.taken O.faults host.old host.new out.old out.new)
-        (RanTurns desk.old.task desk.old.head desk.new.state (H.spoken host.new) (H.log host.old)
-        (H.log host.new)) (IsFrontOfRun desk.old.head desk.old.task) result }
+    requires rests { RestsAt desk.old (host_told H.Host host.old) }
+    ensures goes { OnTurns desk.old desk.new (stretch H.Host O.Sink host.old host.new out.old out.new) result }
     ensures idle { OnOk result
         (length desk.new.state.asked ≡ 0 → (k : ℕ) → H.running host.new k ≡ false) }
 {

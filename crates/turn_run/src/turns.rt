@@ -1,10 +1,10 @@
 //! What a mode does in a turn.
-ghost use Rattle.std.specs.Prelude.{ℕ, length};
-ghost use Rattle.turn_run.specs.Advancing.{Fits, IsFrontOfTurn, RanTurn};
+ghost use Rattle.std.specs.Prelude.{ℕ};
+ghost use Rattle.turn_run.specs.Advancing.{Fits, OnModeTurn};
 ghost use Rattle.turn_run.specs.Deciding.{IsHeadFor};
-ghost use Rattle.round_run.specs.Desk.{OnTurn, RestsAt};
+ghost use Rattle.round_run.specs.Desk.{RestsAt};
 ghost use Rattle.round_run.specs.Told.{stretch, host_told};
-ghost use Rattle.turn_run.specs.Turns.{IsTurn};
+ghost use Rattle.turn_run.specs.Turns.{IsTurnAt};
 ghost use Rattle.transcript_model.specs.Turns.{Kept};
 ghost use Rattle.transcript_model.specs.declared.head.Mode.{Mode};
 
@@ -49,14 +49,9 @@ pub trait Turns: PlanSearch {
         dues: &[Due],
     ) -> Result<Turned, RunFault>
         requires mode { IsHeadFor mode Self.cheapest desk.old.head }
-        requires rests { RestsAt desk.old (host_told H.running H.spoken H.log H.faults host.old) }
-        requires turn { IsTurn desk.old.head desk.old.task desk.old.state.entries
-            (length desk.old.state.asked) dues.now }
+        requires rests { RestsAt desk.old (host_told H.Host host.old) }
+        requires turn { IsTurnAt desk.old dues.now }
         requires fits { Fits (holds self.old) (idle self.old) desk.old.state }
-        ensures goes { OnTurn desk.old desk.new (stretch H.last H.running H.spoken H.log H.faults
-            O.taken O.faults host.old host.new out.old out.new)
-            (RanTurn desk.old.task desk.old.head (kept self.old) (kept self.new)
-            (idle self.old) (idle self.new) (holds self.new) desk.old.state desk.new.state)
-            (IsFrontOfTurn desk.old.task desk.old.head (kept self.old) desk.old.state.entries)
-            result };
+        ensures goes { OnModeTurn desk.old desk.new (stretch H.Host O.Sink host.old host.new out.old out.new)
+            (kept self.old) (kept self.new) (idle self.old) (idle self.new) (holds self.new) result };
 }

@@ -3,12 +3,14 @@ use Rattle.session_core.specs.Ready.{AreReady}
 use Rattle.instance_queue.specs.Level.{due_instances}
 use Rattle.pools.specs.Pools.{AreFitPools}
 use Rattle.transcript_model.specs.Rounds.{IsBatch, limits_of}
+use Rattle.round_run.proofs.LedLemmas.{still_host}
+use Rattle.round_run.proofs.QuietLemmas.{turn_alone}
+use Rattle.round_run.specs.Told.{host_told}
 use Rattle.turn_run.proofs.AskingLemmas.{asked_front, asked_marked}
 use Rattle.round_run.proofs.GoingLemmas.{line_then, turn_handed}
 use Rattle.turn_run.proofs.TurnsLevelLemmas.{batch_asks, ready_marked}
 use Rattle.turn_run.specs.Asking.{IsFrontBehind, RanBehind}
 use Rattle.round_run.specs.Desk.{IsFrontOfMark}
-use Rattle.round_run.specs.Told.{host_told}
 use Rattle.round_run.specs.TurnLines.{IsMarked}
 use Rattle.round_run.proofs.RollingFrontLemmas.{all_work}
 use Rattle.round_run.specs.Batches.{EndsBatch}
@@ -19,8 +21,7 @@ pub batch-requires-clause-ready : goal.batch-requires-clause-ready
 batch-requires-clause-ready g c =
     let old = c.args.desk.now in
     let h = c.requires.rests.works.listens.session in
-    let first = c.in_ok-mark.ensures.goes g.H.Host.last (host_told g.H.Host.running g.H.Host.spoken g.H.Host.log g.H.Host.faults
-    c.args.host.now) c.requires.rests in
+    let first = c.in_ok-mark.ensures.goes g.H.Host.last (host_told g.H.Host c.args.host.now) c.requires.rests in
     subst (λ t. AreReady t c.mark.new.self.state.entries c.args.dues.now) (sym first.same.task)
     (subst (λ es. AreReady old.task es c.args.dues.now) (sym first.ran.entries)
     (ready_marked old.state.version old.task old.state.entries c.args.dues.now c.args.entry c.requires.may.mark h.fit h.legal
@@ -28,7 +29,7 @@ batch-requires-clause-ready g c =
 
 pub batch-requires-clause-rests : goal.batch-requires-clause-rests
 batch-requires-clause-rests g c =
-    (c.in_ok-mark.ensures.goes g.H.Host.last (host_told g.H.Host.running g.H.Host.spoken g.H.Host.log g.H.Host.faults c.args.host.now)
+    (c.in_ok-mark.ensures.goes g.H.Host.last (host_told g.H.Host c.args.host.now)
     c.requires.rests).holds
 
 pub returns : goal.returns
@@ -42,7 +43,7 @@ returns g c =
     let e = c.args.entry in
     let dues = c.args.dues.now in
     let list = due_instances dues in
-    let first = c.in_ok-mark.ensures.goes g.H.Host.last _ c.requires.rests in
+    let first = c.in_ok-mark.ensures.goes g.H.Host.last (host_told g.H.Host c.args.host.now) c.requires.rests in
     let marked = first.ran in
     let rests = c.requires.rests in
     record {
@@ -86,7 +87,8 @@ returns-in_err-mark g c =
       goes = turn_handed old c.mark.new.self _ (λ _. IsMarked c.args.entry old.state c.mark.new.self.state) _
           (IsFrontOfMark old.state.entries c.args.entry) (IsFrontBehind old.head old.task old.state.entries c.args.entry list)
           c.in_err-mark.field-0.0 c.from_residual.result c.from_residual.ensures.1
-          (c.in_err-mark.ensures.goes g.H.Host.last _ rests)
+          (turn_alone _ _ (still_host g.H.Host g.met.H.Host.stays c.args.host.now) _ _ _ _ _ _ _
+          (c.in_err-mark.ensures.goes g.H.Host.last _ rests))
           (λ es legal there. asked_marked old.head old.task old.state.entries c.args.entry list es
           (all_work old.head.pools (subst (AreFitPools old.task) rests.works.of.pools rests.works.listens.session.pools).some) there);
     }

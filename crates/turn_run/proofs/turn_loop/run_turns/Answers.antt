@@ -8,6 +8,7 @@ use Rattle.transcript_model.specs.declared.outcome.Outcome.TheVariants as outcom
 use Rattle.turn_run.proofs.AdvancingLemmas.{measure_falls}
 use Rattle.round_run.proofs.GoingLemmas.{both, on_first, rests_on, turn_handed, turn_ok, turn_then}
 use Rattle.turn_run.proofs.LoopLemmas.{turn_behind, turns_none, turns_ran}
+use Rattle.round_run.proofs.LedLemmas.{joined, still_host}
 use Rattle.round_run.proofs.QuietLemmas.{turn_memory}
 use Rattle.turn_run.proofs.TurnsFrontLemmas.{run_between}
 use Rattle.turn_run.proofs.TurnsLemmas.{Standing, run_at, run_cut, standing_first, standing_next}
@@ -26,7 +27,8 @@ turns-init g c =
     let e = c.requires.first.entries in
     let none : length s.asked ≡ 0 = c.requires.rests.works.listens.session.counted ∙ ap asks_of e in
     record {
-      goes = turns_none desk _ g.H.Host.last (g.O.Sink.taken c.args.out.now) (g.O.Sink.faults c.args.out.now) _ e c.requires.rests;
+      goes = turns_none desk (still_host g.H.Host g.met.H.Host.stays c.args.host.now) (g.O.Sink.taken c.args.out.now)
+          (g.O.Sink.faults c.args.out.now) _ e c.requires.rests;
       standing = subst (λ k. Standing desk.head desk.task k s.entries) (sym c.requires.fresh.nothing)
           (subst (Standing desk.head desk.task _) (sym e) (standing_first desk.head desk.task));
       fits = record {
@@ -46,9 +48,12 @@ returns-in_err-decision-clause-goes g c =
     let front = IsFrontOfRun old.head old.task in
     let fault = c.in_err-decision.field-0.0 in
     turn_handed old desk _ (λ (_ : Unit {0}). ⊤) _ front front fault c.from_residual.result c.from_residual.ensures.1
-    (turn_then old desk desk g.H.Host.last _ _ _ (λ (_ : Unit {0}). ⊤) front (λ t h (_ : Unit {0}). ⊤) (λ t h. front)
+    (turn_then old desk desk g.H.Host.last _ _ _
+    (joined g.H.Host g.met.H.Host.chains c.args.host.now c.turns.host c.turns.host) (λ (_ : Unit {0}). ⊤) front (λ t h
+    (_ : Unit {0}). ⊤) (λ t h. front)
     (λ (_ : Unit {0}). ⊤) front tt _ i.goes
-    (turn_memory desk _ g.H.Host.last (g.O.Sink.taken c.turns.out) (g.O.Sink.faults c.turns.out) (λ (_ : Unit {0}). ⊤) front fault
+    (turn_memory desk (still_host g.H.Host g.met.H.Host.stays c.turns.host) (g.O.Sink.taken c.turns.out) (g.O.Sink.faults c.turns.out)
+    (λ (_ : Unit {0}). ⊤) front fault
     i.goes.holds c.in_err-decision.ensures.only
     (λ legal. run_between old.head old.task _ es i.standing
     (on_first (λ t h. IsLegal h.version t es) old desk i.goes.same legal)))
@@ -92,7 +97,9 @@ returns-in_err-turn-clause-goes g c =
     let fault = c.in_err-turn.field-0.0 in
     turn_handed old c.turn.new.desk _ _ _ _ (IsFrontOfRun old.head old.task) fault c.from_residual-in_err-turn.result
     c.from_residual-in_err-turn.ensures.1
-    (turn_behind old desk c.turn.new.desk g.H.Host.last _ _ _ kept next (g.M.Turns.idle c.turns.mode) (g.M.Turns.idle c.turn.new.self)
+    (turn_behind old desk c.turn.new.desk g.H.Host.last _ _ _
+    (joined g.H.Host g.met.H.Host.chains c.args.host.now c.turns.host c.turn.new.host) kept next (g.M.Turns.idle c.turns.mode)
+    (g.M.Turns.idle c.turn.new.self)
     (g.M.Turns.holds c.turn.new.self) c.in-Asks.dues.items _ i.goes i.standing
     (on_first (λ t h. IsTurn h t s.entries (length s.asked) c.in-Asks.dues.items) old desk i.goes.same
     (decided_dues desk.head desk.task s.entries (length s.asked) c.in_ok-decision.decision c.in-Asks.dues c.in-Asks.is
@@ -133,7 +140,9 @@ turns-preserved g c =
     let turn = on_first (λ t h. IsTurn h t s.entries (length s.asked) c.in-Asks.dues.items) old desk i.goes.same
     (decided_dues desk.head desk.task s.entries (length s.asked) c.in_ok-decision.decision c.in-Asks.dues c.in-Asks.is
     c.in_ok-decision.ensures.decided) in
-    let all = turn_behind old desk new g.H.Host.last _ _ _ kept next (g.M.Turns.idle c.turns.mode) (g.M.Turns.idle c.turn.new.self)
+    let all = turn_behind old desk new g.H.Host.last _ _ _
+    (joined g.H.Host g.met.H.Host.chains c.args.host.now c.turns.host c.turn.new.host) kept next (g.M.Turns.idle c.turns.mode)
+    (g.M.Turns.idle c.turn.new.self)
     (g.M.Turns.holds c.turn.new.self) c.in-Asks.dues.items _ i.goes i.standing turn c.in_ok-turn.ensures.goes in
     let did = subst (HasTurned task head kept next s new.state) c.in-Done.is all.ran.turned in
     let before = rests_on old desk i.goes.same i.goes.holds in
@@ -167,7 +176,9 @@ returns-in-Spent-clause-goes g c =
     let turn = on_first (λ t h. IsTurn h t s.entries (length s.asked) c.in-Asks.dues.items) old desk i.goes.same
     (decided_dues desk.head desk.task s.entries (length s.asked) c.in_ok-decision.decision c.in-Asks.dues c.in-Asks.is
     c.in_ok-decision.ensures.decided) in
-    let all = turn_behind old desk new g.H.Host.last _ _ _ kept next (g.M.Turns.idle c.turns.mode) (g.M.Turns.idle c.turn.new.self)
+    let all = turn_behind old desk new g.H.Host.last _ _ _
+    (joined g.H.Host g.met.H.Host.chains c.args.host.now c.turns.host c.turn.new.host) kept next (g.M.Turns.idle c.turns.mode)
+    (g.M.Turns.idle c.turn.new.self)
     (g.M.Turns.holds c.turn.new.self) c.in-Asks.dues.items _ i.goes i.standing turn c.in_ok-turn.ensures.goes in
     let did = subst (HasTurned task head kept next s new.state) c.in-Spent.is all.ran.turned in
     let before = rests_on old desk i.goes.same i.goes.holds in
@@ -199,7 +210,9 @@ returns-in-Known-clause-goes g c =
     let turn = on_first (λ t h. IsTurn h t s.entries (length s.asked) c.in-Asks.dues.items) old desk i.goes.same
     (decided_dues desk.head desk.task s.entries (length s.asked) c.in_ok-decision.decision c.in-Asks.dues c.in-Asks.is
     c.in_ok-decision.ensures.decided) in
-    let all = turn_behind old desk new g.H.Host.last _ _ _ kept next (g.M.Turns.idle c.turns.mode) (g.M.Turns.idle c.turn.new.self)
+    let all = turn_behind old desk new g.H.Host.last _ _ _
+    (joined g.H.Host g.met.H.Host.chains c.args.host.now c.turns.host c.turn.new.host) kept next (g.M.Turns.idle c.turns.mode)
+    (g.M.Turns.idle c.turn.new.self)
     (g.M.Turns.holds c.turn.new.self) c.in-Asks.dues.items _ i.goes i.standing turn c.in_ok-turn.ensures.goes in
     let did = subst (HasTurned task head kept next s new.state) c.in-Known.is all.ran.turned in
     let after = rests_on old new all.same all.holds in

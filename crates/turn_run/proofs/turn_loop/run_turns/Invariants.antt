@@ -12,7 +12,7 @@ use Rattle.round_run.specs.declared.fault.RunFault.{RunFault}
 abbrev pub invariant-turns : goal.invariant-turns
 invariant-turns g l = record {
   goes : OnTurn l.initial.desk l.desk
-      (stretch g.H.Host.last g.H.Host.running g.H.Host.spoken g.H.Host.log g.H.Host.faults g.O.Sink.taken g.O.Sink.faults
+      (stretch g.H.Host g.O.Sink
       l.initial.host l.host l.initial.out l.out)
       (λ (_ : Unit {0}). ⊤) (IsFrontOfRun l.initial.desk.head l.initial.desk.task)
       (let r : Result (Unit {0}) RunFault = Ok tt in r);

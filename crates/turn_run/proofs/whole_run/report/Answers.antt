@@ -11,13 +11,14 @@ use Rattle.report_text.specs.Prints.{CutOff}
 use Rattle.report_text.specs.Texts.{text_of_head}
 use Rattle.io_world.specs.Faults.{last_count}
 use Rattle.round_run.proofs.CallsStopLemmas.{ran_of}
+use Rattle.round_run.proofs.LedLemmas.{led_as, led_none}
 use Rattle.round_run.proofs.StoppedLemmas.{written_cause}
 use Rattle.round_run.specs.Dialogue.{workers_in}
 use Rattle.round_run.specs.Rolling.{Goes, Stopped}
 use Rattle.round_run.specs.declared.fault.RunFault.TheVariants.{Write}
 use Rattle.session_core.specs.State.{State}
 use Rattle.task_model.specs.declared.task.Task.{Task}
-use Rattle.transcript_model.specs.Legal.{is_level}
+use Rattle.transcript_model.specs.Legal.{asks_of, is_level}
 use Rattle.transcript_model.specs.declared.head.Head.{Head}
 use Rattle.turn_run.proofs.whole_run.report.Goals as goal
 
@@ -34,7 +35,8 @@ returns-in_err-print_head g c =
           (broken_head desk.task desk.head (g.H.Host.spoken c.args.host.now) fault (g.H.Host.log c.args.host.now) old mid
           c.in_err-print_head.ensures.only cut)
           c.requires.still.still.state
-          (causes_written g.H.Host.last _ _ _ _ fault c.in_err-print_head.ensures.only (omega arith) c.in_err-print_head.ensures.cause);
+          (causes_written g.H.Host.last _ _ _ _ fault c.in_err-print_head.ensures.only (omega arith) c.in_err-print_head.ensures.cause)
+          (led_none (g.met.H.Host.stays c.args.host.now));
     }
 
 pub returns-in_err-outcome : goal.returns-in_err-outcome
@@ -62,7 +64,7 @@ returns-in_err-outcome g c =
             host = goes.causes.host;
             sink = cause_behind Write last_count (g.O.Sink.faults c.args.out.now) (g.O.Sink.faults c.print_head.new.out)
                 (g.O.Sink.faults c.run_turns.new.out) _ c.in_ok-print_head.ensures.cause.later goes.causes.sink;
-          });
+          }) goes.led;
     }
 
 pub returns-in_err-print_end : goal.returns-in_err-print_end
@@ -97,7 +99,8 @@ returns-in_err-print_end g c =
           (causes_written g.H.Host.last _ _ _ _ fault c.in_err-print_end.ensures.only goes.causes.host.later
           (cause_behind Write last_count (g.O.Sink.faults c.args.out.now) (g.O.Sink.faults c.run_turns.new.out)
           (g.O.Sink.faults c.print_end.new.out) _
-          (omega (arith, c.in_ok-print_head.ensures.cause.later, goes.causes.sink.later)) c.in_err-print_end.ensures.cause));
+          (omega (arith, c.in_ok-print_head.ensures.cause.later, goes.causes.sink.later)) c.in_err-print_end.ensures.cause))
+          (led_as goes.led);
     }
 
 pub count_levels-requires : goal.count_levels-requires
@@ -146,12 +149,15 @@ returns g c =
             (c.entries.ensures ∙ ap (λ (x : State). x.entries) c.session-session.ensures.is))
             (asks ∙ ran.asks) so_far end;
         broken = tt;
-        untouched = λ none. let asked = sym asks ∙ none in (ran.untouched asked, c.in_ok-outcome.ensures.idle asked);
+        untouched = λ none.
+            let asked = sym asks ∙ none in
+            (goes.still (sym ran.asks ∙ asked ∙ sym (ap asks_of c.requires.still.new.entries)), c.in_ok-outcome.ensures.idle asked);
         state = goes.state;
         causes = record {
           host = record { later = goes.causes.host.later; cause = λ is. absurd (cc) };
           sink = written_cause _ _ _ _ _ _ c.in_ok-print_head.ensures.cause.later goes.causes.sink.later
               c.in_ok-print_end.ensures.cause.later;
         };
+        led = goes.led;
       };
     }

@@ -1,4 +1,5 @@
 use Rattle.std.proofs.Common.{◌∙◌, subst, sym}
+use Rattle.round_run.proofs.LedLemmas.{still_host}
 use Rattle.turn_run.proofs.ReportingLemmas.{ends_memory, ends_stopped}
 use Rattle.turn_run.specs.Deciding.{IsHeadFor}
 use Rattle.session_core.specs.Session.{IsNew, IsOf}
@@ -9,7 +10,7 @@ use Rattle.turn_run.proofs.whole_run.run_mode.Goals as goal
 
 pub returns-in_err-desk : goal.returns-in_err-desk
 returns-in_err-desk g c = record {
-  ran = ends_memory c.args.task.now c.args.head.now _ g.H.Host.last (g.O.Sink.taken c.args.out.now)
+  ran = ends_memory c.args.task.now c.args.head.now (still_host g.H.Host g.met.H.Host.stays c.args.host.now) (g.O.Sink.taken c.args.out.now)
       (g.O.Sink.faults c.args.out.now) c.from_residual.result c.from_residual.ensures.1 c.requires.may.idle;
 }
 
@@ -37,6 +38,6 @@ returns g c =
     let clean = c.in_ok-desk.ensures.clean in
     record {
       ran = ends_stopped c.args.task.now c.args.head.now c.in_ok-desk.desk c.report-result.new.desk g.H.Host.last _ _ _
-          c.report-result.result clean.task clean.head c.report-result.ensures.ends c.stop_all.ensures.spoken c.stop_all.ensures.stops
-          c.stop_all.ensures.none c.stop_all.ensures.later c.stop_all.ensures.idle;
+          c.report-result.result clean.task clean.head c.report-result.ensures.ends c.stop_all.ensures.stops
+          (g.met.H.Host.ends c.args.host.now c.report-result.new.host c.stop_all.new.host) (λ first second. second ∙ first);
     }
