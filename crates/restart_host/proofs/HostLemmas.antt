@@ -1,22 +1,39 @@
 -- What a call makes of a host that starts its children again.
-use Rattle.std.proofs.Common.{◌≡◌, ℕ, ◌+◌, ◌<◌, ◌≤◌, Bool, true, false, List, Result, Ok, Err, IfOk, OnOk, is_ok, IsErrOf, min, refl, sym, ap, subst, ◌∙◌, arith}
+use Rattle.std.proofs.Common.{◌≡◌, ℕ, ◌+◌, ◌<◌, ◌≤◌, Bool, true, false, List, [], ◌∷◌, ◌++◌, Some, Result, Ok, Err, IfOk, OnOk, is_ok, IsErrOf, min, refl, sym, ap, subst, ◌∙◌, arith}
 use Rattle.io_world.specs.Faults.{Counts, HasCause}
 use Rattle.io_world.specs.Leads.{wants_memory}
 use Rattle.io_world.specs.declared.host.HostFault.{HostFault}
 use Rattle.io_world.specs.declared.host.HostFault.TheVariants.{Failed, Memory}
-use Rattle.restart_host.specs.Leads.{Carries, Parts}
+use Rattle.io_world.specs.Logs.{Calls}
+use Rattle.io_world.specs.Talks.{Event}
+use Rattle.io_world.proofs.TalksLemmas.{extends_none}
+use Rattle.restart_host.proofs.UsesLemmas.{done_once}
+use Rattle.restart_host.specs.Leads.{Carries, IsDoneBy, Parts}
 use Rattle.restart_host.specs.Noted.{IsLed}
 use Rattle.restart_host.specs.Tries.{CalledInner, Tried, refusals}
+use Rattle.restart_host.specs.Uses.{IsDone}
 
 -- calls that led there, of which none wanted memory but the last
 pub led_by : {m : Bool} (Leads : Bool → Type 0) → Leads m → IsLed Leads m
 led_by {m} Leads leads = record { wanted = m; quiet = λ is. is; leads = leads }
 
+-- the call that came was done by these
+abbrev pub IsCallDone : Parts → Parts → Event → List Event → Type 0
+IsCallDone old new call events =
+    (past : List Event) → old.below.log ≡ Some past → new.log.whole ≡ true
+    → (new.log.events ≡ old.log.events ++ call ∷ []) × IsDone old.log.events past call events
+
+by_call : (old new : Parts) (call : Event) (events past : List Event) → IsCallDone old new call events
+    → old.below.log ≡ Some past → new.log.whole ≡ true → IsDoneBy old.log.events new.log.events past events
+by_call old new call events past done was whole =
+    let one = done past was whole in
+    (call ∷ [], one.0, done_once old.log.events past call events one.1)
+
 -- calls of which none failed
-pub carries_called : (child : ℕ) {words : List (List ℕ)} (last : ℕ) (old new : Parts)
-    → CalledInner child words last old.below new.below 0 → new.left ≡ old.left → new.faults ≡ old.faults
-    → new.log.whole ≡ old.log.whole → Carries last old new false
-carries_called child last old new called left faults whole = record {
+pub carries_called : (child : ℕ) {words : List (List ℕ)} (last : ℕ) (old new : Parts) (call : Event) {D : List Event → Type 0}
+    → (called : CalledInner child words last old.below new.below 0 D) → new.left ≡ old.left → new.faults ≡ old.faults
+    → new.log.whole ≡ old.log.whole → IsCallDone old new call called.events → Carries last old new false
+carries_called child last old new call called left faults whole done = record {
   count = 0;
   left = omega (arith, left, faults);
   later = called.later;
@@ -26,15 +43,18 @@ carries_called child last old new called left faults whole = record {
   events = called.events;
   failed = called.failed;
   log = called.log;
+  done = λ past after was now is. by_call old new call called.events past done was is;
 }
 
 -- tries
 pub carries_tried : {T : Type 0} (child : ℕ) {words : List (List ℕ)} (last : ℕ) (old new : Parts)
-    (result : Result T HostFault)
-    → Tried child words last old.left new.left old.below new.below result → new.faults ≤ old.faults + refusals result
+    (result : Result T HostFault) (call : Event) {D : List Event → Type 0}
+    → (tried : Tried child words last old.left new.left old.below new.below result D)
+    → new.faults ≤ old.faults + refusals result
     → (wants_memory result ≡ false → new.log.whole ≡ old.log.whole) → (new.log.whole ≡ true → old.log.whole ≡ true)
+    → IsCallDone old new call tried.called.events
     → Carries last old new (wants_memory result)
-carries_tried child last old new result tried faults whole lost = record {
+carries_tried child last old new result call tried faults whole lost done = record {
   count = tried.count;
   left = omega (arith, tried.left, faults);
   later = tried.called.later;
@@ -44,6 +64,23 @@ carries_tried child last old new result tried faults whole lost = record {
   events = tried.called.events;
   failed = tried.called.failed;
   log = tried.called.log;
+  done = λ past after was now is. by_call old new call tried.called.events past done was is;
+}
+
+-- a call that got lost, and wasn't done
+pub carries_lost : (last : ℕ) (old : Parts) (log : Calls) → log.whole ≡ false
+    → Carries last old (record { left = old.left; faults = old.faults; log = log; below = old.below }) true
+carries_lost last old log lost = record {
+  count = 0;
+  left = omega arith;
+  later = omega arith;
+  rose = λ below. omega arith;
+  whole = λ is. absurd (cc (is));
+  lost = λ is. absurd (cc (is, lost));
+  events = [];
+  failed = refl;
+  log = extends_none old.below.log;
+  done = λ past after was now is. absurd (cc (is, lost));
 }
 
 -- how much the count of a host's own faults rises

@@ -1,5 +1,15 @@
 pub mod ChildrenLemmas
+pub mod CourseLemmas
+pub mod FeedLemmas
+pub mod FitsLemmas
+pub mod HandingLemmas
 pub mod HostLemmas
+pub mod KeepsLemmas
 pub mod NotedLemmas
+pub mod ReadLemmas
 pub mod RisesLemmas
+pub mod StepsLemmas
+pub mod TiedLemmas
+pub mod TriedLemmas
 pub mod TriesLemmas
+pub mod UsesLemmas

@@ -33,7 +33,7 @@ lost_same : (old new : Calls) → Lost old new → Same (said_of old) (said_of n
 lost_same old new lost k = ap (λ events. Some (spelled k silence events)) lost.events
 
 -- another child's number isn't this one
-not_equal : (child k : ℕ) → k ≢ child → (child == k) ≡ false
+pub not_equal : (child k : ℕ) → k ≢ child → (child == k) ≡ false
 not_equal child k other = elim (eqb_tells child k) [
   | inl same ↦ absurd (other (sym same.1))
   | inr differs ↦ differs.0

@@ -1,5 +1,5 @@
 -- What is kept of children.
-use Rattle.std.specs.Prelude.{◌≡◌, ◌<◌, ℕ, Bool, false, List, [], count_by, option_map, slice_get, unwrap_or}
+use Rattle.std.specs.Prelude.{◌≡◌, ◌<◌, ℕ, Bool, true, false, List, [], count_by, map, option_map, slice_get, string_bytes, unwrap_or}
 use Rattle.io_world.specs.declared.host.TheConstants.{CHILDREN}
 use Rattle.restart_host.specs.declared.kept.Kept.{Kept}
 use Rattle.restart_host.specs.declared.kept.Life.{Life}
@@ -31,6 +31,14 @@ pub record IsFallen (life : Life) : Type 0 where
   pub alive : life.alive ≡ false
   pub held : life.held ≡ []
   pub due : life.due ≡ 0
+
+-- It was just started with these words: it runs in the host below, nothing is held of it and nothing waits.
+pub record IsNew (words : List (List ℕ)) (kept : Kept) : Type 0 where
+  pub words_are : map string_bytes kept.words.items ≡ words
+  pub asked : kept.asked.items ≡ []
+  pub alive : kept.life.alive ≡ true
+  pub held : kept.life.held ≡ []
+  pub due : kept.life.due ≡ 0
 
 -- None of the children runs, here or in the host below.
 pub record AreIdle (children : List Kept) : Type 0 where

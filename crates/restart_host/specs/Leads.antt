@@ -1,12 +1,13 @@
 -- What calls make of a host that starts its children again, in its own terms and in those of the host below.
-use Rattle.std.specs.Prelude.{◌≡◌, ℕ, ◌+◌, ◌<◌, ◌≤◌, Bool, true, false, min, List, [], ◌++◌}
-use Rattle.std.proofs.Common.{arith, refl, subst, ◌∙◌, ap}
+use Rattle.std.specs.Prelude.{◌≡◌, ℕ, ◌+◌, ◌<◌, ◌≤◌, Bool, true, false, min, List, [], ◌∷◌, ◌++◌, Option, Some, None}
+use Rattle.std.proofs.Common.{append_assoc, append-nil, arith, refl, subst, sym, ◌∙◌, ap}
 use Rattle.lemmas.proofs.Counts.{count_joined}
 use Rattle.io_world.specs.Logs.{Calls}
 use Rattle.io_world.specs.Talks.{Event, LogGrows}
 use Rattle.io_world.proofs.TalksLemmas.{extends_none, extends_more}
 use Rattle.restart_host.specs.Noted.{IsLed}
 use Rattle.restart_host.specs.Tries.{Seen, failures, has_failed}
+use Rattle.restart_host.specs.Uses.{AreDone}
 
 -- How many failures are still made good, how many calls were refused, the calls, and what the host below tells.
 pub record Parts : Type 0 where
@@ -15,8 +16,13 @@ pub record Parts : Type 0 where
   pub log : Calls
   pub below : Seen
 
+-- The calls that came were done by these calls on the host below.
+abbrev pub IsDoneBy : (old new past events : List Event) → Type 0
+IsDoneBy old new past events = (more : List Event) × (new ≡ old ++ more) × AreDone old past more events
+
 -- So many starts, writes and reads of the host below failed: those that were made good and those that were refused. Its
--- count rose by as much, up to its last value. The log stays whole unless memory was wanting.
+-- count rose by as much, up to its last value. The log stays whole unless memory was wanting; and where it is, and the
+-- host below tells its own, the calls that came were done by those that came there.
 pub record Carries (last : ℕ) (old new : Parts) (memory : Bool) : Type 0 where
   pub count : ℕ
   pub left : old.left + new.faults ≤ new.left + old.faults + count
@@ -27,6 +33,8 @@ pub record Carries (last : ℕ) (old new : Parts) (memory : Bool) : Type 0 where
   pub events : List Event
   pub failed : failures events ≡ count
   pub log : LogGrows old.below.log new.below.log events
+  pub done : (past after : List Event) → old.below.log ≡ Some past → new.below.log ≡ Some after → new.log.whole ≡ true
+      → IsDoneBy old.log.events new.log.events past events
 
 -- The count rose by so many, or stands at its last value.
 abbrev pub RoseBy : (count last before now : ℕ) → Type 0
@@ -66,7 +74,44 @@ carries_none last parts = record {
   events = [];
   failed = refl;
   log = extends_none parts.below.log;
+  done = λ past after was now whole. ([], sym (append-nil parts.log.events), refl);
 }
+
+-- what a log was that is told in the end
+told_before : (was now : Option (List Event)) (events after : List Event) → LogGrows was now events → now ≡ Some after
+    → (before : List Event) × (was ≡ Some before) × (after ≡ before ++ events)
+told_before was None events after grows is = absurd (cc (is))
+told_before was (Some told) events after grows is =
+    let same : told ≡ after = cc (is) in
+    (grows.0, grows.1, sym same ∙ grows.2)
+
+-- calls that are done one after another
+done_join : (calls past : List Event) (xs ys es fs : List Event) → AreDone calls past xs es
+    → AreDone (calls ++ xs) (past ++ es) ys fs → AreDone calls past (xs ++ ys) (es ++ fs)
+done_join calls past [] ys es fs first second =
+    subst (λ zs. AreDone calls past ys (zs ++ fs)) (sym first)
+    (subst (λ zs. AreDone zs past ys fs) (append-nil calls)
+    (subst (λ zs. AreDone (calls ++ []) zs ys fs) (ap (λ zs. past ++ zs) first ∙ append-nil past) second))
+done_join calls past (x ∷ xs) ys es fs first second = (
+  first.0,
+  first.1 ++ fs,
+  ap (λ zs. zs ++ fs) first.2 ∙ append_assoc first.0 first.1 fs,
+  first.3,
+  done_join (calls ++ x ∷ []) (past ++ first.0) xs ys first.1 fs first.4
+      (subst (λ zs. AreDone zs ((past ++ first.0) ++ first.1) ys fs) (sym (append_assoc calls (x ∷ []) xs))
+      (subst (λ zs. AreDone (calls ++ x ∷ xs) zs ys fs)
+      (ap (λ zs. past ++ zs) first.2 ∙ sym (append_assoc past first.0 first.1)) second)),
+)
+
+by_joined : (old mid new past after events later : List Event) → after ≡ past ++ events → IsDoneBy old mid past events
+    → IsDoneBy mid new after later → IsDoneBy old new past (events ++ later)
+by_joined old mid new past after events later is first second = (
+  first.0 ++ second.0,
+  second.1 ∙ ap (λ calls. calls ++ second.0) first.1 ∙ append_assoc old first.0 second.0,
+  done_join old past first.0 second.0 events later first.2
+      (subst (λ calls. AreDone calls (past ++ events) second.0 later) first.1
+      (subst (λ calls. AreDone mid calls second.0 later) is second.2)),
+)
 
 carries_joined : (last : ℕ) (a b c : Parts) (m n o : Bool) → (o ≡ false → c.log.whole ≡ a.log.whole)
     → Carries last a b m → Carries last b c n → Carries last a c o
@@ -84,6 +129,13 @@ carries_joined last a b c m n o whole first second = record {
   failed = count_joined has_failed first.events second.events ∙ ap (λ n. n + failures second.events) first.failed
       ∙ ap (λ n. first.count + n) second.failed;
   log = extends_more a.below.log b.below.log c.below.log first.events second.events first.log second.log;
+  done = λ past after was now whole_now.
+      let mid = told_before b.below.log c.below.log second.events after second.log now in
+      let start = told_before a.below.log b.below.log first.events mid.0 first.log mid.1 in
+      let same : start.0 ≡ past = cc (start.1, was) in
+      let is : mid.0 ≡ past ++ first.events = start.2 ∙ ap (λ calls. calls ++ first.events) same in
+      by_joined a.log.events b.log.events c.log.events past mid.0 first.events second.events is
+      (first.done past mid.0 was mid.1 (second.lost whole_now)) (second.done mid.0 after mid.1 now whole_now);
 }
 
 pub carries_chain : (last : ℕ) (a b c : Parts) (m : Bool) → Carries last a b false → Carries last b c m

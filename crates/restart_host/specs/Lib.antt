@@ -1,5 +1,10 @@
+pub mod Fits
 pub mod Kept
 pub mod Leads
 pub mod Lines
+pub mod Lives
 pub mod Noted
+pub mod Steps
+pub mod Tied
 pub mod Tries
+pub mod Uses

@@ -43,9 +43,10 @@ IsOn child words (wrote k bytes answer) = k ≡ child
 IsOn child words (heard k room answer) = k ≡ child
 IsOn child words (stopped k answer) = k ≡ child
 
--- What calls on a child made of what its host tells: so many of them failed, and the count of faults rose by as much,
--- up to its last value.
-pub record CalledInner (child : ℕ) (words : List (List ℕ)) (last : ℕ) (old new : Seen) (count : ℕ) : Type 0 where
+-- What calls on a child that did this made of what its host tells: so many of them failed, and the count of faults rose
+-- by as much, up to its last value.
+pub record CalledInner (child : ℕ) (words : List (List ℕ)) (last : ℕ) (old new : Seen) (count : ℕ)
+    (Does : List Event → Type 0) : Type 0 where
   pub others : (k : ℕ) → k ≢ child → new.running k ≡ old.running k
   pub later : old.faults ≤ new.faults
   pub rose : new.faults < last → old.faults + count ≤ new.faults
@@ -53,13 +54,14 @@ pub record CalledInner (child : ℕ) (words : List (List ℕ)) (last : ℕ) (old
   pub on : All (IsOn child words) events
   pub failed : failures events ≡ count
   pub log : LogGrows old.log new.log events
+  pub does : Does events
 
 -- Calls that are done again where they fail: each failure but the last one is made good, and takes one from those that
 -- still are.
 pub record Tried {T : Type 0} (child : ℕ) (words : List (List ℕ)) (last left_old left_new : ℕ) (old new : Seen)
-    (result : Result T HostFault) : Type 0 where
+    (result : Result T HostFault) (Does : List Event → Type 0) : Type 0 where
   pub count : ℕ
-  pub called : CalledInner child words last old new count
+  pub called : CalledInner child words last old new count Does
   pub left : left_old + refusals result ≤ left_new + count
   pub fewer : left_new ≤ left_old
   pub spent : IsErrOf result Failed → left_new ≡ 0

@@ -1,10 +1,11 @@
 // Bytes that were read and aren't handed out yet.
-ghost use Rattle.std.specs.Prelude.{◌≡◌, ◌<◌, ◌≤◌, ℕ, List, [], true, length, drop, position, IfOk, IfSome, OnOk, OnErr};
+ghost use Rattle.std.specs.Prelude.{◌≡◌, ◌<◌, ◌≤◌, ℕ, List, [], true, length, drop, take, position, vec_capacity, IfOk, IfSome, OnOk, OnErr};
 ghost use Rattle.gen_lines.specs.Lines.{is_feed};
 ghost use Rattle.io_world.specs.Leads.{wants_memory};
 ghost use Rattle.io_world.specs.Talks.{Same};
 ghost use Rattle.io_world.specs.declared.host.TheConstants.{CHILDREN};
 ghost use Rattle.restart_host.specs.Lines.{due_length};
+ghost use Rattle.restart_host.specs.Steps.{IsHearing};
 ghost use Rattle.restart_host.specs.Tries.{CalledInner, refusals, seen_by_host};
 
 use gen_lines::LINE_BYTES;
@@ -61,20 +62,15 @@ impl Held {
         requires { count ≤ length self.old }
         ensures { self.new ≡ drop count self.old }
     {
-        self.bytes.rotate_left(count);
-        self.bytes.truncate(self.bytes.len() - count);
+        drop_first(&mut self.bytes, count);
     }
 
     /// How long the first line is, with its line feed; all bytes where none ends.
     pub(crate) fn first_line(&self) -> usize
         ensures value { result ≡ due_length self.now }
-        ensures within { result ≤ length self.now }
+        ensures within { (result ≤ length self.now) × (length self.now ≤ LINE_BYTES) }
     {
-        let held = self.as_slice();
-        match first_feed(held) {
-            Some(at) => at + 1,
-            None => held.len(),
-        }
+        first_line(self.as_slice())
     }
 
     /// Hears a running child until a line is held, or [`LINE_BYTES`] bytes.
@@ -90,12 +86,12 @@ impl Held {
         ensures called { (words : List (List ℕ)) → CalledInner child words H.last
             (seen_by_host H.running H.faults H.log host.old)
             (seen_by_host H.running H.faults H.log host.new)
-            (refusals result) }
+            (refusals result) (IsHearing child self.old self.new result) }
         ensures leads { H.leads host.old host.new (wants_memory result) }
     {
         let mut room = [0; LINE_BYTES];
         let held = self.bytes.len();
-        room[..held].copy_from_slice(&self.bytes);
+        put_front(&mut room, &self.bytes);
         match hear_line(host, child, &mut room, held) {
             Ok(filled) => {
                 self.bytes.clear();
@@ -104,6 +100,36 @@ impl Held {
             }
             Err(fault) => Err(fault),
         }
+    }
+}
+
+/// Puts these bytes at the beginning of the room.
+fn put_front(room: &mut [u8], bytes: &[u8])
+    requires { length bytes.now ≤ length room.old }
+    ensures front { take (length bytes.now) room.new ≡ bytes.now }
+    ensures size { length room.new ≡ length room.old }
+{
+    room[..bytes.len()].copy_from_slice(bytes);
+}
+
+/// Drops the first of these bytes, so many. The room stays.
+pub(crate) fn drop_first(bytes: &mut Vec<u8>, count: usize)
+    requires { count ≤ length bytes.old.items }
+    ensures items { bytes.new.items ≡ drop count bytes.old.items }
+    ensures room { vec_capacity bytes.new ≡ vec_capacity bytes.old }
+{
+    bytes.rotate_left(count);
+    bytes.truncate(bytes.len() - count);
+}
+
+/// How long the first line of these bytes is, with its line feed; all bytes where none ends.
+pub(crate) fn first_line(bytes: &[u8]) -> usize
+    ensures value { result ≡ due_length bytes.now }
+    ensures within { result ≤ length bytes.now }
+{
+    match first_feed(bytes) {
+        Some(at) => at + 1,
+        None => bytes.len(),
     }
 }
 

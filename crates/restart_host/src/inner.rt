@@ -1,9 +1,11 @@
 // Calls on the host below, which are done again where they fail.
-ghost use Rattle.std.specs.Prelude.{◌≡◌, ◌<◌, ℕ, List, true, false, length, map, string_bytes, is_ok, OnOk, OnErr};
+ghost use Rattle.std.specs.Prelude.{◌≡◌, ◌<◌, ℕ, List, [], true, false, length, map, string_bytes, is_ok, OnOk, OnErr};
 ghost use Rattle.io_world.specs.Leads.{wants_memory};
 ghost use Rattle.io_world.specs.declared.host.TheConstants.{CHILDREN};
 ghost use Rattle.restart_host.specs.Kept.{IsFallen, IsKeptChild, OnlyLives};
+ghost use Rattle.restart_host.specs.Steps.{BringsTo, IsFetching, IsReviving, IsSending};
 ghost use Rattle.restart_host.specs.Tries.{CalledInner, Spends, Tried, refusals, seen_by_host};
+ghost use Rattle.restart_host.specs.Uses.{IsEnding};
 
 use crate::kept::{Kept, Life};
 use io_world::{Host, HostFault, send_all};
@@ -36,7 +38,7 @@ pub(crate) fn end<H: Host>(host: &mut H, life: &mut Life, child: u8)
     ensures fallen { IsFallen life.new }
     ensures called { (words : List (List ℕ)) → CalledInner child words H.last
         (seen_by_host H.running H.faults H.log host.old)
-        (seen_by_host H.running H.faults H.log host.new) 0 }
+        (seen_by_host H.running H.faults H.log host.new) 0 (IsEnding child) }
     ensures leads { H.leads host.old host.new false }
 {
     let alive = life.alive;
@@ -57,7 +59,7 @@ fn send<H: Host>(host: &mut H, child: u8, bytes: &[u8]) -> Result<(), HostFault>
     ensures called { (words : List (List ℕ)) → CalledInner child words H.last
         (seen_by_host H.running H.faults H.log host.old)
         (seen_by_host H.running H.faults H.log host.new)
-        (refusals result) }
+        (refusals result) (IsSending child bytes.now result) }
     ensures leads { H.leads host.old host.new (wants_memory result) }
 {
     match send_all(host, child, bytes) {
@@ -81,7 +83,8 @@ fn open<H: Host>(host: &mut H, child: u8, words: &[String], asked: &[u8]) -> Res
     ensures called { CalledInner child (map string_bytes words.now) H.last
         (seen_by_host H.running H.faults H.log host.old)
         (seen_by_host H.running H.faults H.log host.new)
-        (refusals result) }
+        (refusals result)
+        (IsReviving child (map string_bytes words.now) asked.now result) }
     ensures leads { H.leads host.old host.new (wants_memory result) }
 {
     match host.start(child, words) {
@@ -106,12 +109,13 @@ pub(crate) fn revive<H: Host>(
 ) -> Result<(), HostFault>
     requires number { child < CHILDREN }
     requires words { 0 < length words.now }
-    requires down { (life.old.alive ≡ false) × (H.running host.old child ≡ false) }
+    requires down { IsFallen life.old × (H.running host.old child ≡ false) }
     ensures up { (life.new.alive ≡ is_ok result) × (H.running host.new child ≡ is_ok result) }
+    ensures empty { (life.new.held ≡ []) × (life.new.due ≡ 0) }
     ensures tried { Tried child (map string_bytes words.now) H.last left.old left.new
         (seen_by_host H.running H.faults H.log host.old)
         (seen_by_host H.running H.faults H.log host.new)
-        result }
+        result (IsReviving child (map string_bytes words.now) asked.now result) }
     ensures leads { H.leads host.old host.new (wants_memory result) }
 {
     match open(host, child, words, asked) {
@@ -144,7 +148,7 @@ pub(crate) fn bring<H: Host>(
     ensures tried { Tried child (map string_bytes kept.old.words.items) H.last left.old left.new
         (seen_by_host H.running H.faults H.log host.old)
         (seen_by_host H.running H.faults H.log host.new)
-        result }
+        result (BringsTo child bytes.now kept.old kept.new result) }
     ensures leads { H.leads host.old host.new (wants_memory result) }
 {
     if !kept.life.alive {
@@ -169,6 +173,7 @@ pub(crate) fn bring<H: Host>(
 /// Those of a read. The child doesn't run then, and what was held of it is dropped.
 fn hear<H: Host>(host: &mut H, life: &mut Life, child: u8) -> Result<(), HostFault>
     requires number { child < CHILDREN }
+    requires due { life.old.due ≡ 0 }
     requires alive { (life.old.alive ≡ true) × (H.running host.old child ≡ true) }
     ensures up { (life.new.alive ≡ is_ok result) × (H.running host.new child ≡ is_ok result) }
     ensures due { OnOk result (0 < life.new.due) }
@@ -176,10 +181,10 @@ fn hear<H: Host>(host: &mut H, life: &mut Life, child: u8) -> Result<(), HostFau
     ensures called { (words : List (List ℕ)) → CalledInner child words H.last
         (seen_by_host H.running H.faults H.log host.old)
         (seen_by_host H.running H.faults H.log host.new)
-        (refusals result) }
+        (refusals result)
+        (λ events. (asked : List ℕ) → IsFetching child asked life.old life.new result events) }
     ensures leads { H.leads host.old host.new (wants_memory result) }
 {
-    life.due = 0;
     match life.held.hear(host, child) {
         Ok(()) => {
             life.due = life.held.first_line();
@@ -198,13 +203,15 @@ fn hear<H: Host>(host: &mut H, life: &mut Life, child: u8) -> Result<(), HostFau
 /// # Errors
 /// As `revive`.
 fn wake<H: Host>(host: &mut H, left: &mut u32, kept: &mut Kept, child: u8) -> Result<(), HostFault>
+    requires due { kept.old.life.due ≡ 0 }
     requires runs { IsKeptChild child (H.running host.old) kept.old true }
     ensures up { (kept.new.life.alive ≡ is_ok result) × (H.running host.new child ≡ is_ok result) }
+    ensures due { OnOk result (kept.new.life.due ≡ 0) }
     ensures kept { OnlyLives kept.old kept.new }
     ensures tried { Tried child (map string_bytes kept.old.words.items) H.last left.old left.new
         (seen_by_host H.running H.faults H.log host.old)
         (seen_by_host H.running H.faults H.log host.new)
-        result }
+        result (IsFetching child kept.old.asked.items kept.old.life kept.new.life result) }
     ensures leads { H.leads host.old host.new (wants_memory result) }
 {
     if kept.life.alive {
@@ -230,7 +237,7 @@ pub(crate) fn fetch<H: Host>(
     ensures tried { Tried child (map string_bytes kept.old.words.items) H.last left.old left.new
         (seen_by_host H.running H.faults H.log host.old)
         (seen_by_host H.running H.faults H.log host.new)
-        result }
+        result (IsFetching child kept.old.asked.items kept.old.life kept.new.life result) }
     ensures leads { H.leads host.old host.new (wants_memory result) }
 {
     if kept.life.due > 0 {

@@ -1,7 +1,10 @@
 // What is kept of a child.
-ghost use Rattle.std.specs.Prelude.{◌≡◌, ◌<◌, ◌≤◌, ◌+◌, [], true, false, length, drop, map, string_bytes, vec_len, IfOk};
+ghost use Rattle.std.specs.Io.BufRead.{ends_with_byte};
+ghost use Rattle.std.specs.List.{after_first};
+ghost use Rattle.std.specs.Prelude.{◌≡◌, ◌<◌, ◌≤◌, ◌+◌, [], true, false, if◌then◌else◌, length, take, drop, map, string_bytes, vec_len, IfOk};
+ghost use Rattle.gen_lines.specs.Lines.{is_feed};
 
-use crate::held::Held;
+use crate::held::{Held, drop_first, first_line};
 use std::alloc::{AllocError, Global};
 
 /// What is kept of a child since it was last started in the host below.
@@ -15,6 +18,7 @@ pub(crate) struct Life {
     /// ends.
     pub(crate) due: usize,
     ghost due_in: { due ≤ length held },
+    ghost none: { alive ≡ false → held ≡ [] },
 }
 
 impl Life {
@@ -39,9 +43,9 @@ impl Life {
         ensures held { self.new.held ≡ [] }
         ensures due { self.new.due ≡ 0 }
     {
-        self.alive = false;
         self.due = 0;
         self.held.clear();
+        self.alive = false;
     }
 }
 
@@ -87,6 +91,9 @@ impl Kept {
         ensures alive { self.new.life.alive ≡ self.old.life.alive }
         ensures held { self.new.life.held ≡ drop count self.old.life.held }
         ensures due { self.old.life.due ≡ self.new.life.due + count }
+        ensures asked { self.new.asked.items
+            ≡ (if ends_with_byte 10 (take count self.old.life.held)
+            then after_first is_feed self.old.asked.items else self.old.asked.items) }
     {
         let ends = self.life.held.as_slice()[count - 1] == b'\n';
         self.life.due -= count;
@@ -98,12 +105,11 @@ impl Kept {
 
     /// Takes the first of the requests without an answer away.
     fn answer_first(&mut self)
-        ensures { self.new ≡ record self.old { asked = self.new.asked } }
+        ensures rest { self.new ≡ record self.old { asked = self.new.asked } }
+        ensures asked { self.new.asked.items ≡ after_first is_feed self.old.asked.items }
     {
-        let first = self.asked.iter().position(|byte| *byte == b'\n');
-        let count = first.map_or(self.asked.len(), |at| at + 1);
-        self.asked.rotate_left(count);
-        self.asked.truncate(self.asked.len() - count);
+        let count = first_line(&self.asked);
+        drop_first(&mut self.asked, count);
     }
 }
 

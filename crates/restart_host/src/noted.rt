@@ -1,13 +1,15 @@
 // Calls on a child that are done on the host below and noted.
-ghost use Rattle.std.specs.Prelude.{◌≡◌, ◌<◌, ◌≤◌, ◌+◌, ℕ, List, true, false, length, map, string_bytes, vec_len, is_ok, Ok, IfOk, OnOk};
+ghost use Rattle.std.specs.Prelude.{◌≡◌, ◌<◌, ◌≤◌, ◌+◌, ◌++◌, ℕ, List, true, false, length, map, take, string_bytes, vec_len, is_ok, Ok, IfOk, OnOk, MatchResult};
 ghost use Rattle.io_world.specs.Faults.{last_count, Counts};
 ghost use Rattle.io_world.specs.Leads.{wants_memory};
 ghost use Rattle.io_world.specs.Logs.{Notes};
 ghost use Rattle.io_world.specs.Talks.{given, heard, started, stopped, wrote};
 ghost use Rattle.io_world.specs.declared.host.HostFault.TheVariants.{Failed};
-ghost use Rattle.restart_host.specs.Kept.{IsKeptChild};
+ghost use Rattle.restart_host.specs.Kept.{IsKeptChild, IsNew};
 ghost use Rattle.restart_host.specs.Noted.{IsLed, IsCallNoted, counted};
+ghost use Rattle.restart_host.specs.Steps.{GivesBytes, HandsOut, IsBringing};
 ghost use Rattle.restart_host.specs.Tries.{CalledInner, Tried, refusals, seen_by_host};
+ghost use Rattle.restart_host.specs.Uses.{AreStarts, IsEnding};
 
 use crate::inner::{bring, end, fetch, revive};
 use crate::kept::Kept;
@@ -52,12 +54,14 @@ pub(crate) fn start_child<H: Host>(
     requires idle { IsKeptChild child (H.running host.old) kept.old false }
     ensures runs { IsKeptChild child (H.running host.new) kept.new (is_ok result) }
     ensures room { (log.old.kept ≤ log.new.kept) × OnOk result (log.new.kept ≡ log.old.kept + 1) }
+    ensures fresh { OnOk result (IsNew (map string_bytes words.items) kept.new) }
     ensures noted { IsCallNoted log.old log.new
         (started child (map string_bytes words.items) result) result }
     ensures tried { Tried child (map string_bytes words.items) H.last left.old left.new
         (seen_by_host H.running H.faults H.log host.old)
         (seen_by_host H.running H.faults H.log host.new)
-        result }
+        result (λ events. log.new.whole ≡ true
+        → AreStarts child (map string_bytes words.items) result events) }
     ensures leads { IsLed (H.leads host.old host.new) (wants_memory result) }
 {
     let Ok(()) = log.keep() else {
@@ -92,12 +96,17 @@ pub(crate) fn write_child<H: Host>(
     requires runs { IsKeptChild child (H.running host.old) kept.old true }
     ensures runs { IsKeptChild child (H.running host.new) kept.new true }
     ensures all { IfOk result (λ n. n ≡ length bytes.now) }
+    ensures words { kept.new.words ≡ kept.old.words }
+    ensures asked { MatchResult result
+        (λ _. kept.new.asked.items ≡ kept.old.asked.items ++ bytes.now)
+        (λ _. kept.new.asked.items ≡ kept.old.asked.items) }
     ensures noted { (log.new.kept ≡ log.old.kept)
         × IsCallNoted log.old log.new (wrote child bytes.now result) result }
     ensures tried { Tried child (map string_bytes kept.old.words.items) H.last left.old left.new
         (seen_by_host H.running H.faults H.log host.old)
         (seen_by_host H.running H.faults H.log host.new)
-        result }
+        result (λ events. log.new.whole ≡ true
+        → IsBringing child kept.old.asked.items bytes.now kept.old.life kept.new.life result events) }
     ensures leads { IsLed (H.leads host.old host.new) (wants_memory result) }
 {
     let before = kept.asked.len();
@@ -133,13 +142,15 @@ pub(crate) fn read_child<H: Host>(
     requires runs { IsKeptChild child (H.running host.old) kept.old true }
     ensures runs { IsKeptChild child (H.running host.new) kept.new true }
     ensures count { IfOk result (λ n. (0 < n) × (n ≤ length room.new)) }
+    ensures words { kept.new.words ≡ kept.old.words }
     ensures noted { (log.new.kept ≡ log.old.kept)
         × IsCallNoted log.old log.new
         (heard child (length room.old) (given result room.new)) result }
     ensures tried { Tried child (map string_bytes kept.old.words.items) H.last left.old left.new
         (seen_by_host H.running H.faults H.log host.old)
         (seen_by_host H.running H.faults H.log host.new)
-        result }
+        result (λ events. log.new.whole ≡ true
+        → GivesBytes child kept.old kept.new (given result room.new) events) }
     ensures leads { IsLed (H.leads host.old host.new) (wants_memory result) }
 {
     match fetch(host, left, kept, child) {
@@ -158,7 +169,8 @@ pub(crate) fn read_child<H: Host>(
 fn give(log: &mut CallLog, kept: &mut Kept, child: u8, room: &mut [u8]) -> Result<usize, HostFault>
     requires some { (0 < length room.old) × (0 < kept.old.life.due) }
     ensures count { IfOk result (λ n. (0 < n) × (n ≤ length room.new)) }
-    ensures kept { (kept.new.running ≡ kept.old.running)
+    ensures hands { IfOk result (λ n. HandsOut n kept.old kept.new (take n room.new)) }
+    ensures kept { (kept.new.running ≡ kept.old.running) × (kept.new.words ≡ kept.old.words)
         × (kept.new.life.alive ≡ kept.old.life.alive) }
     ensures quiet { refusals result ≡ 0 }
     ensures noted { (log.new.kept ≡ log.old.kept)
@@ -186,7 +198,7 @@ pub(crate) fn stop_child<H: Host>(host: &mut H, log: &mut CallLog, kept: &mut Ke
         × Notes log.old log.new (stopped child (Ok tt)) }
     ensures called { (words : List (List ℕ)) → CalledInner child words H.last
         (seen_by_host H.running H.faults H.log host.old)
-        (seen_by_host H.running H.faults H.log host.new) 0 }
+        (seen_by_host H.running H.faults H.log host.new) 0 (IsEnding child) }
     ensures leads { H.leads host.old host.new false }
 {
     end(host, &mut kept.life, child);

@@ -1,9 +1,11 @@
 // Children that are started again where they fail.
 ghost use Rattle.std.proofs.Common.{lit≤};
-ghost use Rattle.std.specs.Prelude.{◌≡◌, ◌<◌, ◌≤◌, ℕ, false, count_by, vec_len};
+ghost use Rattle.std.proofs.Props.{props};
+ghost use Rattle.std.specs.Prelude.{◌≡◌, ◌<◌, ◌≤◌, ℕ, true, false, count_by, vec_len};
 ghost use Rattle.io_world.specs.Faults.{last_count};
 ghost use Rattle.io_world.specs.Logs.{calls_spell, no_calls, said_of, told_of};
 ghost use Rattle.restart_host.specs.Kept.{is_alive, is_on, runs_outside};
+ghost use Rattle.restart_host.specs.Tied.{IsTied};
 
 use crate::idle::IdleChildren;
 use crate::kept::{Kept, copy_words};
@@ -28,6 +30,7 @@ pub struct RestartHost<'a, H: Host> {
     ghost ties: { (k : ℕ) → H.running host.now k ≡ is_alive children.items k },
     ghost room: { count_by is_on children.items ≤ log.kept },
     ghost over: { 0 < faults → left ≡ 0 },
+    ghost tied: { log.whole ≡ true → IsTied children.items log.events (H.log host.now) } by { Prim.hlevel props },
 }
 
 impl<'a, H: Host> RestartHost<'a, H> {
@@ -42,8 +45,8 @@ impl<'a, H: Host> RestartHost<'a, H> {
         requires idle { (k : ℕ) → H.running host.old k ≡ false }
         ensures same { result.host.ghost_name ≡ host.entry.ghost_name }
         ensures now { result.host.now ≡ host.old }
-        ensures left { result.left ≡ restarts }
-        ensures fresh { (result.log ≡ no_calls) × (result.faults ≡ 0) }
+        ensures left { (result.left ≡ restarts) × (result.faults ≡ 0) }
+        ensures log { result.log ≡ no_calls }
         ensures idle { (k : ℕ) → runs_outside result.children.items k ≡ false }
     {
         let IdleChildren { items } = children;

@@ -4,11 +4,12 @@ use Rattle.std.proofs.lemmas.List.{append-nil, append_cancel_right}
 use Rattle.gen_lines.specs.Lines.{lines_of}
 use Rattle.gen_lines.specs.Reply as reply
 use Rattle.gen_lines.specs.Reply.{Reply, reply_of}
-use Rattle.io_world.specs.Talks.{Event, silence, spelled}
+use Rattle.io_world.specs.Talks.{Event, Talk, silence, spelled}
 use Rattle.lemmas.proofs.Members.{from_take, place_of}
 use Rattle.pools.specs.Pools.{Workers}
+use Rattle.restart_host.proofs.CourseLemmas.{moment_spelled}
+use Rattle.restart_host.specs.Lives.{lines_from, lines_to, moment_by, moment_of}
 use Rattle.restart_runs.specs.Again.{AreCallsAgain, Answered, FollowsAgain}
-use Rattle.restart_runs.specs.Lives.{lines_from, lines_to}
 use Rattle.restart_runs.specs.Tabled.{SpeakAgain}
 use Rattle.round_run.specs.Dialogue.{Request, replies_of, requests_of, wanted_by, workers_in}
 use Rattle.session_core.specs.Slots.{replied_entry}
@@ -43,16 +44,18 @@ reply_tells m n (reply.bad why) e is to = absurd (cc)
 
 -- the lines of a child at a moment that is told otherwise
 asked_there : (was now past front : List Event) (r : Request) (place : ℕ) (request : List ℕ) → was ++ now ≡ past ++ front
-    → request ≡ line_of_request r → slice_get (lines_to r.child (was ++ now)) place ≡ Some request
+    → request ≡ line_of_request r → slice_get (lines_to (moment_by r.child (moment_of r.child was) now)) place ≡ Some request
     → slice_get (lines_of (spelled r.child silence (past ++ front)).written) place ≡ Some (line_of_request r)
 asked_there was now past front r place request moment line asked =
-    ap (λ list. slice_get (lines_to r.child list) place) (sym moment) ∙ asked ∙ ap Some line
+    ap (λ list. slice_get (lines_of (spelled r.child silence list).written) place) (sym moment)
+    ∙ ap (λ (talk : Talk). slice_get (lines_of talk.written) place) (sym (moment_spelled r.child was now)) ∙ asked ∙ ap Some line
 
 said_there : (was now past front : List Event) (r : Request) (place : ℕ) (line : List ℕ) → was ++ now ≡ past ++ front
-    → slice_get (lines_from r.child (was ++ now)) place ≡ Some line
+    → slice_get (lines_from (moment_by r.child (moment_of r.child was) now)) place ≡ Some line
     → slice_get (lines_of (spelled r.child silence (past ++ front)).heard) place ≡ Some line
 said_there was now past front r place line moment said =
-    ap (λ list. slice_get (lines_from r.child list) place) (sym moment) ∙ said
+    ap (λ list. slice_get (lines_of (spelled r.child silence list).heard) place) (sym moment)
+    ∙ ap (λ (talk : Talk). slice_get (lines_of talk.heard) place) (sym (moment_spelled r.child was now)) ∙ said
 
 module _ (task : Task) (head : Head) where
   -- the calls by which the entry at a place came: which calls and which entries came before
@@ -133,16 +136,16 @@ module _ (task : Task) (head : Head) where
         let small : asks_of (take j entries) ≤ MOST_CALLS = omega (arith, asks_front entries j, few) in
         let asks = (reads head.version task pools (take j entries) fit front small k r next).asks in
         let own = request_at task pools [] (take j entries) k r next in
-        let place = a.fetches.place in
-        let line : a.fetches.asked.request ≡ line_of_request r =
-        append_cancel_right a.fetches.asked.request (line_of_request r) (10 ∷ []) a.fetches.asked.spelt in
+        let place = a.fetches.fetched.place in
+        let line : a.fetches.fetched.asked.request ≡ line_of_request r =
+        append_cancel_right a.fetches.fetched.asked.request (line_of_request r) (10 ∷ []) a.fetches.fetched.asked.spelt in
         let moment : called.was ++ called.now ≡ past ++ (called.front ++ called.now) =
         ap (λ list. list ++ called.now) called.was_is ∙ append_assoc past called.front called.now in
         let speaks : reply_of a.line (wanted_by task head.version r) ≡ answers r.call r.turn =
         speak r.child (called.front ++ called.now) called.later called.cut place (line_of_request r) a.line (asking_by r)
-        (asked_there called.was called.now past (called.front ++ called.now) r place a.fetches.asked.request moment line a.fetches.asked.at)
+        (asked_there called.was called.now past (called.front ++ called.now) r place a.fetches.fetched.asked.request moment line a.fetches.fetched.asked.at)
         asks
-        (said_there called.was called.now past (called.front ++ called.now) r place a.line moment a.fetches.said) in
+        (said_there called.was called.now past (called.front ++ called.now) r place a.line moment a.fetches.fetched.said.at) in
         record {
           request = r;
           place = own.place;

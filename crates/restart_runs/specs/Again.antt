@@ -2,12 +2,12 @@
 use Rattle.std.specs.Prelude.{◌≡◌, ℕ, List, [], ◌∷◌, ◌++◌, length, map, replicate, slice_get, string_bytes, Option, None, Some, Err, ⊤}
 use Rattle.std.specs.List.{All, find}
 use Rattle.gen_lines.specs.Reply.{reply_of}
-use Rattle.io_world.specs.Talks.{Event, started, silence, spelled}
+use Rattle.io_world.specs.Talks.{Event, started}
 use Rattle.io_world.specs.declared.host.HostFault.TheVariants.{Failed}
 use Rattle.pools.specs.Pools.{child_for}
-use Rattle.restart_runs.specs.Lives.{Brings, Fetches}
+use Rattle.restart_host.specs.Lives.{Brings, Fetches, moment_of}
 use Rattle.round_run.specs.Calls.{IsStop, has_child, next_request, starts_before}
-use Rattle.round_run.specs.Dialogue.{IsShortAt, Request, called_stream, last_round, replies_of, requests_of, text_of_request, wanted_by, workers_in}
+use Rattle.round_run.specs.Dialogue.{Request, called_stream, last_round, replies_of, requests_of, text_of_request, wanted_by, workers_in}
 use Rattle.session_core.specs.Slots.{replied_entry}
 use Rattle.task_model.specs.declared.task.Task.{Task}
 use Rattle.transcript_model.specs.Legal.{asks_of}
@@ -26,14 +26,14 @@ abbrev pub words_for : List Pool → ℕ → List (List ℕ)
 words_for pools child = words_in (find (has_child child) pools)
 
 -- The answer that comes next is what a line says that was fetched by these tries: it stands at the place of its request
--- in one life of the child, with at most 1,024 bytes as it came.
+-- in one life of the child.
 pub record Answered (task : Task) (head : Head) (past : List Event) (before : List Entry) (e : Entry)
     (tries : List Event) : Type 0 where
   pub request : Request
   pub next : slice_get (requests_of task (workers_in head) before) (length (replies_of before)) ≡ Some request
   pub line : List ℕ
-  pub fetches : Fetches request.child (words_for head.pools request.child) (text_of_request request) line past tries
-  pub short : IsShortAt (spelled request.child silence (past ++ tries)).heard fetches.place
+  pub fetches : Fetches request.child (words_for head.pools request.child) (text_of_request request) line
+      (moment_of request.child past) tries
   pub says : replied_entry request.number (reply_of line (wanted_by task head.version request)) ≡ Some e
 
 module _ (task : Task) (head : Head) where
@@ -42,8 +42,8 @@ module _ (task : Task) (head : Head) where
   abbrev pub AreCallsAgain : List Event → List Entry → Entry → List Event → Type 0
   AreCallsAgain past before (entry.Ask number turn call) events =
       let child : ℕ = child_for (workers_in head) (last_round task [] before) (called_stream task call) in
-      Brings child (words_for head.pools child)
-      (text_of_request (next_request task (workers_in head) before number turn call)) past events
+      Brings child (words_for head.pools child) []
+      (text_of_request (next_request task (workers_in head) before number turn call)) (moment_of child past) events
   AreCallsAgain past before (entry.Got number tuples values) events =
       Answered task head past before (entry.Got number tuples values) events
   AreCallsAgain past before (entry.Value number value) events =

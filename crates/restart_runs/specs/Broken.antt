@@ -2,10 +2,10 @@
 use Rattle.std.specs.Prelude.{◌≡◌, ◌⊎◌, ℕ, suc, ◌<◌, List, [], ◌∷◌, ◌++◌, length, replicate, slice_get, take, Option, None, Some, ⊤}
 use Rattle.std.specs.List.{All}
 use Rattle.gen_lines.specs.declared.answer.Why.{Why}
-use Rattle.io_world.specs.Talks.{Event, silence, spelled}
+use Rattle.io_world.specs.Talks.{Event}
+use Rattle.restart_host.specs.Lives.{AreBringing, AreFetching, IsAskedAt, moment_of}
 use Rattle.restart_host.specs.Tries.{failures}
 use Rattle.restart_runs.specs.Again.{AreBegun, FollowsAgain, refused_start, words_for}
-use Rattle.restart_runs.specs.Lives.{AreBringing, AreFetching, IsAskedAt}
 use Rattle.round_run.specs.Calls.{IsStop, starts_of}
 use Rattle.round_run.specs.Dialogue.{IsBadLine, Request, replies_of, requests_of, text_of_request, wanted_by, workers_in}
 use Rattle.round_run.specs.declared.fault.RunFault.{RunFault}
@@ -34,21 +34,23 @@ module _ (task : Task) (head : Head) (past : List Event) (before : List Entry) (
     pub request : Request
     pub next : requests_of task (workers_in head) (before ++ entry ∷ [])
         ≡ requests_of task (workers_in head) before ++ request ∷ []
-    pub bringing : AreBringing request.child (words_for head.pools request.child) (text_of_request request) past calls
+    pub bringing : AreBringing request.child (words_for head.pools request.child) [] (text_of_request request)
+        (moment_of request.child past) calls
 
   -- Tries to fetch what is said to the next request that has no answer.
   pub record FetchesNext : Type 0 where
     pub request : Request
     pub next : slice_get (requests_of task (workers_in head) before) (length (replies_of before)) ≡ Some request
-    pub fetching : AreFetching request.child (words_for head.pools request.child) (text_of_request request) past calls
+    pub fetching : AreFetching request.child (words_for head.pools request.child) (text_of_request request)
+        (moment_of request.child past) calls
 
   -- It was fetched, and is no answer, for this cause: it stands at the place of its request in one life of the child.
   pub record FetchesBad (number : ℕ) (why : Why) : Type 0 where
     pub fetches : FetchesNext
     pub numbered : fetches.request.number ≡ number
     pub place : ℕ
-    pub asked : IsAskedAt fetches.request.child (text_of_request fetches.request) place (past ++ calls)
-    pub bad : IsBadLine (spelled fetches.request.child silence (past ++ calls)).heard place
+    pub asked : IsAskedAt (text_of_request fetches.request) place (moment_of fetches.request.child (past ++ calls))
+    pub bad : IsBadLine (moment_of fetches.request.child (past ++ calls)).talk.heard place
         (wanted_by task head.version fetches.request) why
 
   -- The calls, behind those of the entries, of one entry that doesn't stand in the transcript: none where the sink

@@ -1,5 +1,4 @@
 pub mod Again
 pub mod Broken
 pub mod Laws
-pub mod Lives
 pub mod Tabled
