@@ -114,7 +114,7 @@ module _ (words : List (List ℕ)) (outside : Outside) (Same : Type 0) where
   ends_ok written status s = record {
     heard = s.heard;
     ends = ends_completed words (hearing outside.files s.heard) Same written status s.completed;
-    by = heard_weaker (restarts_in words) (λ is. absurd (cc (is))) s.by;
+    by = heard_weaker (restarts_in words) _ _ _ _ (λ is. absurd (cc (is))) s.by;
   }
 
   -- the sink failed
@@ -123,7 +123,7 @@ module _ (words : List (List ℕ)) (outside : Outside) (Same : Type 0) where
   ends_cut written why other s = record {
     heard = s.heard;
     ends = ends_written words (hearing outside.files s.heard) Same written why other s.stopped;
-    by = heard_weaker (restarts_in words)
+    by = heard_weaker (restarts_in words) _ _ _ _
         (λ is. absurd (let both : true ≡ false = sym other ∙ ap is_write (same_err is) in cc)) s.by;
   }
 
@@ -137,7 +137,7 @@ module _ (words : List (List ℕ)) (outside : Outside) (Same : Type 0) where
       record {
         heard = s.heard;
         ends = to.0;
-        by = heard_weaker (restarts_in words) (λ is. to.1 (same_err is)) s.by;
+        by = heard_weaker (restarts_in words) _ _ _ _ (λ is. to.1 (same_err is)) s.by;
       }
 
 -- ---- where all goes well
@@ -157,7 +157,7 @@ module _ {words : List (List ℕ)} {outside : Outside} {Same host_rose sink_rose
       → CompletesBy words outside host_rose sink_rose status
   completes_by s status lacks c = record {
     heard = s.heard;
-    by = heard_weaker (restarts_in words) lacks s.by;
+    by = heard_weaker (restarts_in words) _ _ _ _ lacks s.by;
     completes = c;
   }
 

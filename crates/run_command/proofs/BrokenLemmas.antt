@@ -1,5 +1,5 @@
 -- A fault of a generator has a call that failed.
-use Rattle.std.proofs.Common.{◌≡◌, ◌⊎◌, ℕ, ◌<◌, ◌+◌, ◌≤◌, arith, true, cond, drop, take, List, [], ◌∷◌, ◌++◌, append_assoc, count_by, Option, Some, None, Ok, Err, refl, sym, subst, ap, ◌∙◌, inl, inr}
+use Rattle.std.proofs.Common.{◌≡◌, ◌⊎◌, ℕ, ◌<◌, ◌+◌, ◌≤◌, arith, true, cond, drop, take, List, [], ◌∷◌, ◌++◌, append_assoc, count_by, Option, Some, None, Result, Ok, Err, refl, sym, subst, ap, ◌∙◌, inl, inr}
 use Rattle.io_world.specs.Talks.{Event, LogGrows, Talk, heard, started, wrote}
 use Rattle.io_world.specs.declared.host.HostFault.{HostFault}
 use Rattle.io_world.specs.declared.host.HostFault.TheVariants as host
@@ -113,7 +113,7 @@ module _ (task : Task) (head : Head) (Front : List Entry → Type 0) where
     log = tt;
     some = last_failed [] (started 0 [] (Err host.Failed)) refl;
   }
-  log_failed entries old (Some after) (events, stops, is, all, past, done, told, cut, parts) = record {
+  log_failed entries old (Some after) (events, stops, is, all, (past, done, told, cut, parts)) = record {
     events = done ++ stops;
     log = (past, told, is ∙ ap (λ es. es ++ stops) cut ∙ append_assoc past done stops);
     some = behind_failed done stops (of parts);

@@ -7,15 +7,14 @@ use Rattle.command_files.specs.declared.stop.Stop.{Stop}
 use Rattle.command_files.specs.declared.stop.Stop.TheVariants as stop
 use Rattle.command_line.specs.Words.{SolveWords}
 use Rattle.io_world.specs.Talks.{Event, LogGrows, Talk}
-use Rattle.round_run.proofs.CallsRunLemmas.{stops_none}
 use Rattle.round_run.proofs.StoppedLemmas.{handed_err, same_err}
-use Rattle.round_run.specs.Calls.{LogStops}
 use Rattle.round_run.specs.declared.fault.RunFault.{RunFault}
 use Rattle.round_run.specs.declared.fault.RunFault.TheVariants as fault
 use Rattle.turn_run.specs.declared.whole_run.Ran.{Ran}
-use Rattle.run_command.proofs.RestartsLemmas.{heard_plain, heard_silent, heard_weaker, silent, silent_same}
+use Rattle.run_command.proofs.RestartsLemmas.{heard_plain, heard_silent, silent, silent_stops}
 use Rattle.run_command.specs.Heard.{Heard, IsHeard, hearing, heard_in}
-use Rattle.run_command.specs.Solving.{HasNoReport, IsReportedBy, Lacks}
+use Rattle.run_command.specs.Solving.{HasNoReport, IsReportedBy, IsSolved, Lacks}
+use Rattle.run_command.specs.Works.{made_words}
 
 -- what was written where nothing was
 abbrev unwritten : Option (List ℕ) → Written
@@ -32,8 +31,7 @@ unread_report asked files spoken log Same sink r why handed nothing =
       solved = tt;
       failed = inl (record {
         cause = nothing;
-        none = subst (LogStops (silent asked.restarts spoken log).was) (sym (silent_same asked.restarts spoken log))
-            (stops_none (silent asked.restarts spoken log).was);
+        none = silent_stops asked.restarts spoken log;
         nothing = refl;
       });
     })
@@ -52,3 +50,18 @@ lacks_handed f is = ap (λ e. Err (stop.Run e)) (same_err is)
 -- the fault of a run is the run's
 pub handed_run : {T : Type 0} (f bad : RunFault) → (let r : Result T Stop = Err (stop.Run f) in IsErrOf r (stop.Run bad)) → f ≡ bad
 handed_run f bad is = let same = same_err is in cc
+
+-- ---- the task of a number
+
+module _ (w : SolveWords) (same : w ≡ made_words) (outside : Outside) (Same : Type 0) (written : Written) where
+  -- no failure is made good, so that what was heard is what the host tells
+  heard_made : (Lacked : Type 0) (below heard : Heard) → IsHeard w.restarts Lacked below heard → heard ≡ below
+  heard_made Lacked below heard by = heard_plain w.restarts Lacked below heard (ap (λ (x : SolveWords). x.restarts) same) by
+
+  pub made_solved : (ran : Ran) → (let r : Result Ran Stop = Ok ran in IsReportedBy w outside Same written r)
+      → IsSolved w (hearing outside.files (heard_in outside)) Same written ran
+  made_solved ran r = subst (λ h. IsSolved w (hearing outside.files h) Same written ran) (heard_made _ (heard_in outside) r.heard r.by) r.solved
+
+  pub made_failed : (why : Stop) → (let r : Result Ran Stop = Err why in IsReportedBy w outside Same written r)
+      → HasNoReport w (hearing outside.files (heard_in outside)) written why
+  made_failed why r = subst (λ h. HasNoReport w (hearing outside.files h) written why) (heard_made _ (heard_in outside) r.heard r.by) r.failed

@@ -10,7 +10,16 @@ use Rattle.restart_host.specs.Tries.{failures}
 use Rattle.round_run.specs.Led.{stops_for_memory}
 use Rattle.round_run.specs.declared.fault.RunFault.{RunFault}
 use Rattle.round_run.specs.declared.fault.RunFault.TheVariants.{Answer, Generator, Write, Memory}
-use Rattle.run_command.specs.Heard.{Heard, IsHeard, IsHeardAgain}
+use Rattle.round_run.proofs.CallsRunLemmas.{stops_none}
+use Rattle.round_run.specs.Calls.{LogStops}
+use Rattle.round_run.specs.Told.{Stretch}
+use Rattle.run_command.proofs.BrokenLemmas.{broken_failed}
+use Rattle.run_command.specs.Heard.{EndsHeard, Heard, IsHeard, IsHeardAgain, heard_over}
+use Rattle.task_model.specs.declared.task.Task.{Task}
+use Rattle.transcript_model.specs.declared.head.Head.{Head}
+use Rattle.turn_run.specs.Reporting.{EndsRun}
+use Rattle.turn_run.specs.Reports.{IsBroken}
+use Rattle.turn_run.specs.declared.whole_run.Ran.{Ran}
 
 -- what holds of a value holds of one that is the same
 pub moved : {A : Type 0} (P : A → Type 0) (a b : A) → a ≡ b → P b → P a
@@ -25,10 +34,10 @@ heard_again zero Lacked below heard some h = absurd (omega (arith, some))
 heard_again (suc more) Lacked below heard some h = h
 
 -- memory may be wanting in more cases
-pub heard_weaker : (restarts : ℕ) {Lacked Other : Type 0} {below heard : Heard} → (Lacked → Other)
+pub heard_weaker : (restarts : ℕ) (Lacked Other : Type 0) (below heard : Heard) → (Lacked → Other)
     → IsHeard restarts Lacked below heard → IsHeard restarts Other below heard
-heard_weaker zero weaker h = h
-heard_weaker (suc more) weaker h = record {
+heard_weaker zero Lacked Other below heard weaker h = h
+heard_weaker (suc more) Lacked Other below heard weaker h = record {
   calls = h.calls;
   spoken = h.spoken;
   was = h.was;
@@ -36,6 +45,7 @@ heard_weaker (suc more) weaker h = record {
   whole = λ not. h.whole (λ lacked. not (weaker lacked));
   events = h.events;
   log = h.log;
+  done = h.done;
 }
 
 -- a host on which no call is made
@@ -58,18 +68,25 @@ heard_silent (suc more) Lacked spoken log = record {
   whole = λ not. refl;
   events = [];
   log = extends_none log;
+  done = λ past after was now whole. ([], refl, refl);
 }
 
-pub silent_same : (restarts : ℕ) (spoken : ℕ → Option Talk) (log : Option (List Event))
+silent_same : (restarts : ℕ) (spoken : ℕ → Option Talk) (log : Option (List Event))
     → (silent restarts spoken log).now ≡ (silent restarts spoken log).was
 silent_same zero spoken log = refl
 silent_same (suc more) spoken log = refl
 
+pub silent_stops : (restarts : ℕ) (spoken : ℕ → Option Talk) (log : Option (List Event))
+    → LogStops (silent restarts spoken log).was (silent restarts spoken log).now
+silent_stops restarts spoken log =
+    subst (LogStops (silent restarts spoken log).was) (sym (silent_same restarts spoken log))
+    (stops_none (silent restarts spoken log).was)
+
 -- where none is made good it is what the host tells
-pub heard_plain : (restarts : ℕ) {Lacked : Type 0} {below heard : Heard} → restarts ≡ 0
+pub heard_plain : (restarts : ℕ) (Lacked : Type 0) (below heard : Heard) → restarts ≡ 0
     → IsHeard restarts Lacked below heard → heard ≡ below
-heard_plain zero none h = h
-heard_plain (suc more) none h = absurd (omega (arith, none))
+heard_plain zero Lacked below heard none h = h
+heard_plain (suc more) Lacked below heard none h = absurd (omega (arith, none))
 
 -- ---- failures
 
@@ -113,3 +130,22 @@ none_wanted (Err (Answer number why)) not = refl
 pub ok_with : {T E : Type 0} (P Q : T → Type 0) (r : Result T E) → ((x : T) → P x → Q x) → IfOk r P → IfOk r Q
 ok_with P Q (Ok x) f p = f x p
 ok_with P Q (Err e) f p = tt
+
+-- where no failure is made good
+pub plain_run : (restarts : ℕ) → restarts ≡ 0 → (task : Task) (head : Head) (c : Stretch) (r : Result Ran RunFault)
+    → (c.host.same → c.now.host.log ≡ c.was.host.log) → EndsRun task head c r → EndsHeard restarts task head c r
+plain_run restarts none task head c r log e = subst (λ n. EndsHeard n task head c r) (sym none) (record {
+  heard = heard_over c;
+  by = refl;
+  reported = e.reported;
+  broken = e.broken;
+  unneeded = ok_with _ _ r (λ ran still asked. (log (still asked), still asked)) e.unneeded;
+  idle = e.idle;
+  host = e.host;
+  many = λ is.
+      let failed = broken_failed task head c.now.host.spoken c.was.host.log c.now.host.log c.was.taken c.now.taken
+      (subst (λ (x : Result Ran RunFault). IfErr x (IsBroken task head c.now.host.spoken c.was.host.log c.now.host.log c.was.taken
+      c.now.taken)) is e.broken) in
+      record { rose = e.host.cause is; events = failed.events; log = failed.log; failed = failed.some };
+  sink = e.sink;
+})

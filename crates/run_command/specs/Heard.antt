@@ -5,7 +5,7 @@ use Rattle.io_world.specs.Logs.{Calls, said_of, told_of}
 use Rattle.io_world.specs.Talks.{Event, LogGrows, Talk}
 use Rattle.command_files.specs.Outside.{FilesSeen, Outside}
 use Rattle.command_line.specs.Words.{Command, command_of, solve}
-use Rattle.restart_host.specs.Leads.{RoseBy}
+use Rattle.restart_host.specs.Leads.{IsDoneBy, RoseBy}
 use Rattle.restart_host.specs.Tries.{failures}
 use Rattle.round_run.specs.Told.{Course, Stretch}
 use Rattle.round_run.specs.declared.fault.RunFault.{RunFault}
@@ -41,8 +41,9 @@ abbrev pub restarts_in : List (List ℕ) → ℕ
 restarts_in words = restarts_for (command_of words)
 
 -- What was heard of children that are started again where they fail (`heard`): it is what the host tells that starts
--- them, whose log begins with the run and has all its calls, unless memory was lacking; and what the host below tells
--- (`below`), whose log grew meanwhile.
+-- them, whose log begins with the run and has all its calls, unless memory was lacking. Where it has, and the host below
+-- tells its own (`below`), these calls were done there by those that came meanwhile: each request was brought, and each
+-- line fetched (`AreDone`).
 pub record IsHeardAgain (Lacked : Type 0) (below heard : Heard) : Type 0 where
   pub calls : Calls
   pub spoken : heard.spoken ≡ said_of calls
@@ -51,6 +52,8 @@ pub record IsHeardAgain (Lacked : Type 0) (below heard : Heard) : Type 0 where
   pub whole : ¬ Lacked → calls.whole ≡ true
   pub events : List Event
   pub log : LogGrows below.was below.now events
+  pub done : (past after : List Event) → below.was ≡ Some past → below.now ≡ Some after → calls.whole ≡ true
+      → IsDoneBy [] calls.events past events
 
 -- What a run heard of its children, and what their host tells: the same, where none is started again.
 abbrev pub IsHeard : (restarts : ℕ) → (Lacked : Type 0) → (below heard : Heard) → Type 0

@@ -1,6 +1,7 @@
-use Rattle.std.proofs.Common.{◌≡◌, ◌∙◌, ap, refl, [], Some}
+use Rattle.std.proofs.Common.{◌≡◌, ◌∙◌, ap, refl, subst, [], Some}
 use Rattle.io_world.specs.Logs.{Calls, said_of, told_of}
 use Rattle.restart_host.proofs.ChildrenLemmas.{idle_below}
+use Rattle.restart_host.specs.Leads.{IsDoneBy}
 use Rattle.round_run.specs.Told.{stretch}
 use Rattle.round_run.specs.declared.fault.RunFault.TheVariants.{Generator}
 use Rattle.run_command.proofs.RestartsLemmas.{caused_below, failed_more, heard_again, none_wanted, ok_with, rose_more}
@@ -18,15 +19,18 @@ returns-clause-ran g c =
       by = heard_again old.left _
           (heard_over (stretch g.H.Host g.O.Sink old.host.now new.host.now c.args.out.now c.run_in_mode.new.out)) _
           c.requires.some (record {
-        calls = new.log;
-        spoken = refl;
-        was = ap told_of c.requires.fresh.0;
-        now = refl;
-        whole = λ not. led.whole (e.led.quiet (none_wanted c.run_in_mode.result not))
-            ∙ ap (λ (l : Calls). l.whole) c.requires.fresh.0;
-        events = led.events;
-        log = led.log;
-      });
+            calls = new.log;
+            spoken = refl;
+            was = ap told_of c.requires.fresh.0;
+            now = refl;
+            whole = λ not. led.whole (e.led.quiet (none_wanted c.run_in_mode.result not))
+                ∙ ap (λ (l : Calls). l.whole) c.requires.fresh.0;
+            events = led.events;
+            log = led.log;
+            done = λ past after was now whole.
+                subst (λ es. IsDoneBy es new.log.events past led.events) (ap (λ (l : Calls). l.events) c.requires.fresh.0)
+                (led.done past after was now whole);
+          });
       reported = e.reported;
       broken = e.broken;
       unneeded = ok_with _ _ c.run_in_mode.result (λ ran still none.
