@@ -29,8 +29,8 @@ use Rattle.turn_run.specs.Turns.{IsTurn, cut_by}
 pub level_turn : (head : Head) (task : Task) (before now : List Entry) (cut : Bool) → head.mode ≡ Incremental
     → IsLevel (limits_of head) task before now cut
     → TurnOf head.mode (limits_of head) task nothing_kept before now nothing_kept cut
-level_turn head task before now cut mode level =
-    subst (λ (m : Mode). TurnOf m (limits_of head) task nothing_kept before now nothing_kept cut) (sym mode) (level, refl)
+level_turn head task before now cut mode whole =
+    subst (λ (m : Mode). TurnOf m (limits_of head) task nothing_kept before now nothing_kept cut) (sym mode) (whole, refl)
 
 -- a batch behind the line of a level is a level
 pub level_of : (head : Head) (task : Task) (before now after : List Entry) (asks later : ℕ) (dues : List Due) (b : Batch)
@@ -50,9 +50,9 @@ level_of head task before now after asks later dues b counted turn asked ends = 
 pub level_counts : (head : Head) (task : Task) (before after : List Entry) (b : Batch)
     → RunsLevel head task before after b
     → count_by is_level after ≡ count_by is_level before + 1
-level_counts head task before after b (now, pushed, level) =
-    let one = ap (count_by is_level) level.is ∙ count_head is_level entry.Level level.rest
-    ∙ ap (λ n. 1 + n) (rounds_none task _ level.batch.rounds level.rest level.batch.run) in
+level_counts head task before after b (now, pushed, whole) =
+    let one = ap (count_by is_level) whole.is ∙ count_head is_level entry.Level whole.rest
+    ∙ ap (λ n. 1 + n) (rounds_none task _ whole.batch.rounds whole.rest whole.batch.run) in
     ap (count_by is_level) pushed ∙ count_joined is_level before now ∙ ap (λ n. count_by is_level before + n) one
 
 -- ---- levels

@@ -4,11 +4,12 @@ use Rattle.std.specs.Result.{IfOk, OnOk}
 use Rattle.io_world.specs.Talks.{Talk}
 use Rattle.pools.specs.Pools.{AreFitPools}
 use Rattle.round_run.proofs.CallsRunLemmas.{runs_still}
+use Rattle.round_run.proofs.LedLemmas.{StillHost, alone, led_none}
 use Rattle.round_run.proofs.RollingFrontLemmas.{all_work}
 use Rattle.round_run.proofs.StoppedLemmas.{goes_none}
 use Rattle.round_run.specs.Desk.{AtDesk, OnTurn, RestsAt}
 use Rattle.round_run.specs.Resting.{Rests}
-use Rattle.round_run.specs.Told.{HostTold, Stretch, quiet}
+use Rattle.round_run.specs.Told.{Stretch}
 use Rattle.round_run.specs.declared.fault.RunFault.{RunFault}
 use Rattle.transcript_model.specs.Rounds.{Share, share_of}
 use Rattle.transcript_model.specs.declared.entry.Entry.{Entry}
@@ -20,17 +21,17 @@ all_working desk rests =
     all_work desk.head.pools (subst (AreFitPools desk.task) rests.works.of.pools rests.works.listens.session.pools).some
 
 -- nothing was done
-pub turn_still : {T : Type 0} (desk : AtDesk) (host : HostTold) (last : ℕ) (taken : Option (List ℕ)) (lost : ℕ)
-    (What : T → Type 0) (Front : List Entry → Type 0) (x : T) → RestsAt desk host → What x
-    → OnTurn desk desk (quiet last host taken taken lost lost) What Front (let r : Result T RunFault = Ok x in r)
-turn_still desk host last taken lost What Front x rests what = record {
+pub turn_still : {T : Type 0} (desk : AtDesk) (still : StillHost) (taken : Option (List ℕ)) (lost : ℕ)
+    (What : T → Type 0) (Front : List Entry → Type 0) (x : T) → RestsAt desk still.told → What x
+    → OnTurn desk desk (alone still taken taken lost lost) What Front (let r : Result T RunFault = Ok x in r)
+turn_still desk still taken lost What Front x rests what = record {
   same = record { task = refl; head = refl };
   holds = rests;
   ran = what;
   adds = record {
     goes = goes_none desk.state.entries taken;
     order = record {
-      runs = runs_still desk.task desk.head desk.state.entries host.log;
+      runs = runs_still desk.task desk.head desk.state.entries still.told.log;
       needed = inl refl;
       untouched = λ none. refl;
     };
@@ -41,6 +42,8 @@ turn_still desk host last taken lost What Front x rests what = record {
     host = record { later = omega arith; cause = λ is. absurd (cc) };
     sink = record { later = omega arith; cause = λ is. absurd (cc) };
   };
+  led = led_none still.leads;
+  still = λ none. still.same;
 }
 
 -- what was answered, with how the desk stands then
@@ -54,6 +57,8 @@ turn_resting {T} old new c What Front r goes = record {
   stopped = goes.stopped;
   state = goes.state;
   causes = goes.causes;
+  led = goes.led;
+  still = goes.still;
 }
   where
     by : (q : Result T RunFault) → IfOk q What → OnOk q (RestsAt new c.now.host) → IfOk q (λ y. What y × RestsAt new c.now.host)

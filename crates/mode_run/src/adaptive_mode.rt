@@ -1,15 +1,12 @@
 //! Adaptive mode.
+ghost use Rattle.mode_run.specs.OnDesk.{HasNoDreamAt, IsDreamAt, OnAdaptive};
 ghost use Rattle.std.specs.Prelude.{false};
-ghost use Rattle.mode_run.specs.Adaptive.{RanAdaptive};
 ghost use Rattle.mode_run.specs.Skeletons.{AreFewKept, KeepsOn, idle_with, kept_of};
-ghost use Rattle.mode_run.specs.Focusing.{BeginsFocusedTurn, HasCallLeft, IsDreamLine};
-ghost use Rattle.turn_run.specs.Advancing.{IsFrontOfTurn};
+ghost use Rattle.mode_run.specs.Focusing.{BeginsFocusedTurn, HasCallLeft};
 ghost use Rattle.turn_run.specs.Reporting.{EndsRun, MayRun};
-ghost use Rattle.round_run.specs.Desk.{OnTurn, RestsAt};
+ghost use Rattle.round_run.specs.Desk.{RestsAt};
 ghost use Rattle.round_run.specs.Told.{stretch, host_told};
 ghost use Rattle.skeletons.specs.Skeletons.{skeletons_in};
-ghost use Rattle.transcript_model.specs.Dreaming.{HasNoDreamAfter};
-ghost use Rattle.transcript_model.specs.Rounds.{limits_of};
 ghost use Rattle.transcript_model.specs.declared.head.Mode.TheVariants.{Adaptive};
 
 use crate::dreamless::without_dream;
@@ -45,16 +42,12 @@ impl AdaptiveTurns {
     ) -> Result<Turned, RunFault>
         requires keeps { KeepsOn desk.old.head (skeletons_in self.old.skeletons.items)
             desk.old.state }
-        requires rests { RestsAt desk.old (host_told H.running H.spoken H.log H.faults host.old) }
+        requires rests { RestsAt desk.old (host_told H.Host host.old) }
         requires room { HasCallLeft desk.old.head desk.old.state }
-        requires dream { IsDreamLine (limits_of desk.old.head) desk.old.task
-            desk.old.state.entries self.old.tried dream.line dream.entries.items }
-        ensures goes { OnTurn desk.old desk.new (stretch H.last H.running H.spoken H.log H.faults
-            O.taken O.faults host.old host.new out.old out.new)
-            (RanAdaptive desk.old.task desk.old.head self.old.skeletons.items self.old.tried
-            self.new.skeletons.items self.new.tried desk.old.state desk.new.state)
-            (IsFrontOfTurn desk.old.task desk.old.head
-            (kept_of self.old.skeletons.items self.old.tried) desk.old.state.entries) result }
+        requires dream { IsDreamAt desk.old self.old.tried dream }
+        ensures goes { OnAdaptive desk.old desk.new (stretch H.Host O.Sink host.old host.new out.old
+            out.new) self.old.skeletons.items self.old.tried self.new.skeletons.items self.new.tried
+            result }
     {
         let real = desk.session().facts().name_count();
         let place = self.skeletons.len();
@@ -72,16 +65,12 @@ impl AdaptiveTurns {
     ) -> Result<Turned, RunFault>
         requires keeps { KeepsOn desk.old.head (skeletons_in self.old.skeletons.items)
             desk.old.state }
-        requires rests { RestsAt desk.old (host_told H.running H.spoken H.log H.faults host.old) }
+        requires rests { RestsAt desk.old (host_told H.Host host.old) }
         requires begins { BeginsFocusedTurn desk.old.task desk.old.head desk.old.state dues.now }
-        requires none { HasNoDreamAfter (limits_of desk.old.head) desk.old.task
-            desk.old.state.entries self.old.tried }
-        ensures goes { OnTurn desk.old desk.new (stretch H.last H.running H.spoken H.log H.faults
-            O.taken O.faults host.old host.new out.old out.new)
-            (RanAdaptive desk.old.task desk.old.head self.old.skeletons.items self.old.tried
-            self.new.skeletons.items self.new.tried desk.old.state desk.new.state)
-            (IsFrontOfTurn desk.old.task desk.old.head
-            (kept_of self.old.skeletons.items self.old.tried) desk.old.state.entries) result }
+        requires none { HasNoDreamAt desk.old self.old.tried }
+        ensures goes { OnAdaptive desk.old desk.new (stretch H.Host O.Sink host.old host.new out.old
+            out.new) self.old.skeletons.items self.old.tried self.new.skeletons.items self.new.tried
+            result }
     {
         match pick_of(self.skeletons.as_slice()) {
             Some(place) => self.pick_behind(desk, host, out, Entry::Nothing, place),
@@ -149,8 +138,8 @@ pub fn adaptive<H: Host, O: Sink>(
     out: &mut O,
 ) -> Result<Ran, RunFault>
     requires may { MayRun Adaptive task.now head.now (H.running host.old) }
-    ensures ran { EndsRun task.now head.now (stretch H.last H.running H.spoken H.log H.faults
-        O.taken O.faults host.old host.new out.old out.new) result }
+    ensures ran { EndsRun task.now head.now (stretch H.Host O.Sink host.old host.new out.old
+        out.new) result }
 {
     let mut mode = AdaptiveTurns {
         tried: Tried::new(alloc),

@@ -1,8 +1,9 @@
 //! The batches of a dream, one after another.
-ghost use Rattle.std.specs.Prelude.{◌≡◌, ◌<◌, ◌≤◌, [], drop, length, OnOk};
-ghost use Rattle.mode_run.specs.Batching.{IsFrontOfBatches, IsFrontOfNext, MayGoOn, OnBatches, RanBatches, RanNextBatch};
+ghost use Rattle.mode_run.specs.OnDesk.{OnAllBatches, OnNextBatch};
+ghost use Rattle.std.specs.Prelude.{◌≡◌, ◌<◌, ◌≤◌, drop, length, OnOk};
+ghost use Rattle.mode_run.specs.Batching.{MayGoOn};
 ghost use Rattle.dream_asks.specs.Noting.{NotesAnswers};
-ghost use Rattle.round_run.specs.Desk.{OnBatch, RestsAt};
+ghost use Rattle.round_run.specs.Desk.{RestsAt};
 ghost use Rattle.round_run.specs.Told.{stretch, host_told};
 
 use dream_asks::{DreamAsk, Gone, dues_of};
@@ -48,14 +49,10 @@ fn next_batch<H: Host, O: Sink>(
     tried: &mut Tried,
     entries: &[OptEntry],
 ) -> Result<Option<Batch>, RunFault>
-    requires rests { RestsAt desk.old (host_told H.running H.spoken H.log H.faults host.old) }
+    requires rests { RestsAt desk.old (host_told H.Host host.old) }
     requires may { MayGoOn desk.old.head desk.old.task gone.old desk.old.state }
-    ensures goes { OnBatch desk.old desk.new (stretch H.last H.running H.spoken H.log H.faults
-        O.taken O.faults host.old host.new out.old out.new)
-        (RanNextBatch desk.old.head desk.old.task entries.now desk.old.state desk.new.state
-        gone.old gone.new tried.old tried.new (H.log host.old) (H.log host.new))
-        (IsFrontOfNext desk.old.head desk.old.task entries.now gone.old desk.old.state.entries)
-        result }
+    ensures goes { OnNextBatch desk.old desk.new (stretch H.Host O.Sink host.old host.new out.old
+        out.new) entries.now gone.old gone.new tried.old tried.new result }
 {
     let facts = desk.session().facts();
     let queue = desk.session().queue();
@@ -85,14 +82,10 @@ pub(crate) fn run_batches<H: Host, O: Sink>(
     tried: &mut Tried,
     needs: &Needs<'_>,
 ) -> Result<Batch, RunFault>
-    requires rests { RestsAt desk.old (host_told H.running H.spoken H.log H.faults host.old) }
+    requires rests { RestsAt desk.old (host_told H.Host host.old) }
     requires left { length desk.old.state.asked < desk.old.head.calls }
-    ensures goes { OnBatches desk.old desk.new (stretch H.last H.running H.spoken H.log H.faults
-        O.taken O.faults host.old host.new out.old out.new)
-        (RanBatches desk.old.head desk.old.task needs.now.real needs.now.entries.now
-        desk.old.state desk.new.state tried.old tried.new)
-        (IsFrontOfBatches desk.old.head desk.old.task needs.now.real needs.now.entries.now []
-        desk.old.state.entries) result }
+    ensures goes { OnAllBatches desk.old desk.new (stretch H.Host O.Sink host.old host.new out.old
+        out.new) needs.now.real needs.now.entries.now tried.old tried.new result }
 {
     let mut gone = Gone::new(desk.alloc(), needs.real);
     'batches: loop {

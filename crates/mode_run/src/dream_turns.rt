@@ -1,11 +1,10 @@
 //! Turns that begin with a dream.
+ghost use Rattle.mode_run.specs.OnDesk.{IsDreamAt, OnFocused};
 ghost use Rattle.std.specs.Prelude.{◌≡◌, ⊤, [], false};
-ghost use Rattle.mode_run.specs.Focusing.{HasCallLeft, IsDreamLine, MayFallBack, RanFocused, carried, idle_of};
-ghost use Rattle.turn_run.specs.Advancing.{IsFrontOfTurn};
+ghost use Rattle.mode_run.specs.Focusing.{HasCallLeft, MayFallBack, carried, idle_of};
 ghost use Rattle.turn_run.specs.Reporting.{EndsRun, MayRun};
-ghost use Rattle.round_run.specs.Desk.{OnTurn, RestsAt};
+ghost use Rattle.round_run.specs.Desk.{RestsAt};
 ghost use Rattle.round_run.specs.Told.{stretch, host_told};
-ghost use Rattle.transcript_model.specs.Rounds.{limits_of};
 ghost use Rattle.transcript_model.specs.declared.head.Mode.{Mode};
 
 use crate::dreamless::without_dream;
@@ -41,16 +40,11 @@ pub(crate) trait DreamBatches {
         dream: LinedDream,
     ) -> Result<Turned, RunFault>
         requires mode { desk.old.head.mode ≡ mode }
-        requires rests { RestsAt desk.old (host_told H.running H.spoken H.log H.faults host.old) }
+        requires rests { RestsAt desk.old (host_told H.Host host.old) }
         requires room { HasCallLeft desk.old.head desk.old.state }
-        requires dream { IsDreamLine (limits_of desk.old.head) desk.old.task
-            desk.old.state.entries tried.old dream.line dream.entries.items }
-        ensures goes { OnTurn desk.old desk.new (stretch H.last H.running H.spoken H.log H.faults
-            O.taken O.faults host.old host.new out.old out.new)
-            (RanFocused desk.old.task desk.old.head tried.old tried.new
-            desk.old.state desk.new.state)
-            (IsFrontOfTurn desk.old.task desk.old.head (carried tried.old) desk.old.state.entries)
-            result };
+        requires dream { IsDreamAt desk.old tried.old dream }
+        ensures goes { OnFocused desk.old desk.new (stretch H.Host O.Sink host.old host.new out.old
+            out.new) tried.old tried.new result };
 
     // A turn of the mode falls back where there is no dream.
     ghost falls_back: { MayFallBack mode [] };
@@ -120,8 +114,8 @@ pub(crate) fn run_dreams<B: DreamBatches + Drop, H: Host, O: Sink>(
     out: &mut O,
 ) -> Result<Ran, RunFault>
     requires may { MayRun B.mode task.now head.now (H.running host.old) }
-    ensures ran { EndsRun task.now head.now (stretch H.last H.running H.spoken H.log H.faults
-        O.taken O.faults host.old host.new out.old out.new) result }
+    ensures ran { EndsRun task.now head.now (stretch H.Host O.Sink host.old host.new out.old
+        out.new) result }
 {
     let tried = Tried::new(alloc);
     let mut mode = DreamTurns { tried, batches };

@@ -1,12 +1,11 @@
 //! Turns without a dream.
+ghost use Rattle.mode_run.specs.OnDesk.{HasNoDreamAt, OnDreamless};
 ghost use Rattle.std.specs.Prelude.{◌≡◌};
-ghost use Rattle.mode_run.specs.Focusing.{BeginsFocusedTurn, IsFrontOfDreamless, RanDreamless};
+ghost use Rattle.mode_run.specs.Focusing.{BeginsFocusedTurn};
 ghost use Rattle.turn_run.specs.declared.turns.Turned.TheVariants.{Spent, Done as WholeTurn};
-ghost use Rattle.round_run.specs.Desk.{OnTurn, RestsAt};
+ghost use Rattle.round_run.specs.Desk.{RestsAt};
 ghost use Rattle.round_run.specs.Told.{stretch, host_told};
 ghost use Rattle.round_run.specs.declared.ending.Batch.TheVariants.{CallsSpent, Done};
-ghost use Rattle.transcript_model.specs.Dreaming.{HasNoDreamAfter};
-ghost use Rattle.transcript_model.specs.Rounds.{limits_of};
 
 use crate::levels::fall_back;
 use instance_queue::Due;
@@ -41,14 +40,11 @@ pub(crate) fn without_dream<H: Host, O: Sink>(
     tried: &mut Tried,
     dues: &[Due],
 ) -> Result<Turned, RunFault>
-    requires rests { RestsAt desk.old (host_told H.running H.spoken H.log H.faults host.old) }
+    requires rests { RestsAt desk.old (host_told H.Host host.old) }
     requires begins { BeginsFocusedTurn desk.old.task desk.old.head desk.old.state dues.now }
-    requires none { HasNoDreamAfter (limits_of desk.old.head) desk.old.task desk.old.state.entries
-        tried.old }
-    ensures goes { OnTurn desk.old desk.new (stretch H.last H.running H.spoken H.log H.faults
-        O.taken O.faults host.old host.new out.old out.new)
-        (RanDreamless desk.old.task desk.old.head tried.old tried.new desk.old.state desk.new.state)
-        (IsFrontOfDreamless desk.old.task desk.old.head tried.old desk.old.state.entries) result }
+    requires none { HasNoDreamAt desk.old tried.old }
+    ensures goes { OnDreamless desk.old desk.new (stretch H.Host O.Sink host.old host.new out.old
+        out.new) tried.old tried.new result }
 {
     desk.mark(out, Entry::Nothing)?;
     let is_tried = !tried.is_empty();

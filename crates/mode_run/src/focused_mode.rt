@@ -29,8 +29,8 @@ pub fn focused<H: Host, O: Sink>(
     out: &mut O,
 ) -> Result<Ran, RunFault>
     requires may { MayRun Focused task.now head.now (H.running host.old) }
-    ensures ran { EndsRun task.now head.now (stretch H.last H.running H.spoken H.log H.faults
-        O.taken O.faults host.old host.new out.old out.new) result }
+    ensures ran { EndsRun task.now head.now (stretch H.Host O.Sink host.old host.new out.old
+        out.new) result }
 {
     run_dreams(alloc, task, head, FirstBatch, host, out)
 }

@@ -72,8 +72,8 @@ pub fn incremental<H: Host, O: Sink>(
     out: &mut O,
 ) -> Result<Ran, RunFault>
     requires may { MayRun Incremental task.now head.now (H.running host.old) }
-    ensures ran { EndsRun task.now head.now (stretch H.last H.running H.spoken H.log H.faults
-        O.taken O.faults host.old host.new out.old out.new) result }
+    ensures ran { EndsRun task.now head.now (stretch H.Host O.Sink host.old host.new out.old
+        out.new) result }
 {
     if head.optimal {
         return optimal(alloc, task, head, host, out);

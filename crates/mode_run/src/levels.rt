@@ -1,11 +1,10 @@
 //! Whole levels, and what follows where there is no dream.
-ghost use Rattle.std.specs.Prelude.{◌≡◌, length, ⊤};
-ghost use Rattle.turn_run.specs.Advancing.{Fits, IsFrontOfTurn, RanTurn};
-ghost use Rattle.turn_run.specs.Turns.{IsTurn};
-ghost use Rattle.mode_run.specs.Levels.{IsFrontOfFallback, IsSomeLevel, RanFallback, RanLevel};
+ghost use Rattle.mode_run.specs.OnDesk.{OnFallback, OnLevel};
+ghost use Rattle.std.specs.Prelude.{◌≡◌, ⊤};
+ghost use Rattle.turn_run.specs.Advancing.{Fits, OnModeTurn};
+ghost use Rattle.turn_run.specs.Turns.{IsTurnAt};
 ghost use Rattle.mode_turns.specs.Modes.{nothing_kept};
-ghost use Rattle.round_run.specs.Desk.{OnTurn, RestsAt};
-ghost use Rattle.round_run.specs.Rolling.{IsFrontPart};
+ghost use Rattle.round_run.specs.Desk.{RestsAt};
 ghost use Rattle.round_run.specs.Told.{stretch, host_told};
 ghost use Rattle.transcript_model.specs.declared.head.Mode.TheVariants.{Incremental};
 
@@ -21,14 +20,10 @@ pub(crate) fn run_level<H: Host, O: Sink>(
     out: &mut O,
     dues: &[Due],
 ) -> Result<Batch, RunFault>
-    requires rests { RestsAt desk.old (host_told H.running H.spoken H.log H.faults host.old) }
-    requires turn { IsTurn desk.old.head desk.old.task desk.old.state.entries
-        (length desk.old.state.asked) dues.now }
-    ensures goes { OnTurn desk.old desk.new (stretch H.last H.running H.spoken H.log H.faults
-        O.taken O.faults host.old host.new out.old out.new)
-        (RanLevel desk.old.task desk.old.head dues.now desk.old.state desk.new.state)
-        (IsFrontPart desk.old.state.entries (IsSomeLevel desk.old.head desk.old.task
-        desk.old.state.entries)) result }
+    requires rests { RestsAt desk.old (host_told H.Host host.old) }
+    requires turn { IsTurnAt desk.old dues.now }
+    ensures goes { OnLevel desk.old desk.new (stretch H.Host O.Sink host.old host.new out.old
+        out.new) dues.now result }
 {
     ask_behind(desk, host, out, Entry::Level, dues)
 }
@@ -41,15 +36,11 @@ pub(crate) fn run_level_turn<H: Host, O: Sink>(
     dues: &[Due],
 ) -> Result<Turned, RunFault>
     requires mode { desk.old.head.mode ≡ Incremental }
-    requires rests { RestsAt desk.old (host_told H.running H.spoken H.log H.faults host.old) }
-    requires turn { IsTurn desk.old.head desk.old.task desk.old.state.entries
-        (length desk.old.state.asked) dues.now }
+    requires rests { RestsAt desk.old (host_told H.Host host.old) }
+    requires turn { IsTurnAt desk.old dues.now }
     requires fits { Fits (λ asked. ⊤) 0 desk.old.state }
-    ensures goes { OnTurn desk.old desk.new (stretch H.last H.running H.spoken H.log H.faults
-        O.taken O.faults host.old host.new out.old out.new)
-        (RanTurn desk.old.task desk.old.head nothing_kept nothing_kept 0 0 (λ asked. ⊤)
-        desk.old.state desk.new.state)
-        (IsFrontOfTurn desk.old.task desk.old.head nothing_kept desk.old.state.entries) result }
+    ensures goes { OnModeTurn desk.old desk.new (stretch H.Host O.Sink host.old host.new out.old
+        out.new) nothing_kept nothing_kept 0 0 (λ asked. ⊤) result }
 {
     match run_level(desk, host, out, dues)? {
         Batch::Done => Ok(Turned::Done),
@@ -71,13 +62,10 @@ pub(crate) fn fall_back<H: Host, O: Sink>(
     is_tried: bool,
     dues: &[Due],
 ) -> Result<Batch, RunFault>
-    requires rests { RestsAt desk.old (host_told H.running H.spoken H.log H.faults host.old) }
-    requires turn { IsTurn desk.old.head desk.old.task desk.old.state.entries
-        (length desk.old.state.asked) dues.now }
-    ensures goes { OnTurn desk.old desk.new (stretch H.last H.running H.spoken H.log H.faults
-        O.taken O.faults host.old host.new out.old out.new)
-        (RanFallback desk.old.task desk.old.head is_tried dues.now desk.old.state desk.new.state)
-        (IsFrontOfFallback desk.old.head desk.old.task is_tried desk.old.state.entries) result }
+    requires rests { RestsAt desk.old (host_told H.Host host.old) }
+    requires turn { IsTurnAt desk.old dues.now }
+    ensures goes { OnFallback desk.old desk.new (stretch H.Host O.Sink host.old host.new out.old
+        out.new) is_tried dues.now result }
 {
     if is_tried {
         desk.mark(out, Entry::Reset)?;

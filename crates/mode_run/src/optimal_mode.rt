@@ -70,8 +70,8 @@ pub fn optimal<H: Host, O: Sink>(
 ) -> Result<Ran, RunFault>
     requires asked { head.now.optimal ≡ true }
     requires may { MayRun Incremental task.now head.now (H.running host.old) }
-    ensures ran { EndsRun task.now head.now (stretch H.last H.running H.spoken H.log H.faults
-        O.taken O.faults host.old host.new out.old out.new) result }
+    ensures ran { EndsRun task.now head.now (stretch H.Host O.Sink host.old host.new out.old
+        out.new) result }
 {
     run_mode(alloc, task, head, &mut CheapestTurns, host, out)
 }

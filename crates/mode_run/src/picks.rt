@@ -1,7 +1,8 @@
 //! Picks of skeletons.
+ghost use Rattle.mode_run.specs.OnDesk.{OnBehindPick, OnPick};
 ghost use Rattle.std.specs.Prelude.{◌≡◌};
-ghost use Rattle.mode_run.specs.Skeletons.{IsFrontBehindPick, IsFrontOfPick, IsPickLine, MayPick, RanBehindPick, RanPick, kept_of};
-ghost use Rattle.round_run.specs.Desk.{OnTurn, RestsAt};
+ghost use Rattle.mode_run.specs.Skeletons.{IsPickLine, MayPick, kept_of};
+ghost use Rattle.round_run.specs.Desk.{RestsAt};
 ghost use Rattle.round_run.specs.Told.{stretch, host_told};
 ghost use Rattle.skeletons.specs.Skeletons.{skeletons_in};
 ghost use Rattle.transcript_model.specs.declared.head.Mode.TheVariants.{Adaptive};
@@ -26,15 +27,12 @@ impl AdaptiveTurns {
         place: usize,
     ) -> Result<Turned, RunFault>
         requires mode { desk.old.head.mode ≡ Adaptive }
-        requires rests { RestsAt desk.old (host_told H.running H.spoken H.log H.faults host.old) }
+        requires rests { RestsAt desk.old (host_told H.Host host.old) }
         requires may { MayPick desk.old.head (skeletons_in self.old.skeletons.items) place
             desk.old.state }
-        ensures goes { OnTurn desk.old desk.new (stretch H.last H.running H.spoken H.log H.faults
-            O.taken O.faults host.old host.new out.old out.new)
-            (RanPick desk.old.head desk.old.task (kept_of self.old.skeletons.items self.old.tried)
-            (kept_of self.new.skeletons.items self.new.tried) desk.old.state desk.new.state)
-            (IsFrontOfPick desk.old.head desk.old.task
-            (kept_of self.old.skeletons.items self.old.tried) desk.old.state.entries) result }
+        ensures goes { OnPick desk.old desk.new (stretch H.Host O.Sink host.old host.new out.old
+            out.new) (kept_of self.old.skeletons.items self.old.tried) (kept_of
+            self.new.skeletons.items self.new.tried) result }
     {
         let number = place as u32 + 1;
         let made = desk.session().asks();
@@ -65,17 +63,13 @@ impl AdaptiveTurns {
         place: usize,
     ) -> Result<Turned, RunFault>
         requires mode { desk.old.head.mode ≡ Adaptive }
-        requires rests { RestsAt desk.old (host_told H.running H.spoken H.log H.faults host.old) }
+        requires rests { RestsAt desk.old (host_told H.Host host.old) }
         requires line { IsPickLine line }
         requires may { MayPick desk.old.head (skeletons_in self.old.skeletons.items) place
             desk.old.state }
-        ensures goes { OnTurn desk.old desk.new (stretch H.last H.running H.spoken H.log H.faults
-            O.taken O.faults host.old host.new out.old out.new)
-            (RanBehindPick desk.old.head desk.old.task
-            (kept_of self.old.skeletons.items self.old.tried)
-            (kept_of self.new.skeletons.items self.new.tried) line desk.old.state desk.new.state)
-            (IsFrontBehindPick desk.old.head desk.old.task
-            (kept_of self.old.skeletons.items self.old.tried) desk.old.state.entries line) result }
+        ensures goes { OnBehindPick desk.old desk.new (stretch H.Host O.Sink host.old host.new
+            out.old out.new) (kept_of self.old.skeletons.items self.old.tried) (kept_of
+            self.new.skeletons.items self.new.tried) line result }
     {
         desk.mark(out, line)?;
         self.pick(desk, host, out, place)

@@ -62,7 +62,8 @@ pub(crate) fn start_workers<H: Host>(
     requires pools { AreStartable head.now.pools }
     requires rests { Rests task.now head.now session.now lines.old (H.running host.old)
         (H.spoken host.old) }
-    ensures starts { StartsWorkers task.now head.now dues.now session.now lines.new (course H.Host host.old host.new) result }
+    ensures starts { StartsWorkers task.now head.now dues.now session.now lines.new (course H.Host
+        host.old host.new) result }
 {
     if dues.is_empty() {
         return Ok(());

@@ -32,7 +32,8 @@ pub(crate) fn start<H: Host>(host: &mut H, child: u8, argv: &[String]) -> Result
     requires number { child < CHILDREN }
     requires words { 0 < length argv.now }
     requires idle { H.running host.old child ≡ false }
-    ensures starts { StartsOne child (map string_bytes argv.now) (course H.Host host.old host.new) result }
+    ensures starts { StartsOne child (map string_bytes argv.now) (course H.Host host.old host.new)
+        result }
 {
     match host.start(child, argv) {
         Ok(()) => Ok(()),
@@ -105,7 +106,8 @@ pub(crate) fn hear<H: Host>(
     requires number { child < CHILDREN }
     requires runs { H.running host.old child ≡ true }
     requires awaits { Awaits session.old child }
-    ensures hears { HearsLine child session.old session.new buffer.old buffer.new (course H.Host host.old host.new) result }
+    ensures hears { HearsLine child session.old session.new buffer.old buffer.new (course H.Host
+        host.old host.new) result }
 {
     match buffer.next_line() {
         Seen::Line(line) => return take_line(session, child, line),

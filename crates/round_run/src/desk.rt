@@ -136,8 +136,8 @@ impl<'a> Desk<'a> {
     ) -> Result<Batch, RunFault>
         requires rests { RestsAt self.old (host_told H.Host host.old) }
         requires ready { AreReady self.old.task self.old.state.entries dues.now }
-        ensures goes { OnBatch self.old self.new (stretch H.Host O.Sink host.old host.new out.old out.new)
-            (RanBatch self.old.task self.old.head dues.now self.old.state self.new.state)
+        ensures goes { OnBatch self.old self.new (stretch H.Host O.Sink host.old host.new out.old
+            out.new) (RanBatch self.old.task self.old.head dues.now self.old.state self.new.state)
             (IsFrontOfBatch self.old.task self.old.head self.old.state.entries dues.now) result }
     {
         start_workers(

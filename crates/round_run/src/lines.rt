@@ -97,7 +97,8 @@ impl Lines {
         requires pools { AreStartable pools.now }
         requires idle { NoneWorks pools.now (is_child_running self.old) }
         requires state { Same (H.running host.old) (is_child_running self.old) }
-        ensures starts { StartsAll pools.now self.old self.new (course H.Host host.old host.new) result }
+        ensures starts { StartsAll pools.now self.old self.new (course H.Host host.old host.new)
+            result }
     {
         for child in 0..CHILDREN as u8 {
             if let Some(pool) = pool_with(pools, child) {

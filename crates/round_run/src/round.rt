@@ -38,8 +38,9 @@ fn send_one<H: Host, O: Sink>(
 ) -> Result<(), RunFault>
     requires rolling { IsRolling session.old (H.running host.old) place 0 }
     requires within { place < length session.old.slots }
-    ensures sends { SendsOn session.old session.new (stretch H.Host O.Sink host.old host.new out.old out.new) place (place + 1)
-        (asked_to session.old place) (asked_to session.old (place + 1)) result }
+    ensures sends { SendsOn session.old session.new (stretch H.Host O.Sink host.old host.new out.old
+        out.new) place (place + 1) (asked_to session.old place) (asked_to session.old (place + 1))
+        result }
 {
     let (child, request) = session.request(place);
     send(host, child, request)?;
@@ -56,8 +57,8 @@ fn send_all<H: Host, O: Sink>(
 ) -> Result<(), RunFault>
     requires rolling { IsRolling session.old (H.running host.old) 0 0 }
     requires count { count ≡ length session.old.slots }
-    ensures sends { SendsOn session.old session.new (stretch H.Host O.Sink host.old host.new out.old out.new) 0 count session.old.entries
-        (session.old.entries ++ session.old.asks) result }
+    ensures sends { SendsOn session.old session.new (stretch H.Host O.Sink host.old host.new out.old
+        out.new) 0 count session.old.entries (session.old.entries ++ session.old.asks) result }
 {
     for place in 0..count {
         send_one(session, host, out, place)?;
@@ -92,9 +93,9 @@ fn hear_one<H: Host, O: Sink>(
     requires rolling { IsRolling session.old (H.running host.old) (length session.old.slots) place }
     requires within { place < length session.old.slots }
     requires state { Same (H.running host.old) (is_child_running lines.old) }
-    ensures hears { HearsOn session.old session.new lines.old lines.new (stretch H.Host O.Sink host.old host.new out.old out.new) place
-        (place + 1) (heard_to session.old session.old.slots place)
-        (heard_to session.old session.new.slots (place + 1)) result }
+    ensures hears { HearsOn session.old session.new lines.old lines.new (stretch H.Host O.Sink
+        host.old host.new out.old out.new) place (place + 1) (heard_to session.old session.old.slots
+        place) (heard_to session.old session.new.slots (place + 1)) result }
 {
     let (child, _) = session.request(place);
     hear_child(session, lines, host, child)?;
@@ -115,8 +116,8 @@ fn hear_all<H: Host, O: Sink>(
     requires rolling { IsRolling session.old (H.running host.old) count 0 }
     requires count { count ≡ length session.old.slots }
     requires state { Same (H.running host.old) (is_child_running lines.old) }
-    ensures hears { HearsOn session.old session.new lines.old lines.new (stretch H.Host O.Sink host.old host.new out.old out.new) 0 count
-        (session.old.entries ++ session.old.asks)
+    ensures hears { HearsOn session.old session.new lines.old lines.new (stretch H.Host O.Sink
+        host.old host.new out.old out.new) 0 count (session.old.entries ++ session.old.asks)
         (session.old.entries ++ session.old.asks ++ finished_round session.new.slots) result }
 {
     for place in 0..count {

@@ -17,8 +17,8 @@ pub(crate) fn run_in_mode<H: Host, O: Sink>(
     out: &mut O,
 ) -> Result<Ran, RunFault>
     requires may { MayRun head.now.mode task.now head.now (H.running host.old) }
-    ensures ran { EndsRun task.now head.now (stretch H.Host O.Sink host.old host.new
-        out.old out.new) result }
+    ensures ran { EndsRun task.now head.now (stretch H.Host O.Sink host.old host.new out.old
+        out.new) result }
 {
     match head.mode {
         Mode::Incremental => incremental(alloc, task, head, host, out),

@@ -24,8 +24,8 @@ pub fn ask_behind<H: Host, O: Sink>(
 ) -> Result<Batch, RunFault>
     requires rests { RestsAt desk.old (host_told H.Host host.old) }
     requires may { MayAskBehind desk.old.task desk.old.head entry dues.now desk.old.state }
-    ensures goes { OnAskBehind desk.old desk.new (stretch H.Host O.Sink host.old host.new out.old out.new)
-        entry dues.now result }
+    ensures goes { OnAskBehind desk.old desk.new (stretch H.Host O.Sink host.old host.new out.old
+        out.new) entry dues.now result }
 {
     desk.mark(out, entry)?;
     desk.batch(host, out, dues)

@@ -23,7 +23,8 @@ pub(crate) fn run_turns<M: Turns, H: Host, O: Sink>(
     requires fresh { IsFreshMode (M.kept mode.old) (M.idle mode.old) (M.holds mode.old) }
     requires first { IsNew desk.old.task desk.old.state }
     requires rests { RestsAt desk.old (host_told H.Host host.old) }
-    ensures goes { OnTurns desk.old desk.new (stretch H.Host O.Sink host.old host.new out.old out.new) result }
+    ensures goes { OnTurns desk.old desk.new (stretch H.Host O.Sink host.old host.new out.old
+        out.new) result }
     ensures idle { OnOk result
         (length desk.new.state.asked ≡ 0 → (k : ℕ) → H.running host.new k ≡ false) }
 {

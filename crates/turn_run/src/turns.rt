@@ -52,6 +52,7 @@ pub trait Turns: PlanSearch {
         requires rests { RestsAt desk.old (host_told H.Host host.old) }
         requires turn { IsTurnAt desk.old dues.now }
         requires fits { Fits (holds self.old) (idle self.old) desk.old.state }
-        ensures goes { OnModeTurn desk.old desk.new (stretch H.Host O.Sink host.old host.new out.old out.new)
-            (kept self.old) (kept self.new) (idle self.old) (idle self.new) (holds self.new) result };
+        ensures goes { OnModeTurn desk.old desk.new (stretch H.Host O.Sink host.old host.new out.old
+            out.new) (kept self.old) (kept self.new) (idle self.old) (idle self.new) (holds
+            self.new) result };
 }

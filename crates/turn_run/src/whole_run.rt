@@ -61,7 +61,8 @@ fn report<M: Turns, H: Host, O: Sink>(
     requires mode { IsHeadFor M.mode M.cheapest desk.old.head }
     requires fresh { IsFreshMode (M.kept mode.old) (M.idle mode.old) (M.holds mode.old) }
     requires still { IsStillAt desk.old (host_told H.Host host.old) }
-    ensures ends { EndsReport desk.old desk.new (stretch H.Host O.Sink host.old host.new out.old out.new) result }
+    ensures ends { EndsReport desk.old desk.new (stretch H.Host O.Sink host.old host.new out.old
+        out.new) result }
 {
     let head = desk.head();
     print_head(desk.task(), head, out)?;
@@ -94,7 +95,8 @@ pub fn run_mode<M: Turns, H: Host, O: Sink>(
     requires may { MayRun M.mode task.now head.now (H.running host.old) }
     requires seeks { head.now.optimal ≡ M.cheapest }
     requires fresh { IsFreshMode (M.kept mode.old) (M.idle mode.old) (M.holds mode.old) }
-    ensures ran { EndsRun task.now head.now (stretch H.Host O.Sink host.old host.new out.old out.new) result }
+    ensures ran { EndsRun task.now head.now (stretch H.Host O.Sink host.old host.new out.old
+        out.new) result }
 {
     let mut desk = Desk::new(alloc, task, head)?;
     let result = report(&mut desk, mode, host, out);

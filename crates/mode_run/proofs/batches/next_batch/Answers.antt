@@ -1,6 +1,7 @@
 use Rattle.std.proofs.Common.{◌≡◌, ◌==◌, ◌∙◌, ◌++◌, ◌+◌, Err, None, Result, Some, ap, arith, drop, length, refl, subst, sym}
 use Rattle.std.proofs.lemmas.List.{length-append}
 use Rattle.std.specs.Prelude.{⊤, List}
+use Rattle.round_run.proofs.LedLemmas.{joined, still_host}
 use Rattle.mode_run.proofs.BatchGoingLemmas.{batch_handed, batch_memory, batch_ok, batch_still, batch_then}
 use Rattle.mode_run.proofs.BatchesLemmas.{IsChosen, asks_next, front_done, front_here, front_next, none_next, noted_next, ran_next, ready_next}
 use Rattle.mode_run.specs.Batching.{IsFrontOfNext, RanNextBatch}
@@ -51,7 +52,8 @@ returns-in_err-asks g c =
     let front = IsFrontOfNext old.head old.task c.args.entries.now c.args.gone.now old.state.entries in
     record {
       goes = batch_handed old old _ _ _ (λ (_ : Unit {0}). ⊤) _ front front Memory c.from_residual.result c.from_residual.ensures.1
-          (batch_memory old _ g.H.Host.last (g.O.Sink.taken c.args.out.now) (g.O.Sink.faults c.args.out.now) (λ (_ : Unit {0}). ⊤) front
+          (batch_memory old (still_host g.H.Host g.met.H.Host.stays c.args.host.now) (g.O.Sink.taken c.args.out.now)
+          (g.O.Sink.faults c.args.out.now) (λ (_ : Unit {0}). ⊤) front
           c.requires.rests
           (λ sent is. front_here old.head old.task c.args.gone.now.real c.args.entries.now
           (all_working old c.requires.rests) sent old.state.entries))
@@ -66,7 +68,8 @@ returns-in_err-dues g c =
     record {
       goes = batch_handed old old _ _ _ (λ (_ : Unit {0}). ⊤) _ front front Memory c.from_residual-in_err-dues.result
           c.from_residual-in_err-dues.ensures.1
-          (batch_memory old _ g.H.Host.last (g.O.Sink.taken c.args.out.now) (g.O.Sink.faults c.args.out.now) (λ (_ : Unit {0}). ⊤) front
+          (batch_memory old (still_host g.H.Host g.met.H.Host.stays c.args.host.now) (g.O.Sink.taken c.args.out.now)
+          (g.O.Sink.faults c.args.out.now) (λ (_ : Unit {0}). ⊤) front
           c.requires.rests
           (λ sent is. front_here old.head old.task c.args.gone.now.real c.args.entries.now
           (all_working old c.requires.rests) sent old.state.entries))
@@ -86,7 +89,8 @@ returns-then-is_empty g c =
     let none = empty_of asks
     (ap (λ xs. length xs == 0) (sym c.as_slice.ensures.value) ∙ sym c.is_empty.ensures ∙ c.if-is_empty.true) in
     record {
-      goes = batch_still old _ g.H.Host.last (g.O.Sink.taken c.args.out.now) (g.O.Sink.faults c.args.out.now) _ _ None c.requires.rests
+      goes = batch_still old (still_host g.H.Host g.met.H.Host.stays c.args.host.now) (g.O.Sink.taken c.args.out.now)
+          (g.O.Sink.faults c.args.out.now) _ _ None c.requires.rests
           (record {
             ran = λ sent is. (
               none_next old.task s works.listens.working works.learnt works.listens.session gone entries asks next none sent is,
@@ -225,10 +229,13 @@ returns-in_err-note-in-Done g c =
     record {
       goes = batch_handed old new _ _ _ (λ (_ : Unit {0}). ⊤) _ front front Memory c.from_residual-in_err-note-in-Done.result
           c.from_residual-in_err-note-in-Done.ensures.1
-          (batch_then old new new g.H.Host.last _ _ _ (RanBatch task head dues s new.state) (IsFrontOfBatch task head s.entries dues)
+          (batch_then old new new g.H.Host.last _ _ _
+          (joined g.H.Host g.met.H.Host.chains c.args.host.now c.batch.new.host c.batch.new.host) (RanBatch task head dues s new.state)
+          (IsFrontOfBatch task head s.entries dues)
           (λ t h (_ : Unit {0}). ⊤) (λ t h. front) (λ (_ : Unit {0}). ⊤) front c.in_ok-batch.field-0
           (let r : Result (Unit {0}) RunFault = Err Memory in r) goes
-          (batch_memory new _ g.H.Host.last (g.O.Sink.taken c.batch.new.out) (g.O.Sink.faults c.batch.new.out) (λ (_ : Unit {0}). ⊤)
+          (batch_memory new (still_host g.H.Host g.met.H.Host.stays c.batch.new.host) (g.O.Sink.taken c.batch.new.out)
+          (g.O.Sink.faults c.batch.new.out) (λ (_ : Unit {0}). ⊤)
           front goes.holds
           (λ sent is. front_done task s works.listens.working works.learnt works.listens.session gone entries asks next next.notes dues
           next.notes_is of head some sent is new.state gone tried tried Done ran work c.requires.may.within refl))
@@ -261,10 +268,13 @@ returns-in_err-join-in-Done g c =
     record {
       goes = batch_handed old new _ _ _ (λ (_ : Unit {0}). ⊤) _ front front Memory c.from_residual-in_err-join-in-Done.result
           c.from_residual-in_err-join-in-Done.ensures.1
-          (batch_then old new new g.H.Host.last _ _ _ (RanBatch task head dues s new.state) (IsFrontOfBatch task head s.entries dues)
+          (batch_then old new new g.H.Host.last _ _ _
+          (joined g.H.Host g.met.H.Host.chains c.args.host.now c.batch.new.host c.batch.new.host) (RanBatch task head dues s new.state)
+          (IsFrontOfBatch task head s.entries dues)
           (λ t h (_ : Unit {0}). ⊤) (λ t h. front) (λ (_ : Unit {0}). ⊤) front c.in_ok-batch.field-0
           (let r : Result (Unit {0}) RunFault = Err Memory in r) goes
-          (batch_memory new _ g.H.Host.last (g.O.Sink.taken c.batch.new.out) (g.O.Sink.faults c.batch.new.out) (λ (_ : Unit {0}). ⊤)
+          (batch_memory new (still_host g.H.Host g.met.H.Host.stays c.batch.new.host) (g.O.Sink.taken c.batch.new.out)
+          (g.O.Sink.faults c.batch.new.out) (λ (_ : Unit {0}). ⊤)
           front goes.holds
           (λ sent is. front_done task s works.listens.working works.learnt works.listens.session gone entries asks next next.notes dues
           next.notes_is of head some sent is new.state gone tried tried Done ran work c.requires.may.within refl))

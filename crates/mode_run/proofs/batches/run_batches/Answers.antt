@@ -1,5 +1,6 @@
 use Rattle.std.proofs.Common.{◌≡◌, ◌⊎◌, ◌<◌, ◌∙◌, [], Err, None, Ok, Option, Result, Some, ap, arith, inl, inr, length, refl, subst, sym, ℕ}
 use Rattle.std.specs.Prelude.{⊤}
+use Rattle.round_run.proofs.LedLemmas.{joined as joins, still_host}
 use Rattle.mode_run.proofs.BatchGoingLemmas.{batch_handed, batch_ok, batch_still, next_behind}
 use Rattle.mode_run.proofs.BatchesLemmas.{ran_all, ran_cut, so_far_next, so_far_none}
 use Rattle.mode_run.specs.Batching.{Called, HasProgress, IsFrontOfBatches, RanBatches, RanNext, RanNextBatch, RanSome}
@@ -22,7 +23,8 @@ batches-init g c =
     let s = desk.state in
     let needs = c.args.needs.now in
     record {
-      goes = batch_still desk _ g.H.Host.last (g.O.Sink.taken c.args.out.now) (g.O.Sink.faults c.args.out.now) (λ (_ : Unit {0}). ⊤) _ tt
+      goes = batch_still desk (still_host g.H.Host g.met.H.Host.stays c.args.host.now) (g.O.Sink.taken c.args.out.now)
+          (g.O.Sink.faults c.args.out.now) (λ (_ : Unit {0}). ⊤) _ tt
           c.requires.rests tt;
       within = omega (arith, c.requires.left);
       so_far = so_far_none desk.head desk.task needs.real needs.entries.now s c.new-gone.result c.args.tried.now
@@ -58,7 +60,8 @@ returns-in_err-ran g c =
           (RanNextBatch old.head old.task entries desk.state new.state c.batches.gone c.next_batch.new.gone c.batches.tried
           c.next_batch.new.tried (g.H.Host.log c.batches.host) (g.H.Host.log c.next_batch.new.host))
           _ front front fault c.from_residual.result c.from_residual.ensures.1
-          (next_behind old desk new g.H.Host.last _ _ _ real entries c.batches.gone c.next_batch.new.gone c.args.tried.now c.batches.tried
+          (next_behind old desk new g.H.Host.last _ _ _
+          (joins g.H.Host g.met.H.Host.chains c.args.host.now c.batches.host c.next_batch.new.host) real entries c.batches.gone c.next_batch.new.gone c.args.tried.now c.batches.tried
           c.next_batch.new.tried i.so_far i.real (let r : Result (Option Batch) RunFault = Err fault in r) i.goes
           c.in_err-ran.ensures.goes)
           (λ es legal f. f);
@@ -82,7 +85,8 @@ returns-in-None g c =
     let now = g.H.Host.log c.next_batch.new.host in
     let x = c.in_ok-ran.ran in
     let front = IsFrontOfBatches old.head old.task real entries [] old.state.entries in
-    let all = next_behind old desk new g.H.Host.last _ _ _ real entries gone later c.args.tried.now tried joined so i.real
+    let all = next_behind old desk new g.H.Host.last _ _ _
+    (joins g.H.Host g.met.H.Host.chains c.args.host.now c.batches.host c.next_batch.new.host) real entries gone later c.args.tried.now tried joined so i.real
     (let r : Result (Option Batch) RunFault = Ok x in r) i.goes c.in_ok-ran.ensures.goes in
     let asks = subst (Called old.head old.task s new.state was now) c.in-None.is all.ran.asks in
     let counted_now = (rests_on old new all.same all.holds).works.listens.session.counted in
@@ -129,7 +133,8 @@ returns-in-CallsSpent g c =
     let now = g.H.Host.log c.next_batch.new.host in
     let x = c.in_ok-ran.ran in
     let front = IsFrontOfBatches old.head old.task real entries [] old.state.entries in
-    let all = next_behind old desk new g.H.Host.last _ _ _ real entries gone later c.args.tried.now tried joined so i.real
+    let all = next_behind old desk new g.H.Host.last _ _ _
+    (joins g.H.Host g.met.H.Host.chains c.args.host.now c.batches.host c.next_batch.new.host) real entries gone later c.args.tried.now tried joined so i.real
     (let r : Result (Option Batch) RunFault = Ok x in r) i.goes c.in_ok-ran.ensures.goes in
     let is = c.in-Some.is ∙ ap Some c.in-CallsSpent.is in
     let asks = subst (Called old.head old.task s new.state was now) is all.ran.asks in
@@ -172,7 +177,8 @@ batches-preserved g c =
     let now = g.H.Host.log c.next_batch.new.host in
     let x = c.in_ok-ran.ran in
     let front = IsFrontOfBatches old.head old.task real entries [] old.state.entries in
-    let all = next_behind old desk new g.H.Host.last _ _ _ real entries gone later c.args.tried.now tried joined so i.real
+    let all = next_behind old desk new g.H.Host.last _ _ _
+    (joins g.H.Host g.met.H.Host.chains c.args.host.now c.batches.host c.next_batch.new.host) real entries gone later c.args.tried.now tried joined so i.real
     (let r : Result (Option Batch) RunFault = Ok x in r) i.goes c.in_ok-ran.ensures.goes in
     let is = c.in-Some.is ∙ ap Some c.in-Done.is in
     let asks = subst (Called old.head old.task s new.state was now) is all.ran.asks in

@@ -11,7 +11,7 @@ use Rattle.mode_run.proofs.batches.run_batches.Given as goal
 abbrev pub invariant-batches : goal.invariant-batches
 invariant-batches g l = record {
   goes : OnBatch l.initial.desk l.desk
-      (stretch g.H.Host.last g.H.Host.running g.H.Host.spoken g.H.Host.log g.H.Host.faults g.O.Sink.taken g.O.Sink.faults
+      (stretch g.H.Host g.O.Sink
       l.initial.host l.host l.initial.out l.out)
       (λ (_ : Unit {0}). ⊤)
       (IsFrontOfBatches l.initial.desk.head l.initial.desk.task l.needs.real l.needs.entries.now [] l.initial.desk.state.entries)

@@ -1,4 +1,7 @@
 use Rattle.std.proofs.Common.{◌++◌, ◌∷◌, ◌∙◌, [], append_assoc, ap, arith, length, refl, subst}
+use Rattle.round_run.proofs.LedLemmas.{still_host}
+use Rattle.round_run.proofs.QuietLemmas.{turn_alone}
+use Rattle.round_run.specs.Told.{host_told}
 use Rattle.mode_run.proofs.BatchGoingLemmas.{batches_behind}
 use Rattle.mode_run.proofs.BehindLemmas.{behind_front, behind_marked}
 use Rattle.mode_run.specs.Batching.{IsFrontBehindLine, IsFrontOfBatches, RanBatches, RanBehindLine}
@@ -6,7 +9,6 @@ use Rattle.mode_run.proofs.PartLemmas.{all_working}
 use Rattle.turn_run.specs.Turns.{cut_by}
 use Rattle.round_run.proofs.GoingLemmas.{turn_handed}
 use Rattle.round_run.specs.Desk.{IsFrontOfMark}
-use Rattle.round_run.specs.Told.{host_told}
 use Rattle.round_run.specs.TurnLines.{IsMarked}
 use Rattle.transcript_model.specs.Rounds.{limits_of}
 use Rattle.transcript_model.specs.Turns.{AreBatches}
@@ -15,13 +17,12 @@ use Rattle.mode_run.proofs.behind.run_behind.Goals as goal
 
 pub run_batches-requires-clause-rests : goal.run_batches-requires-clause-rests
 run_batches-requires-clause-rests g c =
-    (c.in_ok-mark.ensures.goes g.H.Host.last (host_told g.H.Host.running g.H.Host.spoken g.H.Host.log g.H.Host.faults c.args.host.now)
+    (c.in_ok-mark.ensures.goes g.H.Host.last (host_told g.H.Host c.args.host.now)
     c.requires.rests).holds
 
 pub run_batches-requires-clause-left : goal.run_batches-requires-clause-left
 run_batches-requires-clause-left g c =
-    let first = c.in_ok-mark.ensures.goes g.H.Host.last (host_told g.H.Host.running g.H.Host.spoken g.H.Host.log g.H.Host.faults
-    c.args.host.now) c.requires.rests in
+    let first = c.in_ok-mark.ensures.goes g.H.Host.last (host_told g.H.Host c.args.host.now) c.requires.rests in
     omega (arith, ap length first.ran.asked, ap (λ (h : Head). h.calls) first.same.head, c.requires.may.left)
 
 pub returns : goal.returns
@@ -37,7 +38,7 @@ returns g c =
     let entries = c.args.needs.now.entries.now in
     let tried = c.args.tried.now in
     let joined = c.run_batches.new.tried in
-    let first = c.in_ok-mark.ensures.goes g.H.Host.last _ c.requires.rests in
+    let first = c.in_ok-mark.ensures.goes g.H.Host.last (host_told g.H.Host c.args.host.now) c.requires.rests in
     let marked = first.ran in
     record {
       goes = batches_behind line c.requires.may.mark old mid new c.requires.may.opens g.H.Host.last _ _ _ refl
@@ -72,7 +73,8 @@ returns-in_err-mark g c =
     record {
       goes = turn_handed old c.mark.new.self _ (λ _. IsMarked line s c.mark.new.self.state) _ (IsFrontOfMark s.entries line)
           (IsFrontBehindLine old.head old.task real entries s.entries line) c.in_err-mark.field-0.0 c.from_residual.result
-          c.from_residual.ensures.1 (c.in_err-mark.ensures.goes g.H.Host.last _ c.requires.rests)
+          c.from_residual.ensures.1 (turn_alone _ _ (still_host g.H.Host g.met.H.Host.stays c.args.host.now) _ _ _ _ _ _ _
+          (c.in_err-mark.ensures.goes g.H.Host.last _ c.requires.rests))
           (λ es legal there. behind_marked old.head old.task real entries s.entries line es
           (all_working old c.requires.rests) there);
     }

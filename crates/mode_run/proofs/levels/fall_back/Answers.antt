@@ -1,5 +1,7 @@
 use Rattle.std.proofs.Common.{◌≡◌, ◌∙◌, ◌∷◌, [], true, false, sym, subst, refl}
 use Rattle.transcript_model.specs.declared.entry.Entry.TheVariants as entry
+use Rattle.round_run.proofs.LedLemmas.{still_host}
+use Rattle.round_run.proofs.QuietLemmas.{turn_alone}
 use Rattle.round_run.proofs.GoingLemmas.{turn_as, turn_handed, turn_ok}
 use Rattle.mode_run.proofs.LevelsLemmas.{falls_level, falls_reset, front_fallback, front_reset}
 use Rattle.round_run.specs.Desk.{IsFrontOfMark}
@@ -14,7 +16,8 @@ pub returns-then-is_tried : goal.returns-then-is_tried
 returns-then-is_tried g c =
     let old = c.args.desk.now in
     let new = c.mark.new.self in
-    let goes = c.in_ok-mark.ensures.goes g.H.Host.last _ c.requires.rests in
+    let goes = turn_alone _ _ (still_host g.H.Host g.met.H.Host.stays c.args.host.now) _ _ _ _ _ _ _
+    (c.in_ok-mark.ensures.goes g.H.Host.last _ c.requires.rests) in
     record {
       goes = turn_ok old new _ (λ _. IsMarked entry.Reset old.state new.state)
           (RanFallback old.task old.head c.args.is_tried c.args.dues.now old.state new.state) (IsFrontOfMark old.state.entries entry.Reset)
@@ -37,7 +40,8 @@ returns-in_err-mark g c =
       goes = turn_handed old new _ (λ _. IsMarked entry.Reset old.state new.state)
           (RanFallback old.task old.head c.args.is_tried c.args.dues.now old.state new.state) (IsFrontOfMark old.state.entries entry.Reset)
           (IsFrontOfFallback old.head old.task c.args.is_tried old.state.entries) c.in_err-mark.field-0.0 c.from_residual.result
-          c.from_residual.ensures.1 (c.in_err-mark.ensures.goes g.H.Host.last _ c.requires.rests)
+          c.from_residual.ensures.1 (turn_alone _ _ (still_host g.H.Host g.met.H.Host.stays c.args.host.now) _ _ _ _ _ _ _
+          (c.in_err-mark.ensures.goes g.H.Host.last _ c.requires.rests))
           (λ es legal there. subst (λ b. IsFrontOfFallback old.head old.task b old.state.entries es) (sym c.if-is_tried.true)
           (front_reset old.head old.task old.state.entries es there));
     }

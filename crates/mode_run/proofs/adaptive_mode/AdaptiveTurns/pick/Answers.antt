@@ -1,4 +1,6 @@
 use Rattle.std.proofs.Common.{◌∙◌, ◌+◌, Ok, Err, Result, ap, arith, get_or, length, refl, subst, sym}
+use Rattle.round_run.proofs.LedLemmas.{joined as joins, still_host}
+use Rattle.round_run.proofs.QuietLemmas.{turn_alone}
 use Rattle.mode_run.proofs.PickLemmas.{front_given_up, pick_front, ran_asked, ran_given_up}
 use Rattle.mode_run.specs.Batching.{IsFrontBehindLine, RanBehindLine}
 use Rattle.mode_run.specs.Skeletons.{IsFrontOfPick, RanPick, kept_of}
@@ -147,10 +149,14 @@ returns-in_err-mark g c =
     record {
       goes = turn_handed old new _ (λ _. IsMarked last mid.state new.state) _ front front fault c.from_residual-in_err-mark.result
           c.from_residual-in_err-mark.ensures.1
-          (turn_then old mid new g.H.Host.last _ _ _ (RanBehindLine head task real entries line s mid.state tried joined)
+          (turn_then old mid new g.H.Host.last _ _ _
+          (joins g.H.Host g.met.H.Host.chains c.args.host.now c.run_behind.new.host c.run_behind.new.host)
+          (RanBehindLine head task real entries line s mid.state tried joined)
           (IsFrontBehindLine head task real entries s.entries line) (λ t h _. IsMarked last mid.state new.state)
           (λ t h. IsFrontOfMark mid.state.entries last) (λ _. IsMarked last mid.state new.state) front b
-          (let r : Result (Unit {0}) RunFault = Err fault in r) first (c.in_err-mark.ensures.goes g.H.Host.last _ first.holds)
+          (let r : Result (Unit {0}) RunFault = Err fault in r) first (turn_alone _ _
+          (still_host g.H.Host g.met.H.Host.stays c.run_behind.new.host) _ _ _ _ _ _ _
+          (c.in_err-mark.ensures.goes g.H.Host.last _ first.holds))
           (λ x marked. marked)
           (λ es legal there. front_given_up head task kept s.entries place may.skeleton may.picked s mid.state refl may.left
           c.requires.rests.works.listens.session.counted
@@ -192,11 +198,14 @@ returns g c =
     record {
       goes = turn_ok old new _ (λ _. IsMarked last mid.state new.state)
           (RanPick head task kept (kept_of c.count-2.new.skeletons.items joined) s new.state) front front c.in_ok-mark.field-0 turned.Done
-          (turn_then old mid new g.H.Host.last _ _ _ (RanBehindLine head task real entries line s mid.state tried joined)
+          (turn_then old mid new g.H.Host.last _ _ _
+          (joins g.H.Host g.met.H.Host.chains c.args.host.now c.run_behind.new.host c.run_behind.new.host)
+          (RanBehindLine head task real entries line s mid.state tried joined)
           (IsFrontBehindLine head task real entries s.entries line) (λ t h _. IsMarked last mid.state new.state)
           (λ t h. IsFrontOfMark mid.state.entries last) (λ _. IsMarked last mid.state new.state) front b
           (let r : Result (Unit {0}) RunFault = Ok c.in_ok-mark.field-0 in r) first
-          (c.in_ok-mark.ensures.goes g.H.Host.last _ first.holds) (λ x marked. marked)
+          (turn_alone _ _ (still_host g.H.Host g.met.H.Host.stays c.run_behind.new.host) _ _ _ _ _ _ _
+          (c.in_ok-mark.ensures.goes g.H.Host.last _ first.holds)) (λ x marked. marked)
           (λ es legal there. front_given_up head task kept s.entries place may.skeleton may.picked s mid.state refl may.left
           c.requires.rests.works.listens.session.counted counted_now joined b ran none es there))
           (λ marked. ran_given_up head task kept s.entries place may.skeleton may.picked s mid.state refl may.left

@@ -1,10 +1,12 @@
 use Rattle.std.proofs.Common.{◌++◌, ◌∷◌, ◌∙◌, [], append_assoc, ap, arith, length, refl, subst}
+use Rattle.round_run.proofs.LedLemmas.{joined, still_host}
+use Rattle.round_run.proofs.QuietLemmas.{turn_alone}
+use Rattle.round_run.specs.Told.{host_told}
 use Rattle.mode_run.proofs.PickLemmas.{behind_pick_front, behind_pick_marked}
 use Rattle.mode_run.specs.Skeletons.{IsFrontBehindPick, IsFrontOfPick, RanBehindPick, RanPick, kept_of}
 use Rattle.mode_run.proofs.PartLemmas.{all_working}
 use Rattle.round_run.proofs.GoingLemmas.{turn_handed, turn_then}
 use Rattle.round_run.specs.Desk.{IsFrontOfMark}
-use Rattle.round_run.specs.Told.{host_told}
 use Rattle.round_run.specs.TurnLines.{IsMarked}
 use Rattle.transcript_model.specs.Rounds.{limits_of}
 use Rattle.transcript_model.specs.Turns.{IsPickTurn}
@@ -21,7 +23,8 @@ returns-in_err-mark g c =
     record {
       goes = turn_handed old c.mark.new.self _ (λ _. IsMarked line s c.mark.new.self.state) _ (IsFrontOfMark s.entries line)
           (IsFrontBehindPick old.head old.task kept s.entries line) c.in_err-mark.field-0.0 c.from_residual.result
-          c.from_residual.ensures.1 (c.in_err-mark.ensures.goes g.H.Host.last _ c.requires.rests)
+          c.from_residual.ensures.1 (turn_alone _ _ (still_host g.H.Host g.met.H.Host.stays c.args.host.now) _ _ _ _ _ _ _
+          (c.in_err-mark.ensures.goes g.H.Host.last _ c.requires.rests))
           (λ es legal there. behind_pick_marked old.head old.task kept s.entries line es c.args.place c.requires.may.skeleton
           c.requires.may.picked
           (all_working old c.requires.rests) there);
@@ -29,19 +32,17 @@ returns-in_err-mark g c =
 
 pub pick-requires-clause-mode : goal.pick-requires-clause-mode
 pick-requires-clause-mode g c =
-    let first = c.in_ok-mark.ensures.goes g.H.Host.last (host_told g.H.Host.running g.H.Host.spoken g.H.Host.log g.H.Host.faults
-    c.args.host.now) c.requires.rests in
+    let first = c.in_ok-mark.ensures.goes g.H.Host.last (host_told g.H.Host c.args.host.now) c.requires.rests in
     ap (λ (h : Head). h.mode) first.same.head ∙ c.requires.mode
 
 pub pick-requires-clause-rests : goal.pick-requires-clause-rests
 pick-requires-clause-rests g c =
-    (c.in_ok-mark.ensures.goes g.H.Host.last (host_told g.H.Host.running g.H.Host.spoken g.H.Host.log g.H.Host.faults c.args.host.now)
+    (c.in_ok-mark.ensures.goes g.H.Host.last (host_told g.H.Host c.args.host.now)
     c.requires.rests).holds
 
 pub pick-requires-clause-may : goal.pick-requires-clause-may
 pick-requires-clause-may g c =
-    let first = c.in_ok-mark.ensures.goes g.H.Host.last (host_told g.H.Host.running g.H.Host.spoken g.H.Host.log g.H.Host.faults
-    c.args.host.now) c.requires.rests in
+    let first = c.in_ok-mark.ensures.goes g.H.Host.last (host_told g.H.Host c.args.host.now) c.requires.rests in
     let may = c.requires.may in
     let asked = ap length first.ran.asked in
     record {
@@ -63,10 +64,13 @@ returns g c =
     let line = c.args.line in
     let kept = kept_of c.args.self.now.skeletons.items c.args.self.now.tried in
     let next = kept_of c.pick.new.self.skeletons.items c.pick.new.self.tried in
-    let first = c.in_ok-mark.ensures.goes g.H.Host.last _ c.requires.rests in
+    let first = turn_alone _ _ (still_host g.H.Host g.met.H.Host.stays c.args.host.now) _ _ _ _ _ _ _
+    (c.in_ok-mark.ensures.goes g.H.Host.last _ c.requires.rests) in
     let marked = first.ran in
     record {
-      goes = turn_then old mid new g.H.Host.last _ _ _ (λ _. IsMarked line s mid.state) (IsFrontOfMark s.entries line)
+      goes = turn_then old mid new g.H.Host.last _ _ _
+          (joined g.H.Host g.met.H.Host.chains c.args.host.now c.args.host.now c.pick.new.host) (λ _. IsMarked line s mid.state)
+          (IsFrontOfMark s.entries line)
           (λ t h. RanPick h t kept next mid.state new.state) (λ t h. IsFrontOfPick h t kept mid.state.entries)
           (RanBehindPick head task kept next line s new.state) (IsFrontBehindPick head task kept s.entries line)
           c.in_ok-mark.field-0 c.pick.result first c.pick.ensures.goes

@@ -1,6 +1,7 @@
 use Rattle.std.proofs.Common.{◌≡◌, ◌∙◌, ◌++◌, ◌∷◌, [], ap, arith, inl, length, refl, subst, sym}
 use Rattle.std.proofs.lemmas.List.{length-map}
 use Rattle.std.specs.Prelude.{⊤, false}
+use Rattle.round_run.proofs.LedLemmas.{still_host}
 use Rattle.mode_run.proofs.AdaptiveLemmas.{new_front, ran_new}
 use Rattle.mode_run.proofs.SkeletonLemmas.{new_picked}
 use Rattle.mode_run.specs.Adaptive.{RanAdaptive}
@@ -27,7 +28,8 @@ returns-in_err-keep g c =
     let front = IsFrontOfTurn desk.task desk.head (kept_of c.args.self.now.skeletons.items c.args.self.now.tried) desk.state.entries in
     record {
       goes = turn_handed desk desk _ (λ (_ : Unit {0}). ⊤) _ front front Memory c.from_residual.result c.from_residual.ensures.1
-          (turn_memory desk _ g.H.Host.last (g.O.Sink.taken c.args.out.now) (g.O.Sink.faults c.args.out.now) (λ (_ : Unit {0}). ⊤) front
+          (turn_memory desk (still_host g.H.Host g.met.H.Host.stays c.args.host.now) (g.O.Sink.taken c.args.out.now)
+          (g.O.Sink.faults c.args.out.now) (λ (_ : Unit {0}). ⊤) front
           Memory c.requires.rests refl (λ legal. inl refl))
           (λ es legal f. f);
     }
@@ -89,7 +91,7 @@ returns g c =
           ∙ ap (λ n. xs ++ record { entries = entries; real = n; picks = 0; retired = false } ∷ []) real) i;
     } in
     let here = IsFrontBehindPick head task kept s.entries line in
-    let there = RestsAt new (host_told g.H.Host.running g.H.Host.spoken g.H.Host.log g.H.Host.faults c.pick_behind.new.host) in
+    let there = RestsAt new (host_told g.H.Host c.pick_behind.new.host) in
     record {
       goes = turn_as old new _ (λ t. RanBehindPick head task kept next line s new.state t × there)
           (RanAdaptive task head items tried c.pick_behind.new.self.skeletons.items c.pick_behind.new.self.tried s new.state) here

@@ -48,7 +48,7 @@ returns-in-Some g c =
     let next = kept_of c.pick_behind.new.self.skeletons.items c.pick_behind.new.self.tried in
     let h = c.requires.rests.works.listens.session in
     let here = IsFrontBehindPick head task kept s.entries entry.Nothing in
-    let there = RestsAt new (host_told g.H.Host.running g.H.Host.spoken g.H.Host.log g.H.Host.faults c.pick_behind.new.host) in
+    let there = RestsAt new (host_told g.H.Host c.pick_behind.new.host) in
     record {
       goes = turn_as old new _ (λ t. RanBehindPick head task kept next entry.Nothing s new.state t × there)
           (RanAdaptive task head items tried c.pick_behind.new.self.skeletons.items c.pick_behind.new.self.tried s new.state) here
@@ -76,7 +76,7 @@ returns-in-None g c =
     c.as_slice.ensures.value c.in-None.ensures.none in
     let may = subst (λ m. MayFallBack m xs) (sym c.requires.keeps.mode) retired in
     let here = IsFrontOfDreamless task head tried s.entries in
-    let there = RestsAt new (host_told g.H.Host.running g.H.Host.spoken g.H.Host.log g.H.Host.faults c.without_dream.new.host) in
+    let there = RestsAt new (host_told g.H.Host c.without_dream.new.host) in
     record {
       goes = turn_as old new _ (λ t. RanDreamless task head tried next s new.state t × there)
           (RanAdaptive task head items tried items next s new.state) here (IsFrontOfTurn task head (kept_of items tried) s.entries)

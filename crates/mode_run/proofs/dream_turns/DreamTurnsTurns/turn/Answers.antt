@@ -1,5 +1,6 @@
 use Rattle.std.proofs.Common.{◌≡◌, [], arith, inl, refl, subst, sym}
 use Rattle.std.specs.Prelude.{⊤}
+use Rattle.round_run.proofs.LedLemmas.{still_host}
 use Rattle.mode_run.proofs.PartLemmas.{turn_still}
 use Rattle.mode_run.specs.Focusing.{IsFrontOfDreamless, MayFallBack, RanDreamless, RanFocused, carried}
 use Rattle.mode_run.specs.NextDreams.{IsNextDream}
@@ -29,7 +30,8 @@ returns-in_err-dreamt g c =
     let front = IsFrontOfTurn desk.task desk.head (carried c.args.self.now.tried) desk.state.entries in
     record {
       goes = turn_handed desk desk _ (λ (_ : Unit {0}). ⊤) _ front front Memory c.from_residual.result c.from_residual.ensures.1
-          (turn_memory desk _ g.H.Host.last (g.O.Sink.taken c.args.out.now) (g.O.Sink.faults c.args.out.now) (λ (_ : Unit {0}). ⊤) front
+          (turn_memory desk (still_host g.H.Host g.met.H.Host.stays c.args.host.now) (g.O.Sink.taken c.args.out.now)
+          (g.O.Sink.faults c.args.out.now) (λ (_ : Unit {0}). ⊤) front
           Memory c.requires.rests refl (λ legal. inl refl))
           (λ es legal f. f);
     }
@@ -40,7 +42,8 @@ returns-in-Known g c =
     let s = desk.state in
     let o = c.in-Known.outcome in
     record {
-      goes = turn_still desk _ g.H.Host.last (g.O.Sink.taken c.args.out.now) (g.O.Sink.faults c.args.out.now) _ _ (turned.Known o)
+      goes = turn_still desk (still_host g.H.Host g.met.H.Host.stays c.args.host.now) (g.O.Sink.taken c.args.out.now)
+          (g.O.Sink.faults c.args.out.now) _ _ (turned.Known o)
           c.requires.rests (record {
             turned = (
               refl,

@@ -1,5 +1,6 @@
 use Rattle.std.proofs.Common.{◌++◌, ◌∙◌, ap, inl, refl, subst, sym}
 use Rattle.std.specs.Prelude.{⊤}
+use Rattle.round_run.proofs.LedLemmas.{still_host}
 use Rattle.mode_run.proofs.DreamtLemmas.{dreamt_front, firsts_after, may_ask, ran_dreamt}
 use Rattle.mode_run.proofs.FocusingLemmas.{dreamt}
 use Rattle.mode_run.specs.Focusing.{RanFocused, carried}
@@ -23,7 +24,8 @@ returns-in_err-asks g c =
     let front = IsFrontOfTurn desk.task desk.head (carried c.args.tried.now) desk.state.entries in
     record {
       goes = turn_handed desk desk _ (λ (_ : Unit {0}). ⊤) _ front front Memory c.from_residual.result c.from_residual.ensures.1
-          (turn_memory desk _ g.H.Host.last (g.O.Sink.taken c.args.out.now) (g.O.Sink.faults c.args.out.now) (λ (_ : Unit {0}). ⊤) front
+          (turn_memory desk (still_host g.H.Host g.met.H.Host.stays c.args.host.now) (g.O.Sink.taken c.args.out.now)
+          (g.O.Sink.faults c.args.out.now) (λ (_ : Unit {0}). ⊤) front
           Memory c.requires.rests refl (λ legal. inl refl))
           (λ es legal f. f);
     }
@@ -35,7 +37,8 @@ returns-in_err-join g c =
     record {
       goes = turn_handed desk desk _ (λ (_ : Unit {0}). ⊤) _ front front Memory c.from_residual-in_err-join.result
           c.from_residual-in_err-join.ensures.1
-          (turn_memory desk _ g.H.Host.last (g.O.Sink.taken c.args.out.now) (g.O.Sink.faults c.args.out.now) (λ (_ : Unit {0}). ⊤) front
+          (turn_memory desk (still_host g.H.Host g.met.H.Host.stays c.args.host.now) (g.O.Sink.taken c.args.out.now)
+          (g.O.Sink.faults c.args.out.now) (λ (_ : Unit {0}). ⊤) front
           Memory c.requires.rests refl (λ legal. inl refl))
           (λ es legal f. f);
     }
