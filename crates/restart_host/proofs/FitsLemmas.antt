@@ -135,7 +135,7 @@ fits_heard before asked bytes old new m at alive due fits up held is within some
     }
 
 -- the lines of bytes with a line feed
-first_lines : (bytes : List ℕ) (cut : FirstCut bytes)
+pub first_lines : (bytes : List ℕ) (cut : FirstCut bytes)
     → lines_of bytes ≡ strip_last 13 cut.line ∷ lines_of (after_first is_feed bytes)
 first_lines bytes cut =
     ap lines_of (cut.all ∙ sym (append_assoc cut.line (10 ∷ []) (after_first is_feed bytes)))

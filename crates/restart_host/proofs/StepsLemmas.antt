@@ -43,7 +43,7 @@ take_twice k n bytes = elim (cases_lt n k) [
   | inr most ↦ (k, take-take k n bytes most)
 ]
 
-written_first : (child k n : ℕ) (ps : List ℕ) (events : List Event) → k ≡ child
+pub written_first : (child k n : ℕ) (ps : List ℕ) (events : List Event) → k ≡ child
     → spelled child silence (wrote k ps (Ok n) ∷ events) ≡ spelled child (wrote_more (take n ps) silence) events
 written_first child k n ps events own = ap (λ (t : Talk). spelled child t events) (rw (eq-eqb k child own) refl)
 

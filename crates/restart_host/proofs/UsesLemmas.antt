@@ -34,7 +34,7 @@ other_words k child words (wrote j bytes answer) own other = refl
 other_words k child words (heard j room answer) own other = refl
 other_words k child words (stopped j answer) own other = refl
 
-other_said : (k child : ℕ) (talk : Talk) (event : Event) → child_in event ≡ child → k ≢ child
+pub other_said : (k child : ℕ) (talk : Talk) (event : Event) → child_in event ≡ child → k ≢ child
     → said_after k talk event ≡ talk
 other_said k child talk (started j argv (Ok u)) own other = rw (not_equal j k (λ same. other (same ∙ own))) refl
 other_said k child talk (started j argv (Err fault)) own other = refl
@@ -93,7 +93,7 @@ said_wrote : (child n : ℕ) (bytes : List ℕ) (talk : Talk)
     → said_after child talk (wrote child bytes (Ok n)) ≡ wrote_more (take n bytes) talk
 said_wrote child n bytes talk = rw (eq-eqb child child refl) refl
 
-said_heard : (child room : ℕ) (bytes : List ℕ) (talk : Talk)
+pub said_heard : (child room : ℕ) (bytes : List ℕ) (talk : Talk)
     → said_after child talk (heard child room (Ok bytes)) ≡ heard_more bytes talk
 said_heard child room bytes talk = rw (eq-eqb child child refl) refl
 

@@ -1,4 +1,5 @@
 pub mod Again
 pub mod Broken
+pub mod Brought
 pub mod Laws
 pub mod Tabled
