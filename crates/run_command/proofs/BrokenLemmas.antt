@@ -18,10 +18,10 @@ use Rattle.turn_run.specs.Reports.{IsBroken, WasToWrite}
 use Rattle.turn_run.specs.Turns.{IsFrontOfRun}
 
 -- it failed, where it was refused so
-failed_so : (cause : HostFault) → Some cause ≡ Some host.Failed → {T : Type 0}
+failed_so : (T : Type 0) (cause : HostFault) → Some cause ≡ Some host.Failed
     → is_failed (let r : Result T HostFault = Err cause in r) ≡ true
-failed_so host.Failed is = refl
-failed_so host.Memory is = absurd (cc)
+failed_so T host.Failed is = refl
+failed_so T host.Memory is = absurd (cc)
 
 -- calls of which the last failed
 last_failed : (front : List Event) (e : Event) → has_failed e ≡ true → 0 < failures (front ++ e ∷ [])
@@ -43,12 +43,12 @@ alone e f refused one two = let both : f ∷ [] ≡ e ∷ [] = sym two ∙ one i
 wrote_failed : (child : ℕ) (bytes : List ℕ) (cause : HostFault) (e : Event) → wrote child bytes (Err cause) ≡ e
     → refusal e ≡ Some host.Failed → has_failed e ≡ true
 wrote_failed child bytes cause e same told =
-    subst (λ x. has_failed x ≡ true) same (failed_so cause (ap refusal same ∙ told))
+    subst (λ x. has_failed x ≡ true) same (failed_so ℕ cause (ap refusal same ∙ told))
 
 heard_failed : (child room : ℕ) (cause : HostFault) (e : Event) → heard child room (Err cause) ≡ e
     → refusal e ≡ Some host.Failed → has_failed e ≡ true
 heard_failed child room cause e same told =
-    subst (λ x. has_failed x ≡ true) same (failed_so cause (ap refusal same ∙ told))
+    subst (λ x. has_failed x ≡ true) same (failed_so (List ℕ) cause (ap refusal same ∙ told))
 
 module _ (task : Task) (version : ℕ) (pools : List Workers) (past : List Event) (before : List Entry)
     (calls refused : List Event) (Front : List Entry → Type 0) (e : Event) (one : refused ≡ e ∷ [])
@@ -92,7 +92,7 @@ module _ (task : Task) (head : Head) (Front : List Entry → Type 0) where
       let same = alone told.0 (started child words (Err cause)) (started child words (Err cause) ∷ []) told.1 refl in
       subst (λ es. 0 < failures es) (sym is)
       (last_failed (take n (starts_of head.pools)) (started child words (Err cause))
-      (failed_so cause (ap refusal same ∙ told.2)))
+      (failed_so (Unit {0}) cause (ap refusal same ∙ told.2)))
 
   -- a write or a read was refused
   underway_failed : (past : List Event) (before more : List Entry) (events : List Event)
@@ -103,7 +103,7 @@ module _ (task : Task) (head : Head) (Front : List Entry → Type 0) where
       b.told.2 b.begun in
       let some : 0 < failures b.refused = subst (λ es. 0 < failures es) (sym b.told.1) (last_failed [] b.told.0 bad) in
       let later : 0 < failures u.later = subst (λ es. 0 < failures es) (sym b.cut)
-      (front_failed b.done (b.calls ++ b.refused) (front_failed b.calls b.refused some)) in
+      (front_failed (b.done ++ b.calls) b.refused some) in
       subst (λ es. 0 < failures es) (sym u.cut) (front_failed (starts_after head.pools (asks_of before)) u.later later)
 
   log_failed : (entries : List Entry) (old new : Option (List Event)) → LogBroken task head Front entries Generator old new

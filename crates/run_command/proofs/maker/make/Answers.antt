@@ -1,7 +1,7 @@
-use Rattle.std.proofs.Common.{◌≡◌, ap, inl, inr, refl, subst, sym}
+use Rattle.std.proofs.Common.{◌≡◌, Err, ap, inl, inr, refl, subst, sym}
 use Rattle.command_line.specs.Held.{held_solve}
 use Rattle.round_run.proofs.CallsRunLemmas.{stops_none}
-use Rattle.round_run.proofs.StoppedLemmas.{handed_err}
+use Rattle.round_run.proofs.StoppedLemmas.{handed_err, same_err}
 use Rattle.round_run.specs.declared.fault.RunFault.TheVariants as fault
 use Rattle.command_files.specs.Outside.{outside_of, written_of}
 use Rattle.command_files.specs.declared.stop.Stop.TheVariants as stop
@@ -74,7 +74,7 @@ returns-clause-many g c = λ is. absurd (lined_spares _ _ _ c.show.result c.show
 pub returns-in-Err-clause-many : goal.returns-in-Err-clause-many
 returns-in-Err-clause-many g c = λ is.
     subst (λ n. AreTooMany n (course g.H.Host c.args.host.now c.report.new.host))
-    (ap (λ (w : SolveWords). w.restarts) c.in_ok-words.ensures) (c.in-Err.ensures.many is)
+    (ap (λ (w : SolveWords). w.restarts) c.in_ok-words.ensures) (c.in-Err.ensures.many (ap Err (same_err is)))
 
 pub returns-in_err-words-clause-many : goal.returns-in_err-words-clause-many
 returns-in_err-words-clause-many g c =
