@@ -92,7 +92,7 @@ if [ "$can_run" = yes ]; then
     same "light, the report" "$work/light" "$here/examples/light/report"
 fi
 
-# ---- arms, kitchen and bin: samplers in Python
+# ---- arms, kitchen, bin and crash: samplers in Python
 # stored NAME WORDS: the example's stored report is valid, and comes out
 stored() {
     local name=$1 folder=$here/examples/$1
@@ -110,6 +110,7 @@ if [ "$can_run" = yes ]; then
     stored arms --algorithm focused -- python3 arms.py
     stored kitchen --algorithm adaptive -- python3 kitchen.py scene.json
     stored bin --protocol 2 -- python3 bin.py 4
+    stored crash --restarts 3 -- python3 crash.py
 fi
 
 # ---- bin: the same by one tuple a line, in protocol 1 and 2, and its report of version 1 migrated

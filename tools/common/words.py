@@ -4,7 +4,8 @@ from __future__ import annotations
 from dataclasses import dataclass
 
 MODES = ("incremental", "focused", "binding", "adaptive")
-NUMBERS = {"--calls": 100_000, "--states": 200_000, "--depth": 8, "--workers": 16, "--protocol": 2}
+NUMBERS = {"--calls": (1, 100_000), "--states": (1, 200_000), "--depth": (1, 8), "--workers": (1, 16), "--protocol": (1, 2),
+           "--restarts": (0, 1_000)}
 FLAGS = ("--optimal",)
 TEXTS = {"solve": ["DOMAIN", "PROBLEM", "STREAMS"], "replay": ["DOMAIN", "PROBLEM", "STREAMS", "REPORT"],
          "generate": ["N"], "migrate": ["REPORT"], "deorder": ["DOMAIN", "PROBLEM", "STREAMS", "REPORT"],
@@ -77,14 +78,15 @@ def _option_cause(command: str, name: str, value: str | None) -> str | None:
         return f"`{name}` has no value"
     if name == "--algorithm" and value not in MODES:
         return f"`{value}` is no mode: {', '.join(MODES)}"
-    if name in NUMBERS and not is_count(value, NUMBERS[name]):
-        return f"`{name} {value}`: a number from 1 to {NUMBERS[name]:,} is due, one to seven digits"
+    if name in NUMBERS and not is_number(value, *NUMBERS[name]):
+        least, most = NUMBERS[name]
+        return f"`{name} {value}`: a number from {least} to {most:,} is due, one to seven digits"
     return None
 
 
-def is_count(word: str, most: int) -> bool:
-    """Whether a word is one to seven digits with a value from 1 to the most."""
-    return word.isascii() and word.isdigit() and len(word) <= 7 and 1 <= int(word) <= most
+def is_number(word: str, least: int, most: int) -> bool:
+    """Whether a word is one to seven digits with a value from the least to the most."""
+    return word.isascii() and word.isdigit() and len(word) <= 7 and least <= int(word) <= most
 
 
 def _twice(options: list[tuple[str, str | None]]) -> str | None:
@@ -97,7 +99,7 @@ def _missing(command: str, texts: list[str], others: list[str]) -> str | None:
         return f"{texts[len(others)]} is missing: {command} {' '.join(texts)}"
     if command != "solve" and len(others) > len(texts):
         return f"`{others[len(texts)]}` is a word too many: {command} {' '.join(texts)}"
-    if command == "generate" and not is_count(others[0], 12):
+    if command == "generate" and not is_number(others[0], 1, 12):
         return f"`{others[0]}` is no number from 1 to 12"
     return None
 

@@ -17,10 +17,10 @@ _pddlstream() {
     case $before in
         --algorithm) COMPREPLY=($(compgen -W "incremental focused binding adaptive" -- "$word")); return ;;
         --protocol) COMPREPLY=($(compgen -W "1 2" -- "$word")); return ;;
-        --calls | --states | --depth | --workers) return ;;
+        --calls | --states | --depth | --workers | --restarts) return ;;
     esac
     case $command:$word in
-        solve:-*) COMPREPLY=($(compgen -W "--map --algorithm --calls --states --depth --workers --protocol --optimal --" -- "$word")) ;;
+        solve:-*) COMPREPLY=($(compgen -W "--map --algorithm --calls --states --depth --workers --protocol --restarts --optimal --" -- "$word")) ;;
         migrate:-*) ;;
         replay:-*) COMPREPLY=($(compgen -W "--states --optimal" -- "$word")) ;;
         deorder:-* | play:-*) COMPREPLY=($(compgen -W "--states" -- "$word")) ;;

@@ -26,10 +26,11 @@ class Manual(unittest.TestCase):
         self.assertEqual(re.findall(r"^\.BI (--\w+)", self.manual, re.M), listed)
 
     def test_ranges_and_defaults_are_those_of_the_page(self):
-        for option, most, default in re.findall(r"^\| `(--\w+)` \| 1 to ([\d,]+) \| ([\d,]+) \|", self.using, re.M):
-            self.assertEqual(int(most.replace(",", "")), NUMBERS[option])
+        for option, least, most, default in re.findall(r"^\| `(--\w+)` \| (\d) to ([\d,]+) \| ([\d,]+) \|", self.using,
+                                                       re.M):
+            self.assertEqual((int(least), int(most.replace(",", ""))), NUMBERS[option])
             part = self.manual[self.manual.index(f".BI {option}"):][:250]
-            self.assertIn(f"1 to {most}; {default} where none is given", part)
+            self.assertIn(f"{least} to {most}; {default} where none is given", part)
 
     def test_the_statuses_are_those_of_the_page(self):
         statuses = re.findall(r"^(\d+)\t(.*)$", self.manual, re.M)

@@ -34,6 +34,7 @@ class Words(unittest.TestCase):
                              ("solve d p s --depth 2 --depth 3", "twice"), ("solve d p s --algorithm fast", "`fast`"),
                              ("solve d p s --map m -- g", "`g` stands beside"), ("solve d p s sh -c x", "put `--`"),
                              ("solve d p s --protocol 3", "1 to 2"), ("solve d p s --optimal=true", "no value"),
+                             ("solve d p s --restarts 1001", "0 to 1,000"), ("replay d p s r --restarts 1", "no option"),
                              ("solve d p s --optimal --algorithm binding", "`--algorithm binding`"),
                              ("replay d p s r --optimal --optimal", "twice"), ("play d p s r g --optimal", "no option"),
                              ("migrate", "REPORT is missing"),

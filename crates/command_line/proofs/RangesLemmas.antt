@@ -1,5 +1,5 @@
 -- The numbers that the words of a command mean are in their ranges.
-use Rattle.std.proofs.Common.{◌≡◌, ℕ, arith, Bool, true, false, ◌&&◌, nat_le, List, [], ◌∷◌, codes, bytes_eq, subst, Some, None, Option, refl, if◌then◌else◌, option_map}
+use Rattle.std.proofs.Common.{◌≡◌, ◌≤◌, ℕ, arith, Bool, true, false, ◌&&◌, nat_le, List, [], ◌∷◌, codes, bytes_eq, subst, Some, None, Option, refl, if◌then◌else◌, option_map}
 use Rattle.std.proofs.lemmas.Bool.{leb-true}
 use Rattle.std.specs.Cmp.{first_so, second_so}
 use Rattle.std.specs.Str.Parse.{digits_value}
@@ -8,7 +8,7 @@ use Rattle.transcript_model.specs.declared.head.Mode.{Mode}
 use Rattle.transcript_model.specs.declared.head.Mode.TheVariants.{Incremental, Focused, Binding, Adaptive}
 use Rattle.clap.specs.Words.{App, Row, Text, first_of, matches_of}
 use Rattle.command_line.specs.Apps.{deorder_app, generate_app, is_taken, play_app, replay_app, solve_app}
-use Rattle.command_line.specs.Numbers.{are_few_digits, count_in, count_in_word, count_or, is_count}
+use Rattle.command_line.specs.Numbers.{are_few_digits, count_in, count_in_word, is_number, number_in, number_in_word, number_or}
 use Rattle.command_line.specs.Ranges.{AreInRange, IsFromOne, IsInRange}
 use Rattle.command_line.specs.Words.{Command, GivenLimits, PlayWords, ReplayWords, SolveWords, are_apart, command_of, deorder, deorder_in, deorder_of, files_in, generate, generate_in, generate_of, goes_with, is_set, limits_in, migrate, migrate_of, mode_or, path_in, play, play_in, play_of, program_in, read_by, replay, replay_in, replay_of, report_in, solve, solve_in, solve_of}
 use Rattle.lemmas.proofs.Options.{and_then_some, where_true}
@@ -16,26 +16,35 @@ use Rattle.std.proofs.lemmas.Option.{same_Some}
 
 -- ---- numbers
 
-digits_between : (most : ℕ) (word : Text) → is_count most word ≡ true
-    → IsFromOne most (digits_value 10 word)
-unfolding is_count
-digits_between most word e =
-    let some = nat_le 1 (digits_value 10 word) in
+-- from the least to the most
+abbrev IsFromTo : (least most : ℕ) → ℕ → Type 0
+IsFromTo least most n = (least ≤ n) × (n ≤ most)
+
+digits_between : (least most : ℕ) (word : Text) → is_number least most word ≡ true
+    → IsFromTo least most (digits_value 10 word)
+unfolding is_number
+digits_between least most word e =
+    let some = nat_le least (digits_value 10 word) in
     let few = nat_le (digits_value 10 word) most in (
-      leb-true 1 (digits_value 10 word) (second_so (are_few_digits word) some (first_so (are_few_digits word && some) few e)),
+      leb-true least (digits_value 10 word) (second_so (are_few_digits word) some (first_so (are_few_digits word && some) few e)),
       leb-true (digits_value 10 word) most (second_so (are_few_digits word && some) few e),
     )
 
-count_between : (most : ℕ) (word : Text) (n : ℕ) → count_in_word most word ≡ Some n → IsFromOne most n
-count_between most word n e =
-    let found = where_true (is_count most word) (Some (digits_value 10 word)) n e in
-    subst (IsFromOne most) (same_Some (digits_value 10 word) n found.1) (digits_between most word found.0)
+number_between : (least most : ℕ) (word : Text) (n : ℕ) → number_in_word least most word ≡ Some n → IsFromTo least most n
+number_between least most word n e =
+    let found = where_true (is_number least most word) (Some (digits_value 10 word)) n e in
+    subst (IsFromTo least most) (same_Some (digits_value 10 word) n found.1) (digits_between least most word found.0)
+
+or_between_from : (least most default : ℕ) → IsFromTo least most default → (word : Option Text) (n : ℕ)
+    → number_or least most default word ≡ Some n
+    → IsFromTo least most n
+or_between_from least most default some None n e = subst (IsFromTo least most) (same_Some default n e) some
+or_between_from least most default some (Some word) n e = number_between least most word n e
 
 or_between : (most default : ℕ) → IsFromOne most default → (word : Option Text) (n : ℕ)
-    → count_or most default word ≡ Some n
+    → number_or 1 most default word ≡ Some n
     → IsFromOne most n
-or_between most default some None n e = subst (IsFromOne most) (same_Some default n e) some
-or_between most default some (Some word) n e = count_between most word n e
+or_between = or_between_from 1
 
 -- ---- what is read of rows
 
@@ -77,6 +86,7 @@ solve_between rows w e =
     let limits = and_then_some _ (limits_in rows) w mode.2 in
     let workers = and_then_some _ (count_in (codes "workers") 16 1 rows) w limits.2 in
     let protocol = and_then_some _ (count_in (codes "protocol") 2 1 rows) w workers.2 in
+    let restarts = and_then_some _ (number_in (codes "restarts") 0 1000 0 rows) w protocol.2 in
     let made : SolveWords = record {
       files = files.0;
       path = path_in rows;
@@ -86,10 +96,11 @@ solve_between rows w e =
       limits = limits.0;
       protocol = protocol.0;
       optimal = is_set (codes "optimal") rows;
+      restarts = restarts.0;
     } in
     let apart = are_apart (path_in rows) (first_of (codes "workers") rows) (program_in rows) in
     let goes = goes_with mode.0 (is_set (codes "optimal") rows) in
-    let found = where_true (apart && goes) (Some made) w protocol.2 in
+    let found = where_true (apart && goes) (Some made) w restarts.2 in
     let few = limits_between rows limits.0 limits.1 in
     let ranges : AreInRange made = record {
       calls = few.0;
@@ -97,6 +108,8 @@ solve_between rows w e =
       depth = few.2;
       workers = or_between 16 1 (omega arith, omega arith) (first_of (codes "workers") rows) workers.0 workers.1;
       protocol = or_between 2 1 (omega arith, omega arith) (first_of (codes "protocol") rows) protocol.0 protocol.1;
+      restarts = (or_between_from 0 1000 0 (omega arith, omega arith) (first_of (codes "restarts") rows) restarts.0
+          restarts.1).1;
       alone = alone_from (path_in rows) (first_of (codes "workers") rows) (program_in rows)
           (first_so apart goes found.0);
       cheapest = mode_from mode.0 (is_set (codes "optimal") rows) (second_so apart goes found.0);
@@ -124,7 +137,7 @@ play_between rows w e =
 generate_between : (rows : List Row) (n : ℕ) → generate_in rows ≡ Some n → IsFromOne 12 n
 generate_between rows n e =
     let text = and_then_some _ (first_of (codes "number") rows) n e in
-    count_between 12 text.0 n text.2
+    number_between 1 12 text.0 n text.2
 
 -- ---- commands
 

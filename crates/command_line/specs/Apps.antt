@@ -26,13 +26,13 @@ task_app name =
     (positional (codes "streams"))
 
 -- solve DOMAIN PROBLEM STREAMS [--map FILE] [--algorithm NAME] [--calls N] [--states N] [--depth N] [--workers N]
--- [--protocol N] [--optimal] [-- PROGRAM WORDS]
+-- [--protocol N] [--optimal] [--restarts N] [-- PROGRAM WORDS]
 unfoldable pub solve_app : App
 solve_app =
-    with_rule (with_rule (with_rule (with_rule (with_rule (with_rule (with_rule (with_rule (with_rule
+    with_rule (with_rule (with_rule (with_rule (with_rule (with_rule (with_rule (with_rule (with_rule (with_rule
     (task_app (codes "solve")) (trailing (codes "program"))) (option (codes "map"))) (option (codes "algorithm")))
     (option (codes "calls"))) (option (codes "states"))) (option (codes "depth"))) (option (codes "workers")))
-    (option (codes "protocol"))) (flag (codes "optimal"))
+    (option (codes "protocol"))) (flag (codes "optimal"))) (option (codes "restarts"))
 
 -- DOMAIN PROBLEM STREAMS REPORT [--states N]
 abbrev pub report_app : Text → App

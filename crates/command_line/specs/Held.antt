@@ -18,6 +18,7 @@ held_solve c = record {
   limits = record { calls = c.calls; states = c.states; depth = c.depth };
   protocol = c.protocol;
   optimal = c.optimal;
+  restarts = c.restarts;
 }
 
 -- `replay` or `deorder`, by the bytes of its texts

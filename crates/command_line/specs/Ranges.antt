@@ -4,7 +4,7 @@ use Rattle.clap.specs.Words.{Text}
 use Rattle.transcript_model.specs.declared.head.Mode.TheVariants.{Incremental}
 use Rattle.transcript_model.specs.declared.limits.TheConstants.{MOST_CALLS, MOST_DEPTH, WORKERS}
 use Rattle.command_line.specs.Words.{Command, SolveWords, command_of, deorder, generate, migrate, play, replay, solve}
-use Rattle.command_line.specs.declared.number.TheConstants.{LATEST_PROTOCOL}
+use Rattle.command_line.specs.declared.number.TheConstants.{LATEST_PROTOCOL, MOST_RESTARTS}
 use Rattle.task_model.specs.declared.limits.TheConstants.{MOST_STATES}
 
 -- from 1 to the most
@@ -19,6 +19,7 @@ pub record AreInRange (w : SolveWords) : Type 0 where
   pub depth : IsFromOne MOST_DEPTH w.limits.depth
   pub workers : IsFromOne WORKERS w.workers
   pub protocol : IsFromOne LATEST_PROTOCOL w.protocol
+  pub restarts : w.restarts ≤ MOST_RESTARTS
   pub alone : (path : Text) → w.path ≡ Some path → w.program ≡ []
   pub cheapest : w.optimal ≡ true → w.mode ≡ Incremental
 

@@ -38,6 +38,7 @@ lent_solve w = record {
   limits = lent_limits w.limits;
   protocol = w.protocol;
   optimal = w.optimal;
+  restarts = w.restarts;
 }
 
 abbrev pub shown_solve : Option code_solve.SolveWords → Option SolveWords

@@ -5,8 +5,8 @@ use Rattle.transcript_model.specs.declared.head.Mode.{Mode}
 use Rattle.transcript_model.specs.declared.head.Mode.TheVariants.{Incremental, Focused, Binding, Adaptive}
 use Rattle.transcript_model.specs.declared.limits.TheConstants.{MOST_CALLS, MOST_DEPTH, WORKERS}
 use Rattle.command_line.specs.Apps.{deorder_app, generate_app, is_taken, migrate_app, play_app, replay_app, solve_app}
-use Rattle.command_line.specs.Numbers.{count_in, count_in_word}
-use Rattle.command_line.specs.declared.number.TheConstants.{DEFAULT_CALLS, DEFAULT_DEPTH, DEFAULT_STATES, LATEST_PROTOCOL}
+use Rattle.command_line.specs.Numbers.{count_in, count_in_word, number_in}
+use Rattle.command_line.specs.declared.number.TheConstants.{DEFAULT_CALLS, DEFAULT_DEPTH, DEFAULT_STATES, LATEST_PROTOCOL, MOST_RESTARTS}
 use Rattle.task_model.specs.declared.limits.TheConstants.{MOST_STATES}
 
 -- the paths of a task's three texts
@@ -22,7 +22,7 @@ pub record GivenLimits : Type 0 where
   pub depth : ℕ
 
 -- `solve` with a task, a map or a program, the program's number of workers, a mode, limits, the version of the
--- protocol, and whether the cheapest plan is asked for
+-- protocol, whether the cheapest plan is asked for, and how many failures of children are made good
 pub record SolveWords : Type 0 where
   pub files : TaskFiles
   pub path : Option Text
@@ -32,6 +32,7 @@ pub record SolveWords : Type 0 where
   pub limits : GivenLimits
   pub protocol : ℕ
   pub optimal : Bool
+  pub restarts : ℕ
 
 -- `replay` or `deorder` with a task, a report, the most states, and whether the plan's cost is judged too
 pub record ReplayWords : Type 0 where
@@ -135,6 +136,7 @@ solve_in rows =
     if_given (limits_in rows) (λ limits.
     if_given (count_in (codes "workers") WORKERS 1 rows) (λ workers.
     if_given (count_in (codes "protocol") LATEST_PROTOCOL 1 rows) (λ protocol.
+    if_given (number_in (codes "restarts") 0 MOST_RESTARTS 0 rows) (λ restarts.
     if are_apart (path_in rows) (first_of (codes "workers") rows) (program_in rows)
     && goes_with mode (is_set (codes "optimal") rows)
     then Some (record {
@@ -146,8 +148,9 @@ solve_in rows =
       limits = limits;
       protocol = protocol;
       optimal = is_set (codes "optimal") rows;
+      restarts = restarts;
     })
-    else None)))))
+    else None))))))
 
 -- the words of `replay` and `deorder`, where the plan's cost is judged too or isn't
 abbrev pub report_in : Bool → List Row → Option ReplayWords

@@ -32,6 +32,9 @@ pub struct SolveConfig {
     pub protocol: u8,
     /// Whether the cheapest plan is asked for: `--optimal`, which goes with incremental mode alone.
     pub optimal: bool,
+    /// How many failures of children are made good by starting them again, 0 to 1,000:
+    /// `--restarts`, and 0 without it.
+    pub restarts: u32,
 }
 
 /// A report is to be judged: `replay DOMAIN PROBLEM STREAMS REPORT [--states N] [--optimal]`, or its

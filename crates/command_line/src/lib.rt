@@ -17,6 +17,6 @@ mod words;
 
 pub use config::{Config, PlayConfig, ReplayConfig, SolveConfig};
 pub use fault::WordsFault;
-pub use number::{DEFAULT_CALLS, DEFAULT_DEPTH, DEFAULT_STATES, LATEST_PROTOCOL};
+pub use number::{DEFAULT_CALLS, DEFAULT_DEPTH, DEFAULT_STATES, LATEST_PROTOCOL, MOST_RESTARTS};
 pub use usage::usage_text;
 pub use words::read_words;

@@ -7,7 +7,10 @@ ghost use Rattle.command_line.specs.Shown.{lent_solve, shown_limits, shown_progr
 ghost use Rattle.command_line.specs.Words.{are_apart, goes_with, limits_in, mode_or, solve_in, solve_of};
 
 use crate::line::{flag, matches_of_words, option, set_in, text_in, trailing, words_in};
-use crate::number::{DEFAULT_CALLS, DEFAULT_DEPTH, DEFAULT_STATES, LATEST_PROTOCOL, count_in};
+use crate::number::{
+    DEFAULT_CALLS, DEFAULT_DEPTH, DEFAULT_STATES, LATEST_PROTOCOL, MOST_RESTARTS, count_in,
+    number_in,
+};
 use crate::task::{TaskFiles, files_in, task_command};
 use crate::{SolveConfig, WordsFault};
 use clap::{ArgMatches, Command};
@@ -34,6 +37,7 @@ struct SolveWords<'m, 'a> {
     limits: Limits,
     protocol: u8,
     optimal: bool,
+    restarts: u32,
 }
 
 fn solve_command<'a>(alloc: Global) -> Result<Command<'a>, AllocError>
@@ -48,7 +52,8 @@ fn solve_command<'a>(alloc: Global) -> Result<Command<'a>, AllocError>
         .arg(option(alloc, "depth"))?
         .arg(option(alloc, "workers"))?
         .arg(option(alloc, "protocol"))?
-        .arg(flag(alloc, "optimal"))
+        .arg(flag(alloc, "optimal"))?
+        .arg(option(alloc, "restarts"))
 }
 
 /// The mode of this name, and incremental mode where the words name none.
@@ -116,6 +121,7 @@ fn solve_in<'m, 'a>(matches: &'m ArgMatches<'a>) -> Option<SolveWords<'m, 'a>>
     let limits = limits_in(matches)?;
     let workers = count_in(matches, "workers", WORKERS as u32, 1)?;
     let protocol = count_in(matches, "protocol", LATEST_PROTOCOL, 1)?;
+    let restarts = number_in(matches, "restarts", 0, MOST_RESTARTS, 0)?;
     let optimal = set_in(matches, "optimal");
     let map = text_in(matches, "map");
     let program = words_in(matches, "program");
@@ -129,6 +135,7 @@ fn solve_in<'m, 'a>(matches: &'m ArgMatches<'a>) -> Option<SolveWords<'m, 'a>>
             limits,
             protocol: protocol as u8,
             optimal,
+            restarts,
         })
     } else {
         None
@@ -173,6 +180,7 @@ fn solve_held(alloc: Global, words: SolveWords<'_, '_>) -> Result<SolveConfig, A
         depth: words.limits.depth,
         protocol: words.protocol,
         optimal: words.optimal,
+        restarts: words.restarts,
     })
 }
 

@@ -2,7 +2,7 @@
 //! cite a constant by its name, so that no clause of theirs fixes its value; these laws do.
 #![tactic(auto)]
 
-ghost use Rattle.command_line.specs.declared.number.TheConstants.{DEFAULT_CALLS, DEFAULT_DEPTH, DEFAULT_STATES, LATEST_PROTOCOL};
+ghost use Rattle.command_line.specs.declared.number.TheConstants.{DEFAULT_CALLS, DEFAULT_DEPTH, DEFAULT_STATES, LATEST_PROTOCOL, MOST_RESTARTS};
 ghost use Rattle.fact_store.specs.declared.facts.TheConstants.{MOST_NAMES};
 ghost use Rattle.gen_lines.specs.declared.line_buf.TheConstants.{LINE_BYTES};
 ghost use Rattle.gen_lines.specs.declared.values.TheConstants.{VALUE_BYTES};
@@ -20,7 +20,7 @@ ghost use Rattle.transcript_model.specs.declared.limits.TheConstants.{MOST_CALLS
 /// at most 200,000 states; a run makes at most 100,000 requests, of pools with at most 16 workers
 /// and children below 17; entries are supposed at most 8 deep; a value has at most 64 bytes, and
 /// fewer than 2^32 - 2^18 objects have names. The grid's program answers at most 100,000 lines.
-/// The protocol has two versions.
+/// The protocol has two versions. At most 1,000 failures of children are made good.
 pub fn limits_have_their_values()
     ensures numbers { LARGEST_NUMBER ≡ 1000000 }
     ensures due { MOST_DUE ≡ 1000000 }
@@ -33,6 +33,7 @@ pub fn limits_have_their_values()
     ensures names { MOST_NAMES ≡ 4294705152 }
     ensures lines { MOST_LINES ≡ 100000 }
     ensures protocols { LATEST_PROTOCOL ≡ 2 }
+    ensures restarts { MOST_RESTARTS ≡ 1000 }
 {}
 
 /// At most 20,000 entries are supposed at a time, counts and the numbers of a report go up to

@@ -41,7 +41,7 @@ fn write_optimal(out: &mut Out, optimal: bool) {
 }
 
 /// Writes paths, calls, states, depth, workers and mode, the protocol where it isn't 1, whether the
-/// cheapest plan is asked for, and then the map or the program.
+/// cheapest plan is asked for, the restarts where they aren't 0, and then the map or the program.
 fn write_solve(out: &mut Out, config: &SolveConfig) {
     out.put("solve");
     write_word(out, config.domain.as_str());
@@ -57,6 +57,10 @@ fn write_solve(out: &mut Out, config: &SolveConfig) {
         write_number(out, u32::from(config.protocol));
     }
     write_optimal(out, config.optimal);
+    if config.restarts != 0 {
+        out.put(" restarts");
+        write_number(out, config.restarts);
+    }
     if let Some(map) = &config.map {
         out.put(" map");
         write_word(out, map.as_str());

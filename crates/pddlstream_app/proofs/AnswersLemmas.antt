@@ -109,10 +109,11 @@ module _ (words : List (List ℕ)) (c : Command) (meant : command_of words ≡ S
   asks all = record { command = c; meant = meant; asks = all }
 
   -- it was told whole
-  pub answer_completed : (r : Result Status Stop) → IsAnswerTold c files written r → IfOk r (IsCompleted words outside written)
-  answer_completed (Ok status) a =
+  pub answer_completed : (Same : Type 0) (r : Result Status Stop) → IsAnswerTold c files written r
+      → IfOk r (IsCompleted words outside Same written)
+  answer_completed Same (Ok status) a =
       record { text = a.text; has = inr (answers status a.text a.answer); unneeded = tt; took = a.took }
-  answer_completed (Err why) a = tt
+  answer_completed Same (Err why) a = tt
 
   -- it was not told, or in part
   pub answer_stopped : (r : Result Status Stop) → IsAnswerTold c files written r → IfErr r (IsStopped words outside written)

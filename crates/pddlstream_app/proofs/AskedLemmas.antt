@@ -129,12 +129,13 @@ module _ (words : List (List ℕ)) (outside : Outside) (asked : SolveWords) (mea
   asked_unsolved written why (inr u) =
       subst (AsksBefore words outside.files) (sym u.is) (asked_running words outside.files u.fault (asks_solving u.asks))
 
-  pub solved_asked : (written : Written) (r : Result Status Stop) → SolvesRun asked outside written r
-      → IfOk r (λ status. AsksAll words outside.files)
+  pub solved_asked : {Same : Type 0} (written : Written) (r : Result Status Stop)
+      → SolvesRun asked outside Same written r → IfOk r (λ status. AsksAll words outside.files)
   solved_asked written (Ok status) e = asks_solving e.solved.asks
   solved_asked written (Err why) e = tt
 
-  pub solved_asked_before : (written : Written) (r : Result Status Stop) → SolvesRun asked outside written r
+  pub solved_asked_before : {Same : Type 0} (written : Written) (r : Result Status Stop)
+      → SolvesRun asked outside Same written r
       → IfErr r (AsksBefore words outside.files)
   solved_asked_before written (Ok status) e = tt
   solved_asked_before written (Err why) none = asked_unsolved written why none
@@ -157,7 +158,8 @@ module _ (words : List (List ℕ)) (outside : Outside) (number : ℕ) (meant : c
   made_asked (Ok status) = asks_making
   made_asked (Err why) = tt
 
-  pub made_asked_before : (written : Written) (r : Result Status Stop) → MakesRun number (over_made number outside) written r
+  pub made_asked_before : {Same : Type 0} (written : Written) (r : Result Status Stop)
+      → MakesRun number (over_made number outside) Same written r
       → IfErr r (AsksBefore words outside.files)
   made_asked_before written (Ok status) e = tt
   made_asked_before written (Err why) (inl e) =
@@ -171,8 +173,8 @@ module _ (words : List (List ℕ)) (outside : Outside) (number : ℕ) (meant : c
       of (inr made) = asked_unmade made.inner why made.none
 
 -- the run has an outcome, or the command answers
-pub asked_completed : (words : List (List ℕ)) (outside : Outside) (some written : Written) (status : Status)
-    → IsCompleted words outside some status → AsksAll words outside.files
+pub asked_completed : {Same : Type 0} (words : List (List ℕ)) (outside : Outside) (some written : Written) (status : Status)
+    → IsCompleted words outside Same some status → AsksAll words outside.files
     → AsksFiles words outside.files written status
 asked_completed words outside some written status c all = of c.has
   where

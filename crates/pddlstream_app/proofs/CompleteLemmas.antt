@@ -291,8 +291,8 @@ module _ {words : List (List ℕ)} {outside : Outside} {host_rose sink_rose : Ty
   stops_for_memory written (stop.Run fault.Memory) b host = refl
 
   -- a task that is solved has an outcome
-  answered_outcome : {written : Written} (status : Status)
-      → IsCompleted words outside written status → EndsWell status
+  answered_outcome : {Same : Type 0} {written : Written} (status : Status)
+      → IsCompleted words outside Same written status → EndsWell status
   answered_outcome status c = of c.has
     where
       solved : (o : Outcome) → EndsWell (outcome_status o)
@@ -306,9 +306,9 @@ module _ {words : List (List ℕ)} {outside : Outside} {host_rose sink_rose : Ty
       of (inr h) = absurd (no_answer asked well.meant h)
 
   -- it has one that is no limit, where generators answer by a table that keeps it within its limits
-  answered_settled : {written : Written} (status : Status) (answers : Answers)
+  answered_settled : {Same : Type 0} {written : Written} (status : Status) (answers : Answers)
       → AreGivenAnswers words outside answers
-      → IsCompleted words outside written status → SettlesBy words outside.files.told answers status
+      → IsCompleted words outside Same written status → SettlesBy words outside.files.told answers status
   answered_settled status answers given c = of c.has
     where
       of : HasOutcome words outside status c.text ⊎ HasAnswer words outside status c.text
@@ -332,7 +332,7 @@ answered_close IsSo lacks why written status is sink (inr (inr x)) = absurd (sin
 
 module _ {words : List (List ℕ)} {outside : Outside} {host_rose sink_rose : Type 0} where
   -- the run has an outcome, or the command answers
-  pub completes_done : {written : Written} (status : Status) → IsCompleted words outside written status
+  pub completes_done : {Same : Type 0} {written : Written} (status : Status) → IsCompleted words outside Same written status
       → Completes words outside host_rose sink_rose status
   completes_done status c = record {
     ends = λ well. answered_outcome well status c;

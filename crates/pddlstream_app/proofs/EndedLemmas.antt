@@ -29,18 +29,22 @@ said_ended Invalid e = refl
 said_ended Limit e = refl
 said_ended status e = absurd (cc)
 
-pub completed_ended : (words : List (List ℕ)) (outside : Outside) (written : Written) (status : Status)
-    → IsCompleted words outside written status → is_ended status ≡ true
-completed_ended words outside written status c = of c.has
+pub completed_ended : (words : List (List ℕ)) (outside : Outside) (Same : Type 0) (written : Written) (status : Status)
+    → IsCompleted words outside Same written status → is_ended status ≡ true
+completed_ended words outside Same written status c = of c.has
   where
     of : HasOutcome words outside status c.text ⊎ HasAnswer words outside status c.text → is_ended status ≡ true
     of (inl h) = ap is_ended (sym h.kind) ∙ outcome_ended h.outcome
     of (inr h) = said_ended status (answer_said words outside status c.text h)
+
+-- so it is no fault
+pub ended_other : (status fault : Status) → is_ended status ≡ true → is_ended fault ≡ false → status ≡ fault → ⊥
+ended_other status fault ended lost is = let both : true ≡ false = sym ended ∙ ap is_ended is ∙ lost in absurd (cc)
 
 -- so it needs no cause
 pub caused_ended : (status fault : Status) → is_ended status ≡ true → is_ended fault ≡ false → (last before now : ℕ) → before ≤ now
     → Caused (status ≡ fault) last before now
 caused_ended status fault ended lost last before now later = record {
   later = later;
-  cause = λ is. absurd (let both : true ≡ false = sym ended ∙ ap is_ended is ∙ lost in cc);
+  cause = λ is. absurd (ended_other status fault ended lost is);
 }

@@ -87,15 +87,15 @@ module _ (words : List (List ℕ)) (outside : Outside) (written : Written) where
   outcome_in status text found (inr (inr h)) =
       absurd (not_both (status_at h.stop) status h.kind (stop_not_found h.stop) found)
 
-  module _ (status : Status) (ends : Ends words outside written status) where
+  module _ (Same : Type 0) (status : Status) (ends : Ends words outside Same written status) where
     pub plan_printed : status ≡ Plan → PrintsPlan words outside.files.told written
     plan_printed is =
-        let all = taken_all words outside written Plan refl (subst (Ends words outside written) is ends) in
+        let all = taken_all words outside Same written Plan refl (subst (Ends words outside Same written) is ends) in
         let has = outcome_in Plan all.text refl all.writes in
         plan_from has.outcome has.kind has.run has.turns (subst (Appends written.before written.after) has.is all.took)
 
     pub no_plan_printed : status ≡ NoPlan → PrintsNoPlan words outside.files.told written
     no_plan_printed is =
-        let all = taken_all words outside written NoPlan refl (subst (Ends words outside written) is ends) in
+        let all = taken_all words outside Same written NoPlan refl (subst (Ends words outside Same written) is ends) in
         let has = outcome_in NoPlan all.text refl all.writes in
         no_plan_from has.outcome has.kind has.run has.turns (subst (Appends written.before written.after) has.is all.took)

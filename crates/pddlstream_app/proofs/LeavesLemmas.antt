@@ -69,9 +69,10 @@ at_text (stop.Run fault.Memory) b = absurd b
 
 module _ {H : Type 0} (words : List (List ℕ)) (old new : H) where
   -- the run has an outcome, or the command answers
-  pub leaves_completed : (outside : Outside) (written : Written) (status : Status)
-      → SparesHost words (Ok status) old new → IsCompleted words outside written status → LeavesHost words status old new
-  leaves_completed outside written status s c = record { answer = s.answer; usage = s.usage; input = λ b. absurd (of c.has b) }
+  pub leaves_completed : (outside : Outside) (Same : Type 0) (written : Written) (status : Status)
+      → SparesHost words (Ok status) old new → IsCompleted words outside Same written status
+      → LeavesHost words status old new
+  leaves_completed outside Same written status s c = record { answer = s.answer; usage = s.usage; input = λ b. absurd (of c.has b) }
     where
       ran : (o : Outcome) → IsBeforeHost (outcome_status o) → ⊥
       ran (outcome.Plan steps cost from) b = b

@@ -14,3 +14,4 @@ pub mod RefusalsLemmas
 pub mod CausesLemmas
 pub mod LeavesLemmas
 pub mod PlayLemmas
+pub mod StandsLemmas

@@ -22,7 +22,8 @@ use Rattle.run_command.proofs.MakingLemmas.{over_made}
 
 module _ (words : List (List ℕ)) (outside : Outside) (number : ℕ) (meant : command_of words ≡ Some (generate number))
     (nothing : Extends outside.files.before outside.files.after []) where
-  module _ (inner outer : Written) (ran : Ran) (s : IsSolved made_words (over_made number outside) inner ran) where
+  module _ (Same : Type 0) (inner outer : Written) (ran : Ran)
+      (s : IsSolved made_words (over_made number outside) Same inner ran) where
     abbrev line : List ℕ
     line = made_line number ran.outcome ran.levels ran.asks
 
@@ -37,10 +38,10 @@ module _ (words : List (List ℕ)) (outside : Outside) (number : ℕ) (meant : c
 
     -- the line was written
     completed_making : (result : Result Status Stop) → IsLined (outcome_status ran.outcome) line outer result
-        → IfOk result (IsCompleted words outside outer)
+        → IfOk result (IsCompleted words outside Same outer)
     completed_making (Ok status) said =
-        subst (IsCompleted words outside outer) (sym said.0)
-        (completed_with words outside (making number) meant s.task s.head s.posed outer ran s.reported s.unneeded
+        subst (IsCompleted words outside Same outer) (sym said.0)
+        (completed_with words outside (making number) meant s.task s.head s.posed Same outer ran s.reported s.unneeded
         (subst (Appends outer.before outer.after) line_is said.1))
     completed_making (Err why) said = tt
 
@@ -88,13 +89,14 @@ module _ (words : List (List ℕ)) (outside : Outside) (number : ℕ) (meant : c
       of (inr made) = stopped_unmade written.before why made
 
   -- how the run ends
-  pub made_completed : (written : Written) (r : Result Status Stop) → MakesRun number (over_made number outside) written r
-      → IfOk r (IsCompleted words outside written)
-  made_completed written (Ok status) e = completed_making e.inner written e.ran e.solved (Ok status) e.lined
-  made_completed written (Err why) e = tt
+  pub made_completed : (Same : Type 0) (written : Written) (r : Result Status Stop)
+      → MakesRun number (over_made number outside) Same written r → IfOk r (IsCompleted words outside Same written)
+  made_completed Same written (Ok status) e = completed_making Same e.inner written e.ran e.solved (Ok status) e.lined
+  made_completed Same written (Err why) e = tt
 
-  pub made_stopped : (written : Written) (r : Result Status Stop) → MakesRun number (over_made number outside) written r
+  pub made_stopped : (Same : Type 0) (written : Written) (r : Result Status Stop)
+      → MakesRun number (over_made number outside) Same written r
       → IfErr r (IsStopped words outside written)
-  made_stopped written (Ok status) e = tt
-  made_stopped written (Err why) (inl e) = stopped_making e.inner written e.ran e.solved (Err why) e.lined
-  made_stopped written (Err why) (inr none) = stopped_unlined written why none
+  made_stopped Same written (Ok status) e = tt
+  made_stopped Same written (Err why) (inl e) = stopped_making Same e.inner written e.ran e.solved (Err why) e.lined
+  made_stopped Same written (Err why) (inr none) = stopped_unlined written why none

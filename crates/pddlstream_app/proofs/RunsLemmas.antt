@@ -22,7 +22,7 @@ use Rattle.pddlstream_app.proofs.SaidLemmas.{answer_said, said_whole}
 use Rattle.pddlstream_app.specs.AnswerOf.{HasAnswer}
 use Rattle.pddlstream_app.specs.NoInput.{HasNoInput}
 use Rattle.command_files.specs.Outside.{IsUntouched, Outside, Written}
-use Rattle.pddlstream_app.specs.Runs.{ClosesRun, Ends, RunHasFault, IsBefore, IsBeforeLast, IsCompleted, IsStopped, IsUnneeded, TellsStatus, TookAll, TookPart}
+use Rattle.pddlstream_app.specs.Runs.{ClosesRun, Ends, LacksMemory, RunHasFault, IsBefore, IsBeforeLast, IsCompleted, IsStopped, IsUnneeded, TellsStatus, TookAll, TookPart}
 use Rattle.run_command.specs.Runs.{HasOutcome, IsPartOfRun, ProgramRun, outcome_status, shown_so_far, shown_text}
 use Rattle.command_files.specs.Stop.{is_write, is_write_fault, status_at, last_text}
 use Rattle.command_line.specs.Words.{SolveWords, command_of, solve}
@@ -31,7 +31,7 @@ use Rattle.run_command.specs.Works.{Work, command_for, files_of, solving, words_
 use Rattle.round_run.specs.declared.fault.RunFault.{RunFault}
 use Rattle.round_run.specs.declared.fault.RunFault.TheVariants as fault
 use Rattle.command_files.specs.declared.status.Status.{Status}
-use Rattle.command_files.specs.declared.status.Status.TheVariants.{WriteFault}
+use Rattle.command_files.specs.declared.status.Status.TheVariants.{Memory, WriteFault}
 use Rattle.command_files.specs.declared.stop.Stop.{Stop}
 use Rattle.command_files.specs.declared.stop.Stop.TheVariants as stop
 
@@ -54,35 +54,43 @@ stop_kind (stop.Run fault.Generator) = refl
 stop_kind (stop.Run fault.Write) = refl
 stop_kind (stop.Run fault.Memory) = refl
 
-module _ (words : List (List ℕ)) (outside : Outside) (written : Written) where
+-- before the last line
+pub before_last : (words : List (List ℕ)) (outside : Outside) (written : Written) (why : Stop)
+    → IsStopped words outside written why → is_write why ≡ false → IsBeforeLast words outside written why
+before_last words outside written why s other =
+    subst (λ b. MatchBool b (TookPart words outside written) (IsBeforeLast words outside written why)) other s
+
+module _ (words : List (List ℕ)) (outside : Outside) (Same : Type 0) (written : Written) where
   -- the sink took all
-  all_taken : (status : Status) → is_write_fault status ≡ false → TookAll words outside written status
-      → Ends words outside written status
-  all_taken status whole all = subst (λ b. MatchBool b (TookPart words outside written) (TookAll words outside written status))
-      (sym whole) all
+  all_taken : (status : Status) → is_write_fault status ≡ false → TookAll words outside Same written status
+      → Ends words outside Same written status
+  all_taken status whole all =
+      subst (λ b. MatchBool b (TookPart words outside written) (TookAll words outside Same written status)) (sym whole) all
 
-  pub taken_all : (status : Status) → is_write_fault status ≡ false → Ends words outside written status
-      → TookAll words outside written status
+  pub taken_all : (status : Status) → is_write_fault status ≡ false → Ends words outside Same written status
+      → TookAll words outside Same written status
   taken_all status whole ends = subst
-      (λ b. MatchBool b (TookPart words outside written) (TookAll words outside written status)) whole ends
+      (λ b. MatchBool b (TookPart words outside written) (TookAll words outside Same written status)) whole ends
 
-  -- before the last line
-  pub before_last : (why : Stop) → IsStopped words outside written why → is_write why ≡ false
-      → IsBeforeLast words outside written why
-  before_last why s other = subst (λ b. MatchBool b (TookPart words outside written) (IsBeforeLast words outside written why)) other s
+  -- all was written, and that is that memory is wanting
+  lacks_all : (status : Status) → is_write_fault status ≡ false → (ends : Ends words outside Same written status)
+      → status ≡ Memory → LacksMemory status ends
+  lacks_all WriteFault whole ends is = absurd (cc (whole))
+  lacks_all Memory whole ends is = refl
+  lacks_all status whole ends is = is
 
   -- the sink took a part
   pub ends_written : (why : Stop) → is_write why ≡ true → IsStopped words outside written why
-      → Ends words outside written WriteFault
+      → Ends words outside Same written WriteFault
   ends_written why other s = subst (λ b. MatchBool b (TookPart words outside written) (IsBeforeLast words outside written why)) other s
 
   -- the run has an outcome, or the command answers
-  pub ends_completed : (status : Status) → IsCompleted words outside written status
-      → Ends words outside written status
+  pub ends_completed : (status : Status) → IsCompleted words outside Same written status
+      → Ends words outside Same written status
   ends_completed status c = of c.has c.unneeded
     where
       of : (has : HasOutcome words outside status c.text ⊎ HasAnswer words outside status c.text)
-          → IsUnneeded has → Ends words outside written status
+          → IsUnneeded Same has → Ends words outside Same written status
       of (inl h) none = all_taken status (ap is_write_fault (sym h.kind) ∙ outcome_whole h.outcome)
           (record { text = c.text; writes = inl h; unneeded = none; took = c.took })
       of (inr h) none = all_taken status (said_whole status (answer_said words outside status c.text h))
@@ -159,12 +167,12 @@ module _ (words : List (List ℕ)) (outside : Outside) where
     }
 
     -- a run that shows this has an outcome
-    pub completed_with : (written : Written) (ran : Ran) {old new : Option (List ℕ)}
+    pub completed_with : (Same : Type 0) (written : Written) (ran : Ran) {old new : Option (List ℕ)}
         (r : IsReported task head outside.spoken outside.was outside.now old new ran)
-        → (ran.asks ≡ 0 → IsUntouched outside)
+        → (ran.asks ≡ 0 → IsUntouched outside × Same)
         → Appends written.before written.after (shown_text work task head r.entries ran.outcome)
-        → IsCompleted words outside written (outcome_status ran.outcome)
-    completed_with written ran r none took = record {
+        → IsCompleted words outside Same written (outcome_status ran.outcome)
+    completed_with Same written ran r none took = record {
       text = shown_text work task head r.entries ran.outcome;
       has = inl (outcome_with (shown_text work task head r.entries ran.outcome) r.entries ran.outcome r.run r.talks r.tabled
           r.calls refl);
@@ -227,12 +235,12 @@ module _ (words : List (List ℕ)) (outside : Outside) where
   -- a task is to be solved
   module _ (asked : SolveWords) (meant : command_of words ≡ Some (solve asked)) where
     -- the report was written
-    completed : (written : Written) (ran : Ran) (status : Status) → IsSolved asked outside written ran
-        → status ≡ outcome_status ran.outcome → IsCompleted words outside written status
-    completed written ran status s is =
+    completed : (Same : Type 0) (written : Written) (ran : Ran) (status : Status) → IsSolved asked outside Same written ran
+        → status ≡ outcome_status ran.outcome → IsCompleted words outside Same written status
+    completed Same written ran status s is =
         let r = s.reported in
-        subst (IsCompleted words outside written) (sym is)
-        (completed_with (solving asked) meant s.task s.head s.posed written ran r s.unneeded
+        subst (IsCompleted words outside Same written) (sym is)
+        (completed_with (solving asked) meant s.task s.head s.posed Same written ran r s.unneeded
         (subst (Appends written.before written.after) (whole_is s.task s.head r.entries ran.outcome) r.told))
 
     -- the run over the task has no outcome
@@ -286,15 +294,15 @@ module _ (words : List (List ℕ)) (outside : Outside) where
         subst (IsStopped words outside written) (sym u.is) (stopped_running written u.fault u.task u.head u.posed u.broken)
 
     -- how the run ends
-    pub solved_completed : (written : Written) (r : Result Status Stop) → SolvesRun asked outside written r
-        → IfOk r (IsCompleted words outside written)
-    solved_completed written (Ok status) e = completed written e.ran status e.solved e.kind
-    solved_completed written (Err why) e = tt
+    pub solved_completed : (Same : Type 0) (written : Written) (r : Result Status Stop)
+        → SolvesRun asked outside Same written r → IfOk r (IsCompleted words outside Same written)
+    solved_completed Same written (Ok status) e = completed Same written e.ran status e.solved e.kind
+    solved_completed Same written (Err why) e = tt
 
-    pub solved_stopped : (written : Written) (r : Result Status Stop) → SolvesRun asked outside written r
-        → IfErr r (IsStopped words outside written)
-    solved_stopped written (Ok status) e = tt
-    solved_stopped written (Err why) none = stopped_solving written why none
+    pub solved_stopped : (Same : Type 0) (written : Written) (r : Result Status Stop)
+        → SolvesRun asked outside Same written r → IfErr r (IsStopped words outside written)
+    solved_stopped Same written (Ok status) e = tt
+    solved_stopped Same written (Err why) none = stopped_solving written why none
 
   -- ---- last lines
 
@@ -312,7 +320,7 @@ module _ (words : List (List ℕ)) (outside : Outside) where
   for_memory (stop.Run fault.Write) text b = absurd b
   for_memory (stop.Run fault.Memory) text b = b
 
-  module _ (old mid new : Option (List ℕ)) where
+  module _ (Same : Type 0) (old mid new : Option (List ℕ)) where
     abbrev ended : Written
     ended = record { before = old; after = new }
 
@@ -320,36 +328,48 @@ module _ (words : List (List ℕ)) (outside : Outside) where
       abbrev faulty : RunHasFault words outside (status_at why) (b.text ++ last_text why)
       faulty = record { stop = why; kind = refl; before = b.text; cause = b.cause; is = refl }
 
+      -- it ends so, for want of memory where that is the cause
+      abbrev Told : Status → Type 0
+      Told status = (ends : Ends words outside Same ended status)
+          × (why ≡ stop.Run fault.Memory → LacksMemory status ends)
+
       ends_told : (status : Status) → is_write why ≡ false
-          → TellsStatus (status_at why) (last_text why) (record { before = mid; after = new }) status
-          → Ends words outside ended status
+          → TellsStatus (status_at why) (last_text why) (record { before = mid; after = new }) status → Told status
       ends_told status other (inl x) =
-          subst (Ends words outside ended) (sym x.0) (all_taken words outside ended (status_at why) (stop_kind why ∙ other) (record {
+          let all : Ends words outside Same ended (status_at why) =
+          all_taken words outside Same ended (status_at why) (stop_kind why ∙ other) (record {
             text = b.text ++ last_text why;
             writes = inr (inr faulty);
             unneeded = tt;
             took = appends_then old mid new b.text (last_text why) b.took x.1;
-          }))
-      ends_told status other (inr (is, n, less, app)) = subst (Ends words outside ended) (sym is) (record {
-        text = b.text ++ last_text why;
-        was = inl (status_at why, inr (inr faulty));
-        count = length b.text + n;
-        whole = omega arith;
-        less = omega (arith, less, length-append b.text (last_text why));
-        took = subst (Appends old new) (sym (take-append-add b.text (last_text why) n))
-            (appends_then old mid new b.text (take n (last_text why)) b.took app);
-      })
+          }) in
+          subst Told (sym x.0)
+          (all, λ is. lacks_all words outside Same ended (status_at why) (stop_kind why ∙ other) all (ap status_at is))
+      ends_told status other (inr (is, n, less, app)) = subst Told (sym is) (
+        record {
+          text = b.text ++ last_text why;
+          was = inl (status_at why, inr (inr faulty));
+          count = length b.text + n;
+          whole = omega arith;
+          less = omega (arith, less, length-append b.text (last_text why));
+          took = subst (Appends old new) (sym (take-append-add b.text (last_text why) n))
+              (appends_then old mid new b.text (take n (last_text why)) b.took app);
+        },
+        λ same. ap status_at same,
+      )
 
     pub ends_closed : (why : Stop) (status : Status)
         → IsStopped words outside (record { before = old; after = mid }) why → is_write why ≡ false
         → ClosesRun why (record { before = mid; after = new }) status
-        → Ends words outside ended status
+        → (ends : Ends words outside Same ended status) × (why ≡ stop.Run fault.Memory → LacksMemory status ends)
     ends_closed why status s other closed =
         of (before_last words outside (record { before = old; after = mid }) why s other) closed
       where
         of : IsBeforeLast words outside (record { before = old; after = mid }) why
             → ClosesRun why (record { before = mid; after = new }) status
-            → Ends words outside ended status
+            → (ends : Ends words outside Same ended status) × (why ≡ stop.Run fault.Memory → LacksMemory status ends)
         of b (inl x) = ends_told why b status other x
-        of b (inr x) = ends_told (stop.Run fault.Memory)
-            (record { text = b.text; cause = for_memory why b.text b.cause; took = b.took }) status refl x
+        of b (inr x) =
+            let told = ends_told (stop.Run fault.Memory)
+            (record { text = b.text; cause = for_memory why b.text b.cause; took = b.took }) status refl x in
+            (told.0, λ is. told.1 refl)

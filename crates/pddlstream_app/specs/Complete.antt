@@ -1,5 +1,5 @@
 -- When a run has an outcome, and when that is no limit.
-use Rattle.std.specs.Prelude.{◌≡◌, ℕ, List, [], Option, Some, ⊤}
+use Rattle.std.specs.Prelude.{◌≡◌, ◌⊎◌, ℕ, List, [], Option, Some, ⊤}
 use Rattle.gen_lines.specs.declared.answer.Why.{Why}
 use Rattle.io_world.specs.FileMap.{FileMap}
 use Rattle.turn_run.specs.Reports.{IsRun}
@@ -16,9 +16,10 @@ use Rattle.command_line.specs.Words.{SolveWords, command_of, solve}
 use Rattle.run_command.specs.Heads.{AreServed}
 use Rattle.command_files.specs.Inputs.{IsTaskOf}
 use Rattle.command_files.specs.Outside.{HaveFailed, Outside}
+use Rattle.run_command.specs.Heard.{Heard, IsHeard, heard_in, hearing, restarts_in}
 use Rattle.run_command.specs.Runs.{HasBadAnswer, ProgramRun}
 use Rattle.command_files.specs.declared.status.Status.{Status}
-use Rattle.command_files.specs.declared.status.Status.TheVariants.{Plan, NoPlan, Limit, Memory}
+use Rattle.command_files.specs.declared.status.Status.TheVariants.{Plan, NoPlan, Limit, Memory, WriteFault}
 
 -- Whichever run's dialogue it was that was said with the children: none of its requests has a bad answer.
 abbrev pub OnlyAnswers : List (List ℕ) → Outside → Type 0
@@ -81,3 +82,10 @@ pub record Completes (words : List (List ℕ)) (outside : Outside) (host_rose si
   pub ends : GoesWell words outside host_rose sink_rose → EndsWell status
   pub settles : (answers : Answers) → GoesWell words outside host_rose sink_rose
       → AreGivenAnswers words outside answers → SettlesBy words outside.files.told answers status
+
+-- The same, by what the run heard of its children.
+pub record CompletesBy (words : List (List ℕ)) (outside : Outside) (host_rose sink_rose : Type 0)
+    (status : Status) : Type 0 where
+  pub heard : Heard
+  pub by : IsHeard (restarts_in words) ((status ≡ Memory) ⊎ (status ≡ WriteFault)) (heard_in outside) heard
+  pub completes : Completes words (hearing outside.files heard) host_rose sink_rose status

@@ -1,5 +1,5 @@
 -- What a run of the program is, what it writes, and how it ends.
-use Rattle.std.specs.Prelude.{◌≡◌, ◌⊎◌, ℕ, ◌<◌, ◌≤◌, List, [], ◌++◌, length, take, true, MatchBool, None, Some, Result, IfErr, ⊤}
+use Rattle.std.specs.Prelude.{◌≡◌, ◌⊎◌, ℕ, ◌<◌, ◌≤◌, List, [], ◌++◌, length, take, true, MatchBool, None, Some, Result, IfErr, IfOk, ⊤}
 use Rattle.std.proofs.Common.{inl, inr}
 use Rattle.std.specs.Io.KnownBytes.{Appends}
 use Rattle.io_world.specs.Faults.{Rose}
@@ -14,6 +14,7 @@ use Rattle.pddlstream_app.specs.AnswerOf.{HasAnswer, only_reads}
 use Rattle.pddlstream_app.specs.NoInput.{HasNoInput}
 use Rattle.command_files.specs.Outside.{IsUntouched, Outside, Written}
 use Rattle.command_files.specs.Stop.{is_write, is_write_fault, last_text, status_at}
+use Rattle.run_command.specs.Heard.{Heard, IsHeard, heard_in, hearing, restarts_in}
 use Rattle.run_command.specs.Works.{Work, making, solving}
 use Rattle.round_run.specs.declared.fault.RunFault.{RunFault}
 use Rattle.round_run.specs.declared.fault.RunFault.TheVariants as fault
@@ -22,7 +23,7 @@ use Rattle.command_files.specs.declared.status.Status.TheVariants.{Usage, Input,
 use Rattle.command_files.specs.declared.stop.Stop.{Stop}
 use Rattle.command_files.specs.declared.stop.Stop.TheVariants as stop
 use Rattle.run_command.specs.Runs.{HasOutcome, IsPartOfRun, shown_so_far}
-use Rattle.run_command.specs.Solving.{IsAtText}
+use Rattle.run_command.specs.Solving.{IsAtText, Lacks}
 
 -- ---- faults
 
@@ -64,17 +65,19 @@ abbrev pub RunWrites : List (List ℕ) → Outside → Status → List ℕ → T
 RunWrites words outside status text =
     HasOutcome words outside status text ⊎ HasAnswer words outside status text ⊎ RunHasFault words outside status text
 
--- where what is written is a run's outcome, and its transcript has no request, no call was made on a child
+-- where what is written is a run's outcome, and its transcript has no request, no call was made on a child, and the host
+-- itself is as it was
 abbrev pub IsUnneeded : {words : List (List ℕ)} {outside : Outside} {status : Status} {text : List ℕ} {Other : Type 0}
-    → HasOutcome words outside status text ⊎ Other → Type 0
-IsUnneeded {words} {outside} (inl h) = asks_of h.run.entries ≡ 0 → IsUntouched outside
-IsUnneeded (inr other) = ⊤
+    → (Same : Type 0) → HasOutcome words outside status text ⊎ Other → Type 0
+IsUnneeded {words} {outside} Same (inl h) = asks_of h.run.entries ≡ 0 → IsUntouched outside × Same
+IsUnneeded Same (inr other) = ⊤
 
 -- The sink took all that the run writes.
-pub record TookAll (words : List (List ℕ)) (outside : Outside) (written : Written) (status : Status) : Type 0 where
+pub record TookAll (words : List (List ℕ)) (outside : Outside) (Same : Type 0) (written : Written) (status : Status)
+    : Type 0 where
   pub text : List ℕ
   pub writes : RunWrites words outside status text
-  pub unneeded : IsUnneeded writes
+  pub unneeded : IsUnneeded Same writes
   pub took : Appends written.before written.after text
 
 -- what was to be written where the sink failed: all that a run writes that ends in another way, or what is shown of a
@@ -106,9 +109,30 @@ pub record TookPart (words : List (List ℕ)) (outside : Outside) (written : Wri
   pub took : Appends written.before written.after (take count text)
 
 -- how a run ends
-abbrev pub Ends : List (List ℕ) → Outside → Written → Status → Type 0
-Ends words outside written status =
-    MatchBool (is_write_fault status) (TookPart words outside written) (TookAll words outside written status)
+abbrev pub Ends : List (List ℕ) → Outside → (Same : Type 0) → Written → Status → Type 0
+Ends words outside Same written status =
+    MatchBool (is_write_fault status) (TookPart words outside written) (TookAll words outside Same written status)
+
+-- ---- by what was heard of children
+
+-- what was to be written last is that memory is wanting
+abbrev pub was_memory : {words : List (List ℕ)} {outside : Outside} {text : List ℕ} → WasShown words outside text
+    → Type 0
+was_memory (inl (other, writes)) = other ≡ Memory
+was_memory (inr part) = ⊥
+
+-- memory was wanting: that is told, or was to be told where the sink failed
+abbrev pub LacksMemory : {words : List (List ℕ)} {outside : Outside} {Same : Type 0} {written : Written}
+    (status : Status) → Ends words outside Same written status → Type 0
+LacksMemory WriteFault part = was_memory part.was
+LacksMemory status all = status ≡ Memory
+
+-- How a run ends, by what it heard of its children.
+pub record EndsBy (words : List (List ℕ)) (outside : Outside) (Same : Type 0) (written : Written) (status : Status)
+    : Type 0 where
+  pub heard : Heard
+  pub ends : Ends words (hearing outside.files heard) Same written status
+  pub by : IsHeard (restarts_in words) (LacksMemory status ends) (heard_in outside) heard
 
 -- The count has not fallen, and it rose where this is so.
 pub record Caused (IsSo : Type 0) (last before now : ℕ) : Type 0 where
@@ -143,10 +167,11 @@ pub record SparesHost {H : Type 0} (words : List (List ℕ)) (result : Result St
   pub input : IfErr result (λ why. IsAtText why → new ≡ old)
 
 -- The run has an outcome, and its report was written; or the command answers, and its text was written.
-pub record IsCompleted (words : List (List ℕ)) (outside : Outside) (written : Written) (status : Status) : Type 0 where
+pub record IsCompleted (words : List (List ℕ)) (outside : Outside) (Same : Type 0) (written : Written)
+    (status : Status) : Type 0 where
   pub text : List ℕ
   pub has : HasOutcome words outside status text ⊎ HasAnswer words outside status text
-  pub unneeded : IsUnneeded has
+  pub unneeded : IsUnneeded Same has
   pub took : Appends written.before written.after text
 
 -- All that was to be written before the last line was written.
@@ -159,6 +184,14 @@ pub record IsBeforeLast (words : List (List ℕ)) (outside : Outside) (written :
 abbrev pub IsStopped : List (List ℕ) → Outside → Written → Stop → Type 0
 IsStopped words outside written why =
     MatchBool (is_write why) (TookPart words outside written) (IsBeforeLast words outside written why)
+
+-- How a run stands before its last line, by what it heard of its children.
+pub record StandsBy (words : List (List ℕ)) (outside : Outside) (Same : Type 0) (written : Written)
+    (result : Result Status Stop) : Type 0 where
+  pub heard : Heard
+  pub by : IsHeard (restarts_in words) (Lacks result) (heard_in outside) heard
+  pub completed : IfOk result (IsCompleted words (hearing outside.files heard) Same written)
+  pub stopped : IfErr result (IsStopped words (hearing outside.files heard) written)
 
 -- the text was written, and the status is this; or the sink failed and took a part
 abbrev pub TellsStatus : Status → List ℕ → Written → Status → Type 0

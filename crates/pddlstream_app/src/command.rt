@@ -1,12 +1,15 @@
 //! The program's call.
-ghost use Rattle.std.specs.Prelude.{◌≡◌, ◌≤◌, ◌⊎◌, ℕ, false, map, string_bytes, IfOk, IfErr};
+ghost use Rattle.std.specs.Prelude.{◌≡◌, ◌≤◌, ◌⊎◌, ℕ, suc, false, map, string_bytes, IfOk, IfErr, IsErrOf};
 ghost use Rattle.io_world.specs.Faults.{last_count, HasCause, Rose};
 ghost use Rattle.pddlstream_app.specs.Asked.{AsksAll, AsksBefore, AsksFiles, HasReadCause};
-ghost use Rattle.pddlstream_app.specs.Complete.{Completes};
+ghost use Rattle.pddlstream_app.specs.Complete.{CompletesBy};
 ghost use Rattle.pddlstream_app.specs.Headline.{PrintsNoPlan, PrintsPlan};
 ghost use Rattle.command_files.specs.Outside.{outside_of, seen_of, written_of};
 ghost use Rattle.pddlstream_app.specs.Plays.{PlaysSafely};
-ghost use Rattle.pddlstream_app.specs.Runs.{Caused, ClosesRun, Ends, IsCompleted, IsStopped, LeavesAnswers, LeavesHost, SparesHost, TellsStatus};
+ghost use Rattle.pddlstream_app.specs.Runs.{Caused, ClosesRun, EndsBy, LeavesAnswers, LeavesHost, SparesHost, StandsBy, TellsStatus};
+ghost use Rattle.restart_host.specs.Leads.{RoseBy};
+ghost use Rattle.round_run.specs.Told.{course};
+ghost use Rattle.run_command.specs.Heard.{AreTooMany, restarts_in};
 ghost use Rattle.round_run.specs.declared.fault.RunFault.TheVariants as fault;
 ghost use Rattle.command_files.specs.declared.status.Status.TheVariants.{GeneratorFault, NoPlan, Plan, ReadFault, WriteFault};
 ghost use Rattle.command_files.specs.declared.stop.Stop.TheVariants.{Run};
@@ -54,12 +57,9 @@ fn attempt<F: Files, H: Host, O: Sink>(
     out: &mut O,
 ) -> Result<Status, Stop>
     requires idle { (k : ℕ) → H.running host.old k ≡ false }
-    ensures completed { IfOk result (IsCompleted (map string_bytes words.now)
-        (outside_of (seen_of F.told F.faults F.asked files.old files.new) H.spoken H.log host.old
-        host.new) (written_of O.taken out.old out.new)) }
-    ensures stopped { IfErr result (IsStopped (map string_bytes words.now)
-        (outside_of (seen_of F.told F.faults F.asked files.old files.new) H.spoken H.log host.old
-        host.new) (written_of O.taken out.old out.new)) }
+    ensures stands { StandsBy (map string_bytes words.now) (outside_of (seen_of F.told F.faults
+        F.asked files.old files.new) H.spoken H.log host.old host.new) (host.new ≡ host.old)
+        (written_of O.taken out.old out.new) result }
     ensures idle { (k : ℕ) → H.running host.new k ≡ false }
     ensures answers { LeavesAnswers (map string_bytes words.now)
         (outside_of (seen_of F.told F.faults F.asked files.old files.new) H.spoken H.log host.old
@@ -67,6 +67,8 @@ fn attempt<F: Files, H: Host, O: Sink>(
     ensures leaves { SparesHost (map string_bytes words.now) result host.old host.new }
     ensures host { HasCause (Run fault.Generator) H.last (H.faults host.old) (H.faults host.new)
         result }
+    ensures many { IsErrOf result (Run fault.Generator)
+        → AreTooMany (restarts_in (map string_bytes words.now)) (course H.Host host.old host.new) }
     ensures sink { HasCause (Run fault.Write) last_count (O.faults out.old) (O.faults out.new)
         result }
     ensures asked { IfOk result (λ _. AsksAll (map string_bytes words.now)
@@ -95,7 +97,8 @@ fn attempt<F: Files, H: Host, O: Sink>(
 /// Where something is to be asked, the children of all pools are started. `--algorithm` says what
 /// is asked, all that is due, level by level, or what a dream needs; it is asked in rounds of as
 /// many requests as the pools have workers for. The report has a head, each request and answer, and
-/// the outcome. The other options are `--calls`, `--states` and `--depth` (`command_line`).
+/// the outcome. By `--restarts R` so many failures of children are made good: a child that fails is
+/// started again. The other options are `--calls`, `--states` and `--depth` (`command_line`).
 ///
 /// `replay DOMAIN PROBLEM STREAMS REPORT [--states N]` reads the three texts so, then the report's
 /// file, and writes `valid`, `invalid LINE KIND`, or `limit states` where a claim of the report
@@ -135,10 +138,12 @@ pub fn run<F: Files, H: Host, O: Sink>(
     // all workers, the writes of each request and the reads of each answer. A run without an
     // outcome has them up to where it broke off; a fault of the generator has a call that failed,
     // and where no line stands that may have requests behind it only stops came. Where nothing was
-    // asked in a run with an outcome, no call was made on a child.
-    ensures ends { Ends (map string_bytes words.now)
-        (outside_of (seen_of F.told F.faults F.asked files.old files.new) H.spoken H.log host.old
-        host.new) (written_of O.taken out.old out.new) result }
+    // asked in a run with an outcome, no call was made on a child, and the host itself is as it
+    // was. With `--restarts R` above 0 all this is so of what the host tells that starts children
+    // again over this one (`IsHeard`).
+    ensures ends { EndsBy (map string_bytes words.now) (outside_of (seen_of F.told F.faults F.asked
+        files.old files.new) H.spoken H.log host.old host.new) (host.new ≡ host.old)
+        (written_of O.taken out.old out.new) result }
     // A command that answers with one text, as a replay, makes no call on a child, however it ends,
     // also where the sink fails.
     ensures answers { LeavesAnswers (map string_bytes words.now)
@@ -158,14 +163,19 @@ pub fn run<F: Files, H: Host, O: Sink>(
     // A fault of the generator or of the sink is answered only where its count rose.
     ensures host { Caused (result ≡ GeneratorFault) H.last (H.faults host.old) (H.faults host.new) }
     ensures sink { Caused (result ≡ WriteFault) last_count (O.faults out.old) (O.faults out.new) }
+    // One of the generator is answered only where more starts, writes and reads failed than are
+    // made good: the count rose by more, and a log that is told has more of them.
+    ensures many { result ≡ GeneratorFault
+        → AreTooMany (restarts_in (map string_bytes words.now)) (course H.Host host.old host.new) }
     // Where the words mean that a task is to be solved, the files are told and spell one, no count
-    // of faults rose and only answers were heard, the run has an outcome, or memory is wanting. And
+    // of faults rose, the children's by no more than are made good, and only answers were heard, the run has an outcome, or memory is wanting. And
     // where the generators answer by a finite table over which no run passes the limits of calls
     // and of states, that outcome is a plan or `no plan`, in each mode, and in incremental mode the
     // one of the plain run over the table, whatever the workers.
-    ensures complete { Completes (map string_bytes words.now)
+    ensures complete { CompletesBy (map string_bytes words.now)
         (outside_of (seen_of F.told F.faults F.asked files.old files.new) H.spoken H.log host.old
-        host.new) (Rose H.last (H.faults host.old) (H.faults host.new))
+        host.new) (RoseBy (suc (restarts_in (map string_bytes words.now))) H.last
+        (H.faults host.old) (H.faults host.new))
         (Rose last_count (O.faults out.old) (O.faults out.new)) result }
     // Where the files tell which paths were asked for, those of this call are the command's files,
     // each once and in their order: none where the words are no command, those up to the text that

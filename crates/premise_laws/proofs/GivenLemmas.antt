@@ -3,7 +3,7 @@ use Rattle.std.proofs.Common.{◌≡◌, ℕ, ◌≤◌, [], ◌∷◌, codes, f
 use Rattle.std.proofs.lemmas.Option.{same_Some}
 use Rattle.clap.proofs.OnLiterals.{clap_on_literals}
 use Rattle.command_line.specs.Apps.{is_taken, solve_app}
-use Rattle.command_line.specs.Numbers.{is_count}
+use Rattle.command_line.specs.Numbers.{is_number}
 use Rattle.command_line.specs.Words.{Command, SolveWords, command_of, generate, read_by, solve}
 use Rattle.io_world.specs.Talks.{silence, spelled}
 use Rattle.pddlstream_app.specs.Complete.{AreGivenAnswers}
@@ -36,10 +36,11 @@ cup_asked = record {
   limits = record { calls = 10000; states = 100000; depth = 3 };
   protocol = 1;
   optimal = false;
+  restarts = 0;
 }
 
 pub cup_meant : command_of cup_words ≡ Some (solve cup_asked)
-unfolding clap_on_literals command_of read_by is_taken solve_app is_count
+unfolding clap_on_literals command_of read_by is_taken solve_app is_number
 cup_meant = refl
 
 abbrev asked_in : Command → SolveWords

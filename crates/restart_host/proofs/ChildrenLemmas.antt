@@ -1,5 +1,5 @@
 -- Flags of children of which one is set.
-use Rattle.std.proofs.Common.{◌≡◌, ◌≢◌, ℕ, zero, suc, ◌+◌, ◌<◌, ◌≤◌, Bool, true, false, cond, List, [], ◌∷◌, length, get_or, refl, sym, ap, subst, ◌∙◌, arith, option_map, slice_get, slice_set, unwrap_or, count_by, inl, inr, ◌++◌, Result, Ok, Err, is_ok, MatchResult}
+use Rattle.std.proofs.Common.{◌≡◌, ◌≢◌, ℕ, zero, suc, ◌+◌, ◌<◌, ◌≤◌, Bool, true, false, cond, List, [], ◌∷◌, length, get_or, refl, sym, ap, subst, ◌∙◌, arith, option_map, slice_get, Option, Some, None, slice_set, unwrap_or, count_by, inl, inr, ◌++◌, Result, Ok, Err, is_ok, MatchResult}
 use Rattle.std.proofs.lemmas.Bool.Decides.{eqb_tells}
 use Rattle.std.proofs.lemmas.List.Sums.{sum_by-set}
 use Rattle.lemmas.proofs.Counts.{count_head, count_last}
@@ -174,3 +174,17 @@ idle_more xs x idle off dead = record {
       let no : cond {A = ℕ} (is_on x) 1 0 ≡ 0 = ap (λ b. cond b 1 0) off in
       omega (arith, count_last is_on xs x, no, idle.none);
 }
+
+-- where none runs here, none runs in the host below
+pub idle_below : (children : List Kept) → ((k : ℕ) → runs_outside children k ≡ false) → (k : ℕ)
+    → is_alive children k ≡ false
+idle_below children idle k = of (slice_get children k) (idle k)
+  where
+    off : (alive running : Bool) → (alive ≡ true → running ≡ true) → running ≡ false → alive ≡ false
+    off true running only is = sym (only refl) ∙ is
+    off false running only is = refl
+
+    of : (found : Option Kept) → unwrap_or (option_map (λ (kept : Kept). kept.running) found) false ≡ false
+        → unwrap_or (option_map (λ (kept : Kept). kept.life.alive) found) false ≡ false
+    of None is = refl
+    of (Some kept) is = off kept.life.alive kept.running kept.only is

@@ -1,16 +1,17 @@
 // Children that are started again where they fail.
 ghost use Rattle.std.proofs.Common.{lit≤};
 ghost use Rattle.std.proofs.Props.{props};
-ghost use Rattle.std.specs.Prelude.{◌≡◌, ◌<◌, ◌≤◌, ℕ, true, false, count_by, vec_len, IfOk};
+ghost use Rattle.std.specs.Prelude.{◌≡◌, ◌<◌, ◌≤◌, ℕ, true, false, count_by, vec_len};
 ghost use Rattle.io_world.specs.Faults.{last_count};
 ghost use Rattle.io_world.specs.Logs.{calls_spell, no_calls, said_of, told_of};
-ghost use Rattle.restart_host.specs.Kept.{AreIdle, is_alive, is_on, runs_outside};
+ghost use Rattle.restart_host.specs.Kept.{is_alive, is_on, runs_outside};
 ghost use Rattle.restart_host.specs.Tied.{IsTied};
 
+use crate::idle::IdleChildren;
 use crate::kept::{Kept, copy_words};
 use crate::noted::{read_child, start_child, stop_child, tally, write_child};
-use io_world::{CHILDREN, CallLog, FaultCount, Host, HostFault};
-use std::alloc::{AllocError, Global};
+use io_world::{CallLog, FaultCount, Host, HostFault};
+use std::alloc::Global;
 
 /// Children of a host below that are started again where they fail, as long as failures are made
 /// good. It lends that host for as long as it lives.
@@ -33,46 +34,40 @@ pub struct RestartHost<'a, H: Host> {
 }
 
 impl<'a, H: Host> RestartHost<'a, H> {
-    /// Over a host of which no child runs. So many failures of its starts, writes and reads are
-    /// made good.
-    ///
-    /// # Errors
-    /// `AllocError` where there is no memory.
+    /// Over a host of which no child runs, with what is kept of its children. So many failures of
+    /// its starts, writes and reads are made good.
     pub fn new(
         alloc: Global,
         host: &'a mut H,
         restarts: u32,
-    ) -> Result<RestartHost<'a, H>, AllocError>
+        children: IdleChildren,
+    ) -> RestartHost<'a, H>
         requires idle { (k : ℕ) → H.running host.old k ≡ false }
-        ensures same { IfOk result (λ r. r.host.ghost_name ≡ host.entry.ghost_name) }
-        ensures now { IfOk result (λ r. r.host.now ≡ host.old) }
-        ensures left { IfOk result (λ r. (r.left ≡ restarts) × (r.faults ≡ 0)) }
-        ensures log { IfOk result (λ r. r.log ≡ no_calls) }
-        ensures idle { IfOk result (λ r. (k : ℕ) → runs_outside r.children.items k ≡ false) }
+        ensures same { result.host.ghost_name ≡ host.entry.ghost_name }
+        ensures now { result.host.now ≡ host.old }
+        ensures left { (result.left ≡ restarts) × (result.faults ≡ 0) }
+        ensures log { result.log ≡ no_calls }
+        ensures idle { (k : ℕ) → runs_outside result.children.items k ≡ false }
     {
-        let children = idle_children(alloc)?;
-        Ok(RestartHost {
+        let IdleChildren { items } = children;
+        RestartHost {
             host,
             alloc,
             left: restarts,
-            children,
+            children: items,
             log: CallLog::new(alloc),
             faults: FaultCount::new(),
-        })
+        }
     }
-}
 
-/// Children that were never started.
-fn idle_children(alloc: Global) -> Result<Vec<Kept>, AllocError>
-    ensures all { IfOk result (λ children. vec_len children ≡ 17) }
-    ensures idle { IfOk result (λ children. AreIdle children.items) }
-{
-    let mut children = Vec::new(alloc);
-    while children.len() < CHILDREN {
-        let kept = Kept::new(alloc)?;
-        children.push(kept)?;
+    /// The host below. So who lent it learns what became of it.
+    pub fn into_inner(self) -> &'a mut H
+        ensures same { result.ghost_name ≡ self.entry.host.ghost_name }
+        ensures now { result.now ≡ self.entry.host.now }
+    {
+        let RestartHost { host, .. } = self;
+        host
     }
-    Ok(children)
 }
 
 impl<'a, H: Host> Host for RestartHost<'a, H> {

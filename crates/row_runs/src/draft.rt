@@ -44,6 +44,16 @@ pub(crate) enum Series {
     Calls(Callee),
 }
 
+/// What is printed of the calls on the children.
+#[derive(Clone, Copy, PartialEq, Eq)]
+pub(crate) enum Log {
+    None,
+    /// Each start, and how many other calls there were.
+    Starts,
+    /// Each call.
+    Calls,
+}
+
 /// A row: a command with its files, what its children say, which calls of the host and of the sink
 /// fail, how often the run is done, and what of it is printed.
 #[derive(Drop)]
@@ -62,10 +72,8 @@ pub(crate) struct Draft {
     pub(crate) is_beside_whole: bool,
     /// The children are real ones.
     pub(crate) is_real: bool,
-    /// How many failures of the children are made good by starting them again.
-    pub(crate) restarts: u32,
-    /// The calls on the children are printed.
-    pub(crate) is_logged: bool,
+    /// What is printed of the calls on the children.
+    pub(crate) log: Log,
     /// What is written is printed up to the first line that begins with this word.
     pub(crate) until: String,
     /// How many lines say nothing.
@@ -87,8 +95,7 @@ impl Draft {
             numbers: Vec::new(alloc),
             is_beside_whole: false,
             is_real: false,
-            restarts: 0,
-            is_logged: false,
+            log: Log::None,
             until: String::new(alloc),
             mute: 0,
         }
@@ -197,7 +204,6 @@ impl Draft {
             }
             b"host" => self.fail(Callee::Children, number(rest))?,
             b"real" => self.is_real = true,
-            b"restarts" => self.restarts = u32::try_from(number(rest)).unwrap_or(u32::MAX),
             _ => return Ok(false),
         }
         Ok(true)
@@ -217,7 +223,8 @@ impl Draft {
             b"fronts" => self.series = Series::Fronts,
             b"each" => return self.fail_each(rest),
             b"beside" => self.is_beside_whole = true,
-            b"log" => self.is_logged = true,
+            b"log" => self.log = Log::Starts,
+            b"calls" => self.log = Log::Calls,
             b"until" => self.until = String::from_utf8_lossy(self.alloc, rest)?,
             _ => return Ok(false),
         }

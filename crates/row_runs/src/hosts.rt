@@ -1,7 +1,7 @@
 //! The runs of rows.
 ghost use Rattle.std.specs.Prelude.{◌≡◌, ℕ, false};
 
-use crate::draft::Draft;
+use crate::draft::{Draft, Log};
 use crate::either_host::EitherHost;
 use crate::noting_host::NotingHost;
 use crate::ran::{Ran, front_of};
@@ -10,7 +10,6 @@ use gen_host::{BoxHost, ChildGen, Generator, add_idle};
 use grid_world::GridGen;
 use io_world::{CHILDREN, Host, MemSink, SureHost};
 use pddlstream_app::{Status, run};
-use restart_host::RestartHost;
 use std::alloc::AllocError;
 use std::{io, mem};
 
@@ -40,32 +39,16 @@ fn status_over<H: Host>(
     Ok(run(draft.alloc, draft.words.as_slice(), &mut *files, host, sink))
 }
 
-/// The same over these children, who are started again where they fail.
-fn status_again<H: Host>(
-    draft: &mut Draft,
-    host: &mut H,
-    sink: &mut MemSink,
-) -> Result<Status, AllocError>
-    requires { (k : ℕ) → H.running host.old k ≡ false }
-{
-    let mut outer = RestartHost::new(draft.alloc, host, draft.restarts)?;
-    status_over(draft, &mut outer, sink)
-}
-
 /// What the row's command writes over these children, how it ends, and what was called.
 fn run_over<H: Host>(draft: &mut Draft, host: &mut NotingHost<H>) -> io::Result<Box<Ran>>
     requires { (k : ℕ) → ⟦<NotingHost<H> as Host>⟧.running host.old k ≡ false }
 {
     let alloc = draft.alloc;
     let mut sink = sink_of(draft)?;
-    let status = if draft.restarts > 0 {
-        status_again(draft, host, &mut sink)?
-    } else {
-        status_over(draft, host, &mut sink)?
-    };
+    let status = status_over(draft, host, &mut sink)?;
     let mut ran = Box::new(alloc, Ran::new(alloc, status))?;
     ran.text = front_of(alloc, sink.taken(), draft.until.as_str())?;
-    if draft.is_logged {
+    if draft.log != Log::None {
         ran.calls = host.calls(alloc)?;
     }
     Ok(ran)
@@ -85,5 +68,5 @@ pub(crate) fn run_row(rt: &HostRuntime, draft: &mut Draft) -> io::Result<Box<Ran
     let replies = mem::replace(&mut draft.replies, Replies::new(alloc));
     let host = EitherHost::new(draft.talk.take(), BoxHost::new(members), draft.is_real);
     let host = EitherHost::new(host, SureHost::new(alloc, replies), is_sure);
-    run_over(draft, &mut NotingHost::new(host))
+    run_over(draft, &mut NotingHost::new(host, draft.log == Log::Calls))
 }

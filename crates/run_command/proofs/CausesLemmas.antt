@@ -42,16 +42,17 @@ spared r why count is not = record {
   cause = λ failed. absurd (not (same_err (sym is ∙ failed)));
 }
 
+pub lined_spares : (kind : Status) (line : List ℕ) (written : Written) (r : Result Status Stop) → IsLined kind line written r
+    → r ≡ Err (stop.Run fault.Generator) → ⊥
+lined_spares kind line written (Ok status) said failed = absurd (cc)
+lined_spares kind line written (Err why) said failed = lined_generator kind line written (Err why) said (same_err failed)
+
 pub host_of_lined : (kind : Status) (line : List ℕ) (written : Written) (r : Result Status Stop) → IsLined kind line written r
     → (last before now : ℕ) → before ≤ now → HasCause (stop.Run fault.Generator) last before now r
 host_of_lined kind line written r said last before now later = record {
   later = later;
-  cause = λ failed. absurd (of r said failed);
+  cause = λ failed. absurd (lined_spares kind line written r said failed);
 }
-  where
-    of : (r : Result Status Stop) → IsLined kind line written r → r ≡ Err (stop.Run fault.Generator) → ⊥
-    of (Ok status) said failed = absurd (cc)
-    of (Err why) said failed = lined_generator kind line written (Err why) said (same_err failed)
 
 -- no text is to blame where the line of a run was written, or not
 pub lined_at_text : (P : Type 0) (kind : Status) (line : List ℕ) (written : Written) (r : Result Status Stop)

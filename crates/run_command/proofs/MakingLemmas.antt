@@ -23,6 +23,7 @@ made_in_range w is = subst AreInRange (sym is) (record {
   workers = (omega arith, omega arith);
   protocol = (omega arith, omega arith);
   alone = λ path e. absurd (cc);
+  restarts = omega arith;
   cheapest = λ e. refl;
 })
 
@@ -43,10 +44,10 @@ module _ (number : ℕ) (files : FilesSeen) (are : files ≡ seen_made number) (
   within seen = record { files = seen; spoken = spoken; was = was; now = now }
 
   -- the task was solved over the files that are made, and so by the words that stand for the number
-  pub solved_made : (inner : Written) (ran : Ran) → IsSolved w (within files) inner ran
-      → IsSolved made_words (within (seen_made number)) inner ran
-  solved_made inner ran s = subst (λ seen. IsSolved made_words (within seen) inner ran) are
-      (subst (λ u. IsSolved u (within files) inner ran) same s)
+  pub solved_made : (Same : Type 0) (inner : Written) (ran : Ran) → IsSolved w (within files) Same inner ran
+      → IsSolved made_words (within (seen_made number)) Same inner ran
+  solved_made Same inner ran s = subst (λ seen. IsSolved made_words (within seen) Same inner ran) are
+      (subst (λ u. IsSolved u (within files) Same inner ran) same s)
 
   -- or it has no report
   pub unsolved_made : (inner : Written) (why : Stop) → HasNoReport w (within files) inner why
@@ -55,8 +56,9 @@ module _ (number : ℕ) (files : FilesSeen) (are : files ≡ seen_made number) (
       (subst (λ u. HasNoReport u (within files) inner why) same n)
 
 -- what came of writing the line
-pub makes_run : (n : ℕ) (outside : Outside) (inner outer : Written) (ran : Ran) → IsSolved made_words outside inner ran
+pub makes_run : (n : ℕ) (outside : Outside) (Same : Type 0) (inner outer : Written) (ran : Ran)
+    → IsSolved made_words outside Same inner ran
     → (r : Result Status Stop) → IsLined (outcome_status ran.outcome) (made_line n ran.outcome ran.levels ran.asks) outer r
-    → MakesRun n outside outer r
-makes_run n outside inner outer ran s (Ok status) lined = record { ran = ran; inner = inner; solved = s; lined = lined }
-makes_run n outside inner outer ran s (Err why) lined = inl (record { ran = ran; inner = inner; solved = s; lined = lined })
+    → MakesRun n outside Same outer r
+makes_run n outside Same inner outer ran s (Ok status) lined = record { ran = ran; inner = inner; solved = s; lined = lined }
+makes_run n outside Same inner outer ran s (Err why) lined = inl (record { ran = ran; inner = inner; solved = s; lined = lined })

@@ -1,4 +1,5 @@
 pub mod Heads
+pub mod Heard
 pub mod Making
 pub mod Runs
 pub mod Solving

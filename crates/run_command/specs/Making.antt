@@ -21,10 +21,11 @@ IsLined kind line written (Err why) =
 
 -- The task of the number was solved over the files that are made, with what is told in `outside`, and this came of
 -- writing its line.
-pub record EndsMade (n : ℕ) (outside : Outside) (written : Written) (result : Result Status Stop) : Type 0 where
+pub record EndsMade (n : ℕ) (outside : Outside) (Same : Type 0) (written : Written) (result : Result Status Stop)
+    : Type 0 where
   pub ran : Ran
   pub inner : Written
-  pub solved : IsSolved made_words outside inner ran
+  pub solved : IsSolved made_words outside Same inner ran
   pub lined : IsLined (outcome_status ran.outcome) (made_line n ran.outcome ran.levels ran.asks) written result
 
 -- The task of a number has no report, and the sink isn't to blame.
@@ -40,6 +41,7 @@ pub record HasNoLine (outside : Outside) (written : Written) (why : Stop) : Type
   pub cause : ((why ≡ stop.Run fault.Memory) × LogStops outside.was outside.now) ⊎ IsMadeUnsolved outside why
 
 -- the task of a number was made and solved, and its line was written; or it wasn't, for this cause
-abbrev pub MakesRun : ℕ → Outside → Written → Result Status Stop → Type 0
-MakesRun n outside written (Ok status) = EndsMade n outside written (Ok status)
-MakesRun n outside written (Err why) = EndsMade n outside written (Err why) ⊎ HasNoLine outside written why
+abbrev pub MakesRun : ℕ → Outside → (Same : Type 0) → Written → Result Status Stop → Type 0
+MakesRun n outside Same written (Ok status) = EndsMade n outside Same written (Ok status)
+MakesRun n outside Same written (Err why) =
+    EndsMade n outside Same written (Err why) ⊎ HasNoLine outside written why

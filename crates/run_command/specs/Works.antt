@@ -35,6 +35,7 @@ made_words = record {
   limits = record { calls = DEFAULT_CALLS; states = DEFAULT_STATES; depth = DEFAULT_DEPTH };
   protocol = 1;
   optimal = false;
+  restarts = 0;
 }
 
 abbrev pub file_with : List ℕ → List ℕ → StoredFile

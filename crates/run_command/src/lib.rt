@@ -4,6 +4,7 @@
 mod head;
 mod maker;
 mod modes;
+mod restarts;
 mod solver;
 
 pub use maker::make;

@@ -1,11 +1,13 @@
 //! The grid's task of a number, made and solved.
-ghost use Rattle.std.specs.Prelude.{◌≡◌, ℕ, false, string_bytes, IfOk, IfErr};
+ghost use Rattle.std.specs.Prelude.{◌≡◌, ℕ, false, string_bytes, IfOk, IfErr, IsErrOf};
 ghost use Rattle.command_line.specs.Held.{held_solve};
 ghost use Rattle.command_line.specs.Ranges.{IsFromOne};
 ghost use Rattle.grid_text.specs.Tasks as texts;
 ghost use Rattle.io_world.specs.Faults.{last_count, HasCause};
 ghost use Rattle.io_world.specs.FileMap.{stored};
 ghost use Rattle.command_files.specs.Outside.{outside_of, written_of};
+ghost use Rattle.round_run.specs.Told.{course};
+ghost use Rattle.run_command.specs.Heard.{AreTooMany};
 ghost use Rattle.run_command.specs.Solving.{IsAtText};
 ghost use Rattle.run_command.specs.Making.{IsLined, MakesRun};
 ghost use Rattle.run_command.specs.Runs.{outcome_status};
@@ -44,6 +46,7 @@ fn made_words(alloc: Global) -> Result<SolveConfig, AllocError>
         depth: DEFAULT_DEPTH as u8,
         protocol: 1,
         optimal: false,
+        restarts: 0,
     })
 }
 
@@ -123,11 +126,13 @@ pub fn make<H: Host, O: Sink>(
     requires within { IsFromOne 12 number }
     requires idle { (k : ℕ) → H.running host.old k ≡ false }
     ensures ends { MakesRun number (outside_of (works.seen_made number) H.spoken H.log host.old
-        host.new) (written_of O.taken out.old out.new) result }
+        host.new) (host.new ≡ host.old) (written_of O.taken out.old out.new) result }
     ensures idle { (k : ℕ) → H.running host.new k ≡ false }
     ensures leaves { IfErr result (λ why. IsAtText why → host.new ≡ host.old) }
     ensures host { HasCause (Run fault.Generator) H.last (H.faults host.old) (H.faults host.new)
         result }
+    ensures many { IsErrOf result (Run fault.Generator) → AreTooMany 0
+        (course H.Host host.old host.new) }
     ensures sink { HasCause (Run fault.Write) last_count (O.faults out.old) (O.faults out.new)
         result }
 {

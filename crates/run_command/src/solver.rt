@@ -1,9 +1,11 @@
 //! Solving a task.
-ghost use Rattle.std.specs.Prelude.{◌≡◌, ℕ, false, IfOk, IfErr};
+ghost use Rattle.std.specs.Prelude.{◌≡◌, ℕ, false, IfErr, IsErrOf};
 ghost use Rattle.io_world.specs.Faults.{last_count, HasCause};
 ghost use Rattle.command_files.specs.Outside.{outside_of, seen_of, written_of};
 ghost use Rattle.command_files.specs.Paths.{held_files};
-ghost use Rattle.run_command.specs.Solving.{HasNoReport, IsAtText, IsSolved, SolvesRun};
+ghost use Rattle.round_run.specs.Told.{course};
+ghost use Rattle.run_command.specs.Heard.{AreTooMany};
+ghost use Rattle.run_command.specs.Solving.{IsAtText, IsReportedBy, SolvesBy};
 ghost use Rattle.run_command.specs.Runs.{outcome_status};
 ghost use Rattle.command_line.specs.Held.{held_solve};
 ghost use Rattle.command_line.specs.Ranges.{AreInRange};
@@ -11,7 +13,7 @@ ghost use Rattle.round_run.specs.declared.fault.RunFault.TheVariants as fault;
 ghost use Rattle.command_files.specs.declared.stop.Stop.TheVariants.{Run};
 
 use crate::head::head_of;
-use crate::modes::run_in_mode;
+use crate::restarts::run_with_restarts;
 use command_files::{Status, Stop, TaskPaths, meant_pools, place_grid, read_task};
 use command_line::SolveConfig;
 use io_world::{Files, Host, Sink};
@@ -51,16 +53,15 @@ pub(crate) fn report<F: Files, H: Host, O: Sink>(
 ) -> Result<Ran, Stop>
     requires within { AreInRange (held_solve words.now) }
     requires idle { (k : ℕ) → H.running host.old k ≡ false }
-    ensures solved { IfOk result (IsSolved (held_solve words.now) (outside_of (seen_of F.told
-        F.faults F.asked files.old files.new) H.spoken H.log host.old host.new)
-        (written_of O.taken out.old out.new)) }
-    ensures failed { IfErr result (HasNoReport (held_solve words.now) (outside_of (seen_of F.told
-        F.faults F.asked files.old files.new) H.spoken H.log host.old host.new)
-        (written_of O.taken out.old out.new)) }
+    ensures reported { IsReportedBy (held_solve words.now) (outside_of (seen_of F.told F.faults
+        F.asked files.old files.new) H.spoken H.log host.old host.new) (host.new ≡ host.old)
+        (written_of O.taken out.old out.new) result }
     ensures idle { (k : ℕ) → H.running host.new k ≡ false }
     ensures leaves { IfErr result (λ why. IsAtText why → host.new ≡ host.old) }
     ensures host { HasCause (Run fault.Generator) H.last (H.faults host.old) (H.faults host.new)
         result }
+    ensures many { IsErrOf result (Run fault.Generator) → AreTooMany words.now.restarts
+        (course H.Host host.old host.new) }
     ensures sink { HasCause (Run fault.Write) last_count (O.faults out.old) (O.faults out.new)
         result }
 {
@@ -69,7 +70,7 @@ pub(crate) fn report<F: Files, H: Host, O: Sink>(
     let meant = meant_pools(alloc, files, words, &task)?;
     let pools = place_grid(alloc, files, meant)?;
     let head = head_of(words, pools);
-    match run_in_mode(alloc, &task, &head, host, out) {
+    match run_with_restarts(alloc, &task, &head, words.restarts, host, out) {
         Ok(ran) => Ok(ran),
         Err(fault) => Err(Stop::Run(fault)),
     }
@@ -89,13 +90,15 @@ pub fn solve<F: Files, H: Host, O: Sink>(
 ) -> Result<Status, Stop>
     requires within { AreInRange (held_solve words.now) }
     requires idle { (k : ℕ) → H.running host.old k ≡ false }
-    ensures ends { SolvesRun (held_solve words.now) (outside_of (seen_of F.told F.faults F.asked
-        files.old files.new) H.spoken H.log host.old host.new)
+    ensures ends { SolvesBy (held_solve words.now) (outside_of (seen_of F.told F.faults F.asked
+        files.old files.new) H.spoken H.log host.old host.new) (host.new ≡ host.old)
         (written_of O.taken out.old out.new) result }
     ensures idle { (k : ℕ) → H.running host.new k ≡ false }
     ensures leaves { IfErr result (λ why. IsAtText why → host.new ≡ host.old) }
     ensures host { HasCause (Run fault.Generator) H.last (H.faults host.old) (H.faults host.new)
         result }
+    ensures many { IsErrOf result (Run fault.Generator) → AreTooMany words.now.restarts
+        (course H.Host host.old host.new) }
     ensures sink { HasCause (Run fault.Write) last_count (O.faults out.old) (O.faults out.new)
         result }
 {

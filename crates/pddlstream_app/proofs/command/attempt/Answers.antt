@@ -1,15 +1,16 @@
-use Rattle.std.proofs.Common.{◌∙◌, ap, map, refl, string_bytes, sym, Some}
+use Rattle.std.proofs.Common.{◌∙◌, ap, map, refl, string_bytes, subst, sym, Some}
 use Rattle.command_line.proofs.RangesLemmas.{in_range}
 use Rattle.command_line.specs.Held.{held_solve}
 use Rattle.command_line.specs.Words.{generate, solve}
-use Rattle.pddlstream_app.proofs.AnswersLemmas.{answer_asked, answer_asked_before, answer_completed, answer_stopped, answer_ungenerated}
+use Rattle.pddlstream_app.proofs.AnswersLemmas.{answer_asked, answer_asked_before, answer_ungenerated}
 use Rattle.pddlstream_app.proofs.LeavesLemmas.{leaves_running, spares_running, spares_same}
 use Rattle.pddlstream_app.specs.Answering.{command_answering}
 use Rattle.command_files.proofs.MapsLemmas.{extends_none}
 use Rattle.command_files.specs.Outside.{outside_of, seen_of, written_of}
 use Rattle.pddlstream_app.proofs.AskedLemmas.{made_asked, made_asked_before, solved_asked, solved_asked_before}
-use Rattle.pddlstream_app.proofs.MakingLemmas.{made_completed, made_stopped}
-use Rattle.pddlstream_app.proofs.RunsLemmas.{solved_completed, solved_stopped}
+use Rattle.pddlstream_app.proofs.StandsLemmas.{stands_answered, stands_early, stands_made, stands_solved, stands_unused, ungenerated}
+use Rattle.round_run.specs.Told.{course}
+use Rattle.run_command.specs.Heard.{AreTooMany, restarts_for}
 use Rattle.pddlstream_app.proofs.command.attempt.Goals as goal
 
 -- ---- a task is to be solved
@@ -19,15 +20,15 @@ solve-requires-clause-within g c =
     in_range (map string_bytes c.args.words.now) (solve (held_solve c.in-Solve.words))
     (c.in-Ok.ensures.config ∙ ap Some (sym c.in-Solve.ensures))
 
-pub returns-in-Solve-clause-completed : goal.returns-in-Solve-clause-completed
-returns-in-Solve-clause-completed g c =
-    solved_completed (map string_bytes c.args.words.now) _ (held_solve c.in-Solve.words)
-    (c.in-Ok.ensures.config ∙ ap Some (sym c.in-Solve.ensures)) _ c.solve.result c.solve.ensures.ends
+pub returns-in-Solve-clause-stands : goal.returns-in-Solve-clause-stands
+returns-in-Solve-clause-stands g c =
+    stands_solved (map string_bytes c.args.words.now) _ _ _ (held_solve c.in-Solve.words)
+    (c.in-Ok.ensures.config ∙ ap Some (sym c.in-Solve.ensures)) c.solve.result c.solve.ensures.ends
 
-pub returns-in-Solve-clause-stopped : goal.returns-in-Solve-clause-stopped
-returns-in-Solve-clause-stopped g c =
-    solved_stopped (map string_bytes c.args.words.now) _ (held_solve c.in-Solve.words)
-    (c.in-Ok.ensures.config ∙ ap Some (sym c.in-Solve.ensures)) _ c.solve.result c.solve.ensures.ends
+pub returns-in-Solve-clause-many : goal.returns-in-Solve-clause-many
+returns-in-Solve-clause-many g c = λ is.
+    subst (λ n. AreTooMany n (course g.H.Host c.args.host.now c.solve.new.host))
+    (sym (ap restarts_for (c.in-Ok.ensures.config ∙ ap Some (sym c.in-Solve.ensures)))) (c.solve.ensures.many is)
 
 pub returns-in-Solve-clause-answers : goal.returns-in-Solve-clause-answers
 returns-in-Solve-clause-answers g c =
@@ -57,17 +58,17 @@ make-requires-clause-within g c =
     in_range (map string_bytes c.args.words.now) (generate c.in-Make.number)
     (c.in-Ok.ensures.config ∙ ap Some (sym c.in-Make.ensures))
 
-pub returns-in-Make-clause-completed : goal.returns-in-Make-clause-completed
-returns-in-Make-clause-completed g c =
-    made_completed (map string_bytes c.args.words.now) (outside_of (seen_of g.F.Files.told g.F.Files.faults g.F.Files.asked c.args.files.now c.args.files.now) g.H.Host.spoken
-    g.H.Host.log c.args.host.now c.make.new.host) c.in-Make.number
-    (c.in-Ok.ensures.config ∙ ap Some (sym c.in-Make.ensures)) (extends_none (g.F.Files.asked c.args.files.now)) _ c.make.result c.make.ensures.ends
+pub returns-in-Make-clause-stands : goal.returns-in-Make-clause-stands
+returns-in-Make-clause-stands g c =
+    stands_made (map string_bytes c.args.words.now) (outside_of (seen_of g.F.Files.told g.F.Files.faults g.F.Files.asked
+    c.args.files.now c.args.files.now) g.H.Host.spoken g.H.Host.log c.args.host.now c.make.new.host) _ _ c.in-Make.number
+    (c.in-Ok.ensures.config ∙ ap Some (sym c.in-Make.ensures)) (extends_none (g.F.Files.asked c.args.files.now)) c.make.result
+    c.make.ensures.ends
 
-pub returns-in-Make-clause-stopped : goal.returns-in-Make-clause-stopped
-returns-in-Make-clause-stopped g c =
-    made_stopped (map string_bytes c.args.words.now) (outside_of (seen_of g.F.Files.told g.F.Files.faults g.F.Files.asked c.args.files.now c.args.files.now) g.H.Host.spoken
-    g.H.Host.log c.args.host.now c.make.new.host) c.in-Make.number
-    (c.in-Ok.ensures.config ∙ ap Some (sym c.in-Make.ensures)) (extends_none (g.F.Files.asked c.args.files.now)) _ c.make.result c.make.ensures.ends
+pub returns-in-Make-clause-many : goal.returns-in-Make-clause-many
+returns-in-Make-clause-many g c = λ is.
+    subst (λ n. AreTooMany n (course g.H.Host c.args.host.now c.make.new.host))
+    (sym (ap restarts_for (c.in-Ok.ensures.config ∙ ap Some (sym c.in-Make.ensures)))) (c.make.ensures.many is)
 
 pub returns-in-Make-clause-answers : goal.returns-in-Make-clause-answers
 returns-in-Make-clause-answers g c =
@@ -100,19 +101,18 @@ answer-requires g c = record {
       (c.in-Ok.ensures.config ∙ ap Some (sym c.in-Answer.ensures));
 }
 
-pub returns-in-Answer-clause-completed : goal.returns-in-Answer-clause-completed
-returns-in-Answer-clause-completed g c =
-    answer_completed (map string_bytes c.args.words.now) (command_answering c.in-Answer.words)
-    (c.in-Ok.ensures.config ∙ ap Some (sym c.in-Answer.ensures))
+pub returns-in-Answer-clause-stands : goal.returns-in-Answer-clause-stands
+returns-in-Answer-clause-stands g c =
+    stands_answered (map string_bytes c.args.words.now)
     (seen_of g.F.Files.told g.F.Files.faults g.F.Files.asked c.args.files.now c.answer.new.files) (g.H.Host.spoken c.args.host.now)
-    (g.H.Host.log c.args.host.now) (written_of g.O.Sink.taken c.args.out.now c.answer.new.out) c.answer.result c.answer.ensures.told
+    (g.H.Host.log c.args.host.now) _ (written_of g.O.Sink.taken c.args.out.now c.answer.new.out) c.in-Answer.words
+    (c.in-Ok.ensures.config ∙ ap Some (sym c.in-Answer.ensures)) c.answer.result c.answer.ensures.told
 
-pub returns-in-Answer-clause-stopped : goal.returns-in-Answer-clause-stopped
-returns-in-Answer-clause-stopped g c =
-    answer_stopped (map string_bytes c.args.words.now) (command_answering c.in-Answer.words)
-    (c.in-Ok.ensures.config ∙ ap Some (sym c.in-Answer.ensures))
-    (seen_of g.F.Files.told g.F.Files.faults g.F.Files.asked c.args.files.now c.answer.new.files) (g.H.Host.spoken c.args.host.now)
-    (g.H.Host.log c.args.host.now) (written_of g.O.Sink.taken c.args.out.now c.answer.new.out) c.answer.result c.answer.ensures.told
+pub returns-in-Answer-clause-many : goal.returns-in-Answer-clause-many
+returns-in-Answer-clause-many g c = λ is.
+    absurd (ungenerated _ _ (answer_ungenerated (command_answering c.in-Answer.words)
+    (seen_of g.F.Files.told g.F.Files.faults g.F.Files.asked c.args.files.now c.answer.new.files)
+    (written_of g.O.Sink.taken c.args.out.now c.answer.new.out) c.answer.result c.answer.ensures.told) is)
 
 pub returns-in-Answer-clause-leaves : goal.returns-in-Answer-clause-leaves
 returns-in-Answer-clause-leaves g c =

@@ -1,11 +1,15 @@
-use Rattle.std.proofs.Common.{inl, inr, refl, subst, sym}
+use Rattle.std.proofs.Common.{◌≡◌, Err, ap, inl, inr, refl, subst, sym}
 use Rattle.command_line.specs.Held.{held_solve}
 use Rattle.round_run.proofs.CallsRunLemmas.{stops_none}
-use Rattle.round_run.proofs.StoppedLemmas.{handed_err}
+use Rattle.round_run.proofs.StoppedLemmas.{handed_err, same_err}
 use Rattle.round_run.specs.declared.fault.RunFault.TheVariants as fault
 use Rattle.command_files.specs.Outside.{outside_of, written_of}
 use Rattle.command_files.specs.declared.stop.Stop.TheVariants as stop
-use Rattle.run_command.proofs.CausesLemmas.{host_of_lined, lined_at_text, spared, unfailed}
+use Rattle.run_command.proofs.CausesLemmas.{host_of_lined, lined_at_text, lined_spares, spared, unfailed}
+use Rattle.run_command.proofs.ReportsLemmas.{made_failed, made_solved, unread_spares}
+use Rattle.run_command.specs.Heard.{AreTooMany}
+use Rattle.command_line.specs.Words.{SolveWords}
+use Rattle.round_run.specs.Told.{course}
 use Rattle.run_command.proofs.MakingLemmas.{made_in_range, made_seen, makes_run, solved_made, unsolved_made}
 use Rattle.run_command.specs.Making.{MakesRun}
 use Rattle.run_command.specs.Works.{seen_made}
@@ -19,14 +23,14 @@ report-requires-clause-within g c = made_in_range (held_solve c.in_ok-words.word
 pub returns-in_err-words-clause-ends : goal.returns-in_err-words-clause-ends
 returns-in_err-words-clause-ends g c =
     subst (MakesRun c.args.number (outside_of (seen_made c.args.number) g.H.Host.spoken g.H.Host.log c.args.host.now c.args.host.now)
-    (written_of g.O.Sink.taken c.args.out.now c.args.out.now))
+    (c.args.host.now ≡ c.args.host.now) (written_of g.O.Sink.taken c.args.out.now c.args.out.now))
     (sym (handed_err c.from_residual.result (stop.Run fault.Memory) c.from_residual.ensures.1))
     (inr (record { nothing = refl; cause = inl (refl, stops_none (g.H.Host.log c.args.host.now)) }))
 
 pub returns-in_err-files-clause-ends : goal.returns-in_err-files-clause-ends
 returns-in_err-files-clause-ends g c =
     subst (MakesRun c.args.number (outside_of (seen_made c.args.number) g.H.Host.spoken g.H.Host.log c.args.host.now c.args.host.now)
-    (written_of g.O.Sink.taken c.args.out.now c.args.out.now))
+    (c.args.host.now ≡ c.args.host.now) (written_of g.O.Sink.taken c.args.out.now c.args.out.now))
     (sym (handed_err c.from_residual-in_err-files.result (stop.Run fault.Memory) c.from_residual-in_err-files.ensures.1))
     (inr (record { nothing = refl; cause = inl (refl, stops_none (g.H.Host.log c.args.host.now)) }))
 
@@ -38,7 +42,8 @@ returns-in-Err-clause-ends g c = inr (record {
   cause = inr (record {
     inner = _;
     none = unsolved_made c.args.number _ (made_seen c.args.number _ c.in_ok-files.ensures) (held_solve c.in_ok-words.words)
-        c.in_ok-words.ensures _ _ _ _ c.in-Err.stop c.in-Err.ensures.failed;
+        c.in_ok-words.ensures _ _ _ _ c.in-Err.stop (made_failed (held_solve c.in_ok-words.words) c.in_ok-words.ensures
+        (outside_of _ g.H.Host.spoken g.H.Host.log c.args.host.now c.report.new.host) _ _ c.in-Err.stop c.in-Err.ensures.reported);
     other = unfailed c.report.result c.in-Err.stop c.in-Err.is c.report.ensures.sink;
   });
 })
@@ -47,9 +52,11 @@ returns-in-Err-clause-ends g c = inr (record {
 
 pub returns-clause-ends : goal.returns-clause-ends
 returns-clause-ends g c =
-    makes_run c.args.number _ _ _ c.in-Ok.ran
+    makes_run c.args.number _ _ _ _ c.in-Ok.ran
     (solved_made c.args.number _ (made_seen c.args.number _ c.in_ok-files.ensures) (held_solve c.in_ok-words.words)
-    c.in_ok-words.ensures _ _ _ _ c.in-Ok.ran c.in-Ok.ensures.solved) c.show.result c.show.ensures.shown
+    c.in_ok-words.ensures _ _ _ _ _ c.in-Ok.ran (made_solved (held_solve c.in_ok-words.words) c.in_ok-words.ensures
+    (outside_of _ g.H.Host.spoken g.H.Host.log c.args.host.now c.report.new.host) _ _ c.in-Ok.ran c.in-Ok.ensures.reported))
+    c.show.result c.show.ensures.shown
 
 pub returns-in-Err-clause-sink : goal.returns-in-Err-clause-sink
 returns-in-Err-clause-sink g c =
@@ -60,3 +67,19 @@ returns-clause-host g c = host_of_lined _ _ _ c.show.result c.show.ensures.shown
 
 pub returns-clause-leaves : goal.returns-clause-leaves
 returns-clause-leaves g c = lined_at_text _ _ _ _ c.show.result c.show.ensures.shown
+
+pub returns-clause-many : goal.returns-clause-many
+returns-clause-many g c = λ is. absurd (lined_spares _ _ _ c.show.result c.show.ensures.shown is)
+
+pub returns-in-Err-clause-many : goal.returns-in-Err-clause-many
+returns-in-Err-clause-many g c = λ is.
+    subst (λ n. AreTooMany n (course g.H.Host c.args.host.now c.report.new.host))
+    (ap (λ (w : SolveWords). w.restarts) c.in_ok-words.ensures) (c.in-Err.ensures.many (ap Err (same_err is)))
+
+pub returns-in_err-words-clause-many : goal.returns-in_err-words-clause-many
+returns-in_err-words-clause-many g c =
+    unread_spares c.from_residual.result (stop.Run fault.Memory) _ c.from_residual.ensures.1 tt
+
+pub returns-in_err-files-clause-many : goal.returns-in_err-files-clause-many
+returns-in_err-files-clause-many g c =
+    unread_spares c.from_residual-in_err-files.result (stop.Run fault.Memory) _ c.from_residual-in_err-files.ensures.1 tt

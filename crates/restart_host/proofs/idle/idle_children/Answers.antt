@@ -1,7 +1,7 @@
 use Rattle.std.proofs.Common.{ap, arith, length, length-append, subst, sym}
 use Rattle.restart_host.specs.Kept.{AreIdle}
 use Rattle.restart_host.proofs.ChildrenLemmas.{idle_more}
-use Rattle.restart_host.proofs.restart_host.idle_children.Goals as goal
+use Rattle.restart_host.proofs.idle.idle_children.Goals as goal
 
 pub loop-alloc-preserved : goal.loop-alloc-preserved
 loop-alloc-preserved c = record {

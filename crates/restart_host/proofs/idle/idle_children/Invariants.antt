@@ -1,6 +1,6 @@
 use Rattle.std.proofs.Common.{◌≤◌, ◌-◌, length}
 use Rattle.restart_host.specs.Kept.{AreIdle}
-use Rattle.restart_host.proofs.restart_host.idle_children.Given as goal
+use Rattle.restart_host.proofs.idle.idle_children.Given as goal
 
 abbrev pub invariant-loop-alloc : goal.invariant-loop-alloc
 invariant-loop-alloc l = record {

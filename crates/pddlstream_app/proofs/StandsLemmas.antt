@@ -1,0 +1,192 @@
+-- How runs stand and end, by what was heard of their children.
+use Rattle.std.proofs.Common.{◌≡◌, ℕ, arith, List, [], true, false, refl, sym, subst, ap, ◌∙◌, ◌⊎◌, inl, inr, None, Some, Option, Result, Ok, Err, IfErr, IfOk, IsErrOf}
+use Rattle.io_world.specs.Faults.{Extends, HasCause}
+use Rattle.io_world.specs.Talks.{Event, Talk}
+use Rattle.report_text.proofs.PrintsLemmas.{appends_none}
+use Rattle.round_run.proofs.CallsRunLemmas.{stops_none}
+use Rattle.round_run.proofs.StoppedLemmas.{same_err}
+use Rattle.round_run.specs.Calls.{LogStops}
+use Rattle.round_run.specs.declared.fault.RunFault.TheVariants as fault
+use Rattle.command_files.specs.Outside.{FilesSeen, Outside, Written, resting}
+use Rattle.command_files.specs.Stop.{is_write, status_at}
+use Rattle.command_files.specs.declared.status.Status.{Status}
+use Rattle.command_files.specs.declared.status.Status.TheVariants.{GeneratorFault, Memory, WriteFault}
+use Rattle.command_files.specs.declared.stop.Stop.{Stop}
+use Rattle.command_files.specs.declared.stop.Stop.TheVariants as stop
+use Rattle.command_line.specs.Words.{Command, SolveWords, command_of, generate, solve}
+use Rattle.run_command.proofs.MakingLemmas.{over_made}
+use Rattle.run_command.proofs.RestartsLemmas.{heard_silent, heard_weaker, silent, silent_same}
+use Rattle.run_command.specs.Heard.{Heard, IsHeard, heard_in, hearing, restarts_for, restarts_in}
+use Rattle.run_command.specs.Making.{MakesRun}
+use Rattle.run_command.specs.Solving.{Lacks, SolvesBy}
+use Rattle.pddlstream_app.proofs.AnswersLemmas.{answer_completed, answer_stopped}
+use Rattle.pddlstream_app.proofs.MakingLemmas.{made_completed, made_stopped}
+use Rattle.pddlstream_app.proofs.RunsLemmas.{ends_closed, ends_completed, ends_written, solved_completed, solved_stopped, stopped_early}
+use Rattle.pddlstream_app.specs.Answering.{IsAnswerTold, command_answering}
+use Rattle.pddlstream_app.specs.Complete.{Completes, CompletesBy}
+use Rattle.pddlstream_app.specs.Runs.{ClosesRun, EndsBy, IsBeforeLast, LacksMemory, StandsBy}
+use Rattle.pddlstream_app.specs.declared.answer.AnswerConfig.{AnswerConfig}
+use Rattle.pddlstream_app.specs.declared.answer.AnswerConfig.TheVariants as config
+
+-- ---- before the last line
+
+-- how many failures are made good, by the command
+restarts_by : {words : List (List ℕ)} {command : Command} (Lacked : Type 0) {below heard : Heard}
+    → command_of words ≡ Some command → IsHeard (restarts_for (Some command)) Lacked below heard
+    → IsHeard (restarts_in words) Lacked below heard
+restarts_by Lacked {below} {heard} meant by = subst (λ n. IsHeard n Lacked below heard) (sym (ap restarts_for meant)) by
+
+-- none, where a command is answered
+answering_none : (w : AnswerConfig) → restarts_for (Some (command_answering w)) ≡ 0
+answering_none (config.Replay w) = refl
+answering_none (config.Migrate path) = refl
+answering_none (config.Deorder w) = refl
+answering_none (config.Play w) = refl
+
+module _ (words : List (List ℕ)) (outside : Outside) (Same : Type 0) (written : Written) where
+  -- a task is to be solved
+  pub stands_solved : (asked : SolveWords) → command_of words ≡ Some (solve asked) → (r : Result Status Stop)
+      → SolvesBy asked outside Same written r → StandsBy words outside Same written r
+  stands_solved asked meant r e = record {
+    heard = e.heard;
+    by = restarts_by (Lacks r) meant e.by;
+    completed = solved_completed words (hearing outside.files e.heard) asked meant Same written r e.ends;
+    stopped = solved_stopped words (hearing outside.files e.heard) asked meant Same written r e.ends;
+  }
+
+  -- the task of a number is to be made and solved
+  pub stands_made : (number : ℕ) → command_of words ≡ Some (generate number)
+      → Extends outside.files.before outside.files.after [] → (r : Result Status Stop)
+      → MakesRun number (over_made number outside) Same written r → StandsBy words outside Same written r
+  stands_made number meant nothing r e = record {
+    heard = heard_in outside;
+    by = restarts_by (Lacks r) meant refl;
+    completed = made_completed words outside number meant nothing Same written r e;
+    stopped = made_stopped words outside number meant nothing Same written r e;
+  }
+
+module _ (words : List (List ℕ)) (files : FilesSeen) (spoken : ℕ → Option Talk) (log : Option (List Event))
+    (Same : Type 0) where
+  -- a command is to be answered
+  pub stands_answered : (written : Written) (w : AnswerConfig) → command_of words ≡ Some (command_answering w)
+      → (r : Result Status Stop) → IsAnswerTold (command_answering w) files written r
+      → StandsBy words (resting files spoken log) Same written r
+  stands_answered written w meant r told = record {
+    heard = heard_in (resting files spoken log);
+    by = restarts_by (Lacks r) meant
+        (subst (λ n. IsHeard n (Lacks r) (heard_in (resting files spoken log)) (heard_in (resting files spoken log)))
+        (sym (answering_none w)) refl);
+    completed = answer_completed words (command_answering w) meant files spoken log written Same r told;
+    stopped = answer_stopped words (command_answering w) meant files spoken log written r told;
+  }
+
+  -- the words mean no command, or for them memory is wanting
+  abbrev early : Heard
+  early = silent (restarts_in words) spoken log
+
+  stops_early : LogStops early.was early.now
+  stops_early = subst (LogStops early.was) (sym (silent_same (restarts_in words) spoken log)) (stops_none early.was)
+
+  pub stands_unused : (sink : Option (List ℕ)) → command_of words ≡ None
+      → StandsBy words (resting files spoken log) Same (record { before = sink; after = sink }) (Err stop.Usage)
+  stands_unused sink none = record {
+    heard = early;
+    by = heard_silent (restarts_in words) _ spoken log;
+    completed = tt;
+    stopped = record { text = []; cause = (none, (refl, stops_early)); took = appends_none sink };
+  }
+
+  pub stands_early : (sink : Option (List ℕ))
+      → StandsBy words (resting files spoken log) Same (record { before = sink; after = sink }) (Err (stop.Run fault.Memory))
+  stands_early sink = record {
+    heard = early;
+    by = heard_silent (restarts_in words) _ spoken log;
+    completed = tt;
+    stopped = stopped_early words (hearing files early) (record { before = sink; after = sink }) (appends_none sink) stops_early;
+  }
+
+-- ---- the end
+
+module _ (words : List (List ℕ)) (outside : Outside) (Same : Type 0) where
+  -- an outcome, or an answer
+  pub ends_ok : (written : Written) (status : Status) → StandsBy words outside Same written (Ok status)
+      → EndsBy words outside Same written status
+  ends_ok written status s = record {
+    heard = s.heard;
+    ends = ends_completed words (hearing outside.files s.heard) Same written status s.completed;
+    by = heard_weaker (restarts_in words) _ _ _ _ (λ is. absurd (cc (is))) s.by;
+  }
+
+  -- the sink failed
+  pub ends_cut : (written : Written) (why : Stop) → is_write why ≡ true → StandsBy words outside Same written (Err why)
+      → EndsBy words outside Same written WriteFault
+  ends_cut written why other s = record {
+    heard = s.heard;
+    ends = ends_written words (hearing outside.files s.heard) Same written why other s.stopped;
+    by = heard_weaker (restarts_in words) _ _ _ _
+        (λ is. absurd (let both : true ≡ false = sym other ∙ ap is_write (same_err is) in cc)) s.by;
+  }
+
+  -- the last line was written, or a part of it, or that memory is wanting
+  pub ends_last : (old mid new : Option (List ℕ)) (why : Stop) (status : Status) → is_write why ≡ false
+      → StandsBy words outside Same (record { before = old; after = mid }) (Err why)
+      → ClosesRun why (record { before = mid; after = new }) status
+      → EndsBy words outside Same (record { before = old; after = new }) status
+  ends_last old mid new why status other s closed =
+      let to = ends_closed words (hearing outside.files s.heard) Same old mid new why status s.stopped other closed in
+      record {
+        heard = s.heard;
+        ends = to.0;
+        by = heard_weaker (restarts_in words) _ _ _ _ (λ is. to.1 (same_err is)) s.by;
+      }
+
+-- ---- where all goes well
+
+-- how a run ends that lacked memory before its last line
+lacked_last : (why : Stop) (written : Written) (status : Status) → why ≡ stop.Run fault.Memory → ClosesRun why written status
+    → (status ≡ Memory) ⊎ (status ≡ WriteFault)
+lacked_last why written status is (inl (inl x)) = inl (x.0 ∙ ap status_at is)
+lacked_last why written status is (inl (inr x)) = inr x.0
+lacked_last why written status is (inr (inl x)) = inl x.0
+lacked_last why written status is (inr (inr x)) = inr x.0
+
+module _ {words : List (List ℕ)} {outside : Outside} {Same host_rose sink_rose : Type 0} where
+  pub completes_by : {written : Written} {r : Result Status Stop} (s : StandsBy words outside Same written r)
+      (status : Status) → (Lacks r → (status ≡ Memory) ⊎ (status ≡ WriteFault))
+      → Completes words (hearing outside.files s.heard) host_rose sink_rose status
+      → CompletesBy words outside host_rose sink_rose status
+  completes_by s status lacks c = record {
+    heard = s.heard;
+    by = heard_weaker (restarts_in words) _ _ _ _ lacks s.by;
+    completes = c;
+  }
+
+  -- whether memory was lacking
+  pub lacked_closed : (why : Stop) (written : Written) (status : Status) → ClosesRun why written status
+      → (let r : Result Status Stop = Err why in Lacks r) → (status ≡ Memory) ⊎ (status ≡ WriteFault)
+  lacked_closed why written status closed is = lacked_last why written status (same_err is) closed
+
+-- a fault of the generator is told only where it is the cause
+pub closed_generator : (why : Stop) (written : Written) (status : Status) → ClosesRun why written status
+    → status ≡ GeneratorFault → why ≡ stop.Run fault.Generator
+closed_generator why written status (inl (inl x)) is = of why (sym x.0 ∙ is)
+  where
+    of : (why : Stop) → status_at why ≡ GeneratorFault → why ≡ stop.Run fault.Generator
+    of stop.Usage e = absurd (cc)
+    of (stop.Input which kind place) e = absurd (cc)
+    of (stop.Map f) e = absurd (cc)
+    of (stop.Grid kind line) e = absurd (cc)
+    of (stop.Failed which) e = absurd (cc)
+    of (stop.TooLong which) e = absurd (cc)
+    of (stop.Run (fault.Answer number f)) e = absurd (cc)
+    of (stop.Run fault.Generator) e = refl
+    of (stop.Run fault.Write) e = absurd (cc)
+    of (stop.Run fault.Memory) e = absurd (cc)
+closed_generator why written status (inl (inr x)) is = absurd (let both = sym x.0 ∙ is in cc)
+closed_generator why written status (inr (inl x)) is = absurd (let both = sym x.0 ∙ is in cc)
+closed_generator why written status (inr (inr x)) is = absurd (let both = sym x.0 ∙ is in cc)
+
+-- an answer has no fault of the generator
+pub ungenerated : {T : Type 0} (r : Result T Stop) (bad : Stop) → ((last count : ℕ) → HasCause bad last count count r)
+    → IsErrOf r bad → ⊥
+ungenerated r bad none is = let rose = (none 1 0).cause is in absurd (omega (arith, rose))

@@ -1,0 +1,39 @@
+// Room for children of a host, none of whom was started.
+ghost use Rattle.std.specs.Prelude.{◌≡◌, IfOk, vec_len};
+ghost use Rattle.restart_host.specs.Kept.{AreIdle};
+
+use crate::kept::Kept;
+use io_world::CHILDREN;
+use std::alloc::{AllocError, Global};
+
+/// What is kept of the children of a host, none of whom was started, with room for a line of each.
+#[derive(Drop)]
+pub struct IdleChildren {
+    pub(crate) items: Vec<Kept>,
+    ghost all: { vec_len items ≡ 17 },
+    ghost idle: { AreIdle items.items },
+}
+
+impl IdleChildren {
+    /// Takes the room.
+    ///
+    /// # Errors
+    /// `AllocError` where there is no memory.
+    pub fn new(alloc: Global) -> Result<IdleChildren, AllocError> {
+        let items = idle_children(alloc)?;
+        Ok(IdleChildren { items })
+    }
+}
+
+/// Children that were never started.
+fn idle_children(alloc: Global) -> Result<Vec<Kept>, AllocError>
+    ensures all { IfOk result (λ children. vec_len children ≡ 17) }
+    ensures idle { IfOk result (λ children. AreIdle children.items) }
+{
+    let mut children = Vec::new(alloc);
+    while children.len() < CHILDREN {
+        let kept = Kept::new(alloc)?;
+        children.push(kept)?;
+    }
+    Ok(children)
+}
