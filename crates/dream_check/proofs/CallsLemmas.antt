@@ -42,7 +42,8 @@ instance_shown task names distinct call i is =
     (λ k. record { name = sym (named_stream task call.name stream.0 stream.1) k; args = sym objects k })
     ∙ ap (call_of_instance task names) inputs.2
 
-module _ (task : Task) (d : Dreamable) (h : IsListed task d) (names : List (List ℕ)) (same : names ≡ d.known.names) (place : ℕ) (e : SupposedEntry)
+module _ (task : Task) (d : Dreamable) (h : IsListed task d) (names : List (List ℕ)) (same : names ≡ d.known.names) (place : ℕ)
+    (e : SupposedEntry)
     (at : slice_get d.list place ≡ Some e) (call : Call) where
   pub distinct : AreDistinct names
   distinct = subst AreDistinct (sym same) d.coherent.names

@@ -181,7 +181,8 @@ module _ (limits : Limits) (task : Task) (before : List Entry) (tried : List Ins
         subst (λ es. IsCoherent (supposing task d.base d.list es)) (without_is task d.base d.list places place all)
         (coherent_with (places_without task d.base d.list places place (place + 1)))
 
-    module _ (uses : List DreamUse) (steps : List Call) (places : List ℕ) (u : AreUsed task d uses places) (entries : List dreams.SupposedEntry)
+    module _ (uses : List DreamUse) (steps : List Call) (places : List ℕ) (u : AreUsed task d uses places)
+        (entries : List dreams.SupposedEntry)
         (x : IsDreamAfter limits task before tried uses steps entries) where
       is_list : x.list ≡ d.list
       is_list = one_list uses x.list entries (choice limits task before tried uses steps entries x)

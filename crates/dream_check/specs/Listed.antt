@@ -17,8 +17,6 @@ use Rattle.dream_check.specs.declared.dream.Dreamed.{Dreamed}
 use Rattle.dream_check.specs.declared.dream.Dreamed.TheVariants.{Right, Use, Step, Last}
 use Rattle.dream_check.specs.declared.steps.Followed.{Followed}
 use Rattle.dream_check.specs.declared.steps.Followed.TheVariants.{Stops, Misses, Reaches}
-use Rattle.dream_check.specs.declared.uses.Used.{Used}
-use Rattle.dream_check.specs.declared.uses.Used.TheVariants as used
 
 -- the next place is the least with which these ascend
 abbrev pub IsNext : List ℕ → ℕ → Type 0
@@ -58,9 +56,10 @@ module _ (task : Task) (d : Dreamable) where
     pub part_at : IsPartAt task d part.places part
     pub behind : IsNext part.places next
 
-  abbrev pub AreTaken : List DreamUse → Used → Type 0
-  AreTaken uses (used.Stops place) = StopsAtUse uses place
-  AreTaken uses (used.All part) = AreUsed uses part.places × IsPartAt task d part.places part
+  -- the uses stop at a place, or all name entries, which the part has
+  abbrev pub AreTaken : List DreamUse → Portion → Option ℕ → Type 0
+  AreTaken uses part (Some place) = StopsAtUse uses place
+  AreTaken uses part None = AreUsed uses part.places × IsPartAt task d part.places part
 
 -- ---- steps
 

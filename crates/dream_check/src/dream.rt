@@ -1,5 +1,5 @@
 //! Whether a dream that a report shows is one.
-ghost use Rattle.std.specs.Prelude.{◌≡◌, ℕ, ◌<◌, List, length, All, IfOk};
+ghost use Rattle.std.specs.Prelude.{◌≡◌, ℕ, ◌<◌, List, [], length, All, IfOk};
 ghost use Rattle.dream_check.specs.Judged.{IsDreamJudged};
 ghost use Rattle.dream_check.specs.Listed.{IsPartJudged, IsJudgedOver, known_at};
 ghost use Rattle.dreaming.specs.Parts.{IsListed, IsListing};
@@ -10,12 +10,12 @@ ghost use Rattle.transcript_model.specs.Rounds.{Limits};
 ghost use Rattle.transcript_model.specs.declared.entry.Entry.{Entry as AnyEntry};
 
 use crate::needed::are_needed;
+use crate::point::Point;
 use crate::steps::{Followed, follow};
 use crate::table::Table;
-use crate::uses::{Used, take_uses};
+use crate::uses::take_uses;
 use dreaming::{Listing, Part, entries_of};
-use learning::Knowledge;
-use optimistic_set::{OptEntry, OptimisticFault, Supposed, Tried, optimistic};
+use optimistic_set::{OptEntry, OptimisticFault, Supposed, optimistic};
 use std::alloc::{AllocError, Global};
 use task_model::Task;
 use transcript_model::{Call, DreamUse};
@@ -60,22 +60,41 @@ fn judge_plan(
 fn judge_part(
     listing: &Listing<'_>,
     table: &Table<'_>,
-    part: Part<'_>,
+    part: &Part<'_>,
     steps: &[Call],
 ) -> Result<Dreamed, AllocError>
     requires listing { IsListing listing.now }
     requires names { table.now ≡ listing.now.supposed.now.known.names }
-    requires part { IsPartAt listing.now.task.now listing.now.supposed.now part.places part }
+    requires part { IsPartAt listing.now.task.now listing.now.supposed.now part.now.places
+        part.now }
     ensures { IfOk result (IsPartJudged listing.now.task.now listing.now.supposed.now
-        part.entry.places steps.now) }
+        part.now.places steps.now) }
 {
-    match follow(listing, table, &part, steps)? {
+    match follow(listing, table, part, steps)? {
         Followed::Stops(place) => Ok(Dreamed::Step(place)),
         Followed::Misses => Ok(Dreamed::Last),
-        Followed::Reaches => {
-            let places = part.into_places();
-            judge_plan(listing, table, places.as_slice(), steps)
-        }
+        Followed::Reaches => judge_plan(listing, table, part.places(), steps),
+    }
+}
+
+/// Judges a dream over a list, and puts the entries that it uses into the part, which has none
+/// before.
+fn judge_by(
+    listing: &Listing<'_>,
+    table: &Table<'_>,
+    part: &mut Part<'_>,
+    uses: &[DreamUse],
+    steps: &[Call],
+) -> Result<Dreamed, AllocError>
+    requires listing { IsListing listing.now }
+    requires names { table.now ≡ listing.now.supposed.now.known.names }
+    requires part { IsPartAt listing.now.task.now listing.now.supposed.now [] part.old }
+    ensures { IfOk result (IsJudgedOver listing.now.task.now listing.now.supposed.now uses.now
+        steps.now) }
+{
+    match take_uses(listing, table, part, uses)? {
+        Some(place) => Ok(Dreamed::Use(place)),
+        None => judge_part(listing, table, part, steps),
     }
 }
 
@@ -95,15 +114,13 @@ fn judge_over(
         task,
         supposed,
     };
-    let table = Table::of(alloc, supposed)?;
-    match take_uses(&listing, &table, uses)? {
-        Used::Stops(place) => Ok(Dreamed::Use(place)),
-        Used::All(part) => judge_part(&listing, &table, part, steps),
-    }
+    let table = Box::new(alloc, Table::of(alloc, supposed)?)?;
+    let mut part = Box::new(alloc, Part::new(alloc, supposed))?;
+    judge_by(&listing, &table, &mut part, uses, steps)
 }
 
-/// Judges a dream after the entries of the knowledge, where these instances were tried: its uses, of
-/// which there are some, and its steps, as a report shows them.
+/// Judges a dream at a point of a transcript: its uses, of which there are some, and its steps, as a
+/// report shows them.
 ///
 /// `Right` comes exactly where it is a dream (PDDLStream 2020; what may be left out is this
 /// project's). Else the first of its lines that is wrong is told: a use that is no entry of the
@@ -112,30 +129,29 @@ fn judge_over(
 /// left out. Fails only where memory is wanting.
 pub fn judge_dream(
     alloc: Global,
-    task: &Task,
-    knowledge: &Knowledge,
-    tried: &Tried,
-    depth: u8,
+    point: &Point<'_>,
     uses: &[DreamUse],
     steps: &[Call],
 ) -> Result<Dreamed, AllocError>
     requires knowledge { (version : ℕ) × (before : List AnyEntry)
-        × IsKnowledge version task.now before knowledge.now }
+        × IsKnowledge version point.now.task.now before point.now.knowledge.now }
     requires some { 0 < length uses.now }
-    ensures { (limits : Limits) (before : List AnyEntry) → limits.depth ≡ depth
-        → IsKnowledge limits.version task.now before knowledge.now
-        → IfOk result (IsDreamJudged limits task.now before tried.now uses.now steps.now) }
+    ensures { (limits : Limits) (before : List AnyEntry) → limits.depth ≡ point.now.depth
+        → IsKnowledge limits.version point.now.task.now before point.now.knowledge.now
+        → IfOk result (IsDreamJudged limits point.now.task.now before point.now.tried.now uses.now
+        steps.now) }
 {
-    let depth = u32::from(depth);
+    let knowledge = point.knowledge;
+    let depth = u32::from(point.depth);
     match optimistic(
         alloc,
-        task,
+        point.task,
         &knowledge.facts,
         &knowledge.queue,
-        tried,
+        point.tried,
         depth,
     ) {
-        Ok(supposed) => judge_over(alloc, task, &supposed, uses, steps),
+        Ok(supposed) => judge_over(alloc, point.task, &supposed, uses, steps),
         Err(OptimisticFault::TooManyEntries) => Ok(Dreamed::Use(0)),
         Err(OptimisticFault::Memory) => Err(AllocError),
     }

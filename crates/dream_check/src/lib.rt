@@ -6,9 +6,11 @@ mod dream;
 pub mod laws;
 mod needed;
 mod none;
+mod point;
 mod steps;
 mod table;
 mod uses;
 
 pub use dream::{Dreamed, judge_dream};
 pub use none::judge_none;
+pub use point::Point;

@@ -7,9 +7,9 @@ ghost use Rattle.learning.specs.Knowledge.{IsKnowledge};
 ghost use Rattle.transcript_model.specs.Rounds.{Limits};
 ghost use Rattle.transcript_model.specs.declared.entry.Entry.{Entry as AnyEntry};
 
+use crate::point::Point;
 use best_first::is_solvable_within;
-use learning::Knowledge;
-use optimistic_set::{OptimisticFault, Tried, optimistic};
+use optimistic_set::{OptimisticFault, optimistic};
 use std::alloc::{AllocError, Global};
 use task_model::{Look, Task};
 
@@ -42,40 +42,39 @@ fn judge_list<L: Look>(
     }
 }
 
-/// Whether no plan rests on what may be supposed after the entries of the knowledge, where these
-/// instances were tried: because more than 20,000 entries may be supposed, because no plan is valid
-/// over the list, or because more than `states` states are reached over it. None exactly where
-/// `limit` is less than `states` and more than `limit` states are reached over a list that isn't
-/// too long; both are from 1 to 200,000. Fails only where memory is wanting.
+/// Whether no plan rests on what may be supposed at a point of a transcript: because more than
+/// 20,000 entries may be supposed, because no plan is valid over the list, or because more than
+/// `states` states are reached over it. None exactly where `limit` is less than `states` and more
+/// than `limit` states are reached over a list that isn't too long; both are from 1 to 200,000.
+/// Fails only where memory is wanting.
 pub fn judge_none(
     alloc: Global,
-    task: &Task,
-    knowledge: &Knowledge,
-    tried: &Tried,
-    depth: u8,
+    point: &Point<'_>,
     states: u32,
     limit: u32,
 ) -> Result<Option<bool>, AllocError>
     requires knowledge { (version : ℕ) × (before : List AnyEntry)
-        × IsKnowledge version task.now before knowledge.now }
+        × IsKnowledge version point.now.task.now before point.now.knowledge.now }
     requires some_states { 1 ≤ states }
     requires few_states { states ≤ MOST_STATES }
     requires some { 1 ≤ limit }
     requires few { limit ≤ MOST_STATES }
-    ensures { (limits : Limits) (before : List AnyEntry) → limits.depth ≡ depth
-        → limits.states ≡ states → IsKnowledge limits.version task.now before knowledge.now
-        → IfOk result (IsNoneJudged limits task.now before tried.now limit) }
+    ensures { (limits : Limits) (before : List AnyEntry) → limits.depth ≡ point.now.depth
+        → limits.states ≡ states
+        → IsKnowledge limits.version point.now.task.now before point.now.knowledge.now
+        → IfOk result (IsNoneJudged limits point.now.task.now before point.now.tried.now limit) }
 {
-    let depth = u32::from(depth);
+    let knowledge = point.knowledge;
+    let depth = u32::from(point.depth);
     match optimistic(
         alloc,
-        task,
+        point.task,
         &knowledge.facts,
         &knowledge.queue,
-        tried,
+        point.tried,
         depth,
     ) {
-        Ok(supposed) => judge_list(alloc, task, &supposed.look(), states, limit),
+        Ok(supposed) => judge_list(alloc, point.task, &supposed.look(), states, limit),
         Err(OptimisticFault::TooManyEntries) => Ok(Some(true)),
         Err(OptimisticFault::Memory) => Err(AllocError),
     }

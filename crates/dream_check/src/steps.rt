@@ -11,7 +11,7 @@ use std::alloc::AllocError;
 use transcript_model::Call;
 
 /// Where steps lead.
-#[derive(Clone, Copy, PartialEq, Eq, Debug)]
+#[derive(Clone, Copy)]
 pub enum Followed {
     /// The one at this place, from 0, can't be taken; those before it can.
     Stops(usize),

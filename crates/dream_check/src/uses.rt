@@ -1,5 +1,5 @@
 //! The entries that a dream uses, one after another.
-ghost use Rattle.std.specs.Prelude.{◌≡◌, ◌<◌, ◌↔◌, IsTrue, List, length, slice_get, Some, IfOk};
+ghost use Rattle.std.specs.Prelude.{◌≡◌, ◌<◌, ◌↔◌, [], IsTrue, List, length, slice_get, Some, IfOk};
 ghost use Rattle.dream_check.specs.Listed.{AreTaken, IsNext, MayBeNext, AreUsed};
 ghost use Rattle.dreaming.specs.Parts.{IsListing};
 ghost use Rattle.dreaming.specs.Thinning.{IsPartAt};
@@ -68,33 +68,28 @@ fn used_entry(
     Ok(Some(place))
 }
 
-/// What uses name.
-#[derive(Drop)]
-pub(crate) enum Used<'a> {
-    /// The use at this place, from 0, names no entry that may be used; those before it do.
-    Stops(usize),
-    /// All of them name entries, which are these.
-    All(Part<'a>),
-}
-
-/// Takes the entries that the uses name, one after another. Fails only where memory is wanting.
-pub(crate) fn take_uses<'a>(
-    listing: &Listing<'a>,
+/// Takes the entries that the uses name, one after another, into the part, which has none before.
+/// Answers the place, from 0, of the first use that names no entry that may be used; those before
+/// it do. Fails only where memory is wanting; then the part is no longer one.
+pub(crate) fn take_uses(
+    listing: &Listing<'_>,
     table: &Table<'_>,
+    part: &mut Part<'_>,
     uses: &[DreamUse],
-) -> Result<Used<'a>, AllocError>
+) -> Result<Option<usize>, AllocError>
     requires listing { IsListing listing.now }
     requires names { table.now ≡ listing.now.supposed.now.known.names }
-    ensures { IfOk result (AreTaken listing.now.task.now listing.now.supposed.now uses.now) }
+    requires part { IsPartAt listing.now.task.now listing.now.supposed.now [] part.old }
+    ensures { IfOk result (AreTaken listing.now.task.now listing.now.supposed.now uses.now
+        part.new) }
 {
-    let mut part = Part::new(listing.alloc, listing.supposed);
     let mut next = 0;
     for (place, used) in uses.iter().enumerate() {
-        let Some(entry) = used_entry(listing, table, &part, next, used)? else {
-            return Ok(Used::Stops(place));
+        let Some(entry) = used_entry(listing, table, part, next, used)? else {
+            return Ok(Some(place));
         };
         part.take(listing.alloc, listing.task, entry)?;
         next = entry + 1;
     }
-    Ok(Used::All(part))
+    Ok(None)
 }

@@ -108,7 +108,8 @@ pub listed : (task : Task) (known : Known) (notes : List Note) (tried : List Ins
     → ArePlainEntries task d.base d.list → IsListed task d
 listed task known notes tried depth d base so is plain = record {
   plain = plain;
-  fresh = subst (λ k. (n : ℕ) (e : dreams.SupposedEntry) → slice_get d.list n ≡ Some e → HasFreshOutputs task k (take n d.list) e) (sym base)
+  fresh = subst (λ k. (n : ℕ) (e : dreams.SupposedEntry) → slice_get d.list n ≡ Some e → HasFreshOutputs task k (take n d.list) e)
+      (sym base)
       (each_is_fresh task known notes tried depth d.list so);
   support = subst (λ k. dreams.HaveSupport task k d.list d.list) (sym base) (list_supported task known notes tried depth d.list so);
   known = is ∙ ap (λ k. supposing task k d.list d.list) (sym base);
@@ -162,7 +163,8 @@ module _ (task : Task) (s : State) (h : IsSession task s) (working : s.failed �
   told : notes ≡ notes_of task s.entries
   told = of_notes ∙ session_notes task s h working learnt
 
-  supposed_there : (limits : Limits) → limits.depth ≡ depth → (list : List dreams.SupposedEntry) → AreSupposed task known notes tried depth list
+  supposed_there : (limits : Limits) → limits.depth ≡ depth → (list : List dreams.SupposedEntry)
+      → AreSupposed task known notes tried depth list
       → AreSupposed task (known_of task s.entries) (notes_of task s.entries) tried limits.depth list
   supposed_there limits deep list so =
       subst (λ n. AreSupposed task (known_of task s.entries) (notes_of task s.entries) tried n list) (sym deep)

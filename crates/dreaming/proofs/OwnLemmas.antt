@@ -17,7 +17,8 @@ use Rattle.transcript_model.specs.Transcript.{known_of, names_of, notes_of}
 use Rattle.transcript_model.specs.declared.entry.Entry.{Entry}
 use Rattle.dreaming.proofs.AfterLemmas.{names_real}
 
-pub own_names : (limits : Limits) (task : Task) (before : List Entry) (tried : List Instance) (list : List dreams.SupposedEntry) → IsFit task
+pub own_names : (limits : Limits) (task : Task) (before : List Entry) (tried : List Instance) (list : List dreams.SupposedEntry)
+    → IsFit task
     → AreSupposedAfter limits task before tried list → length list ≤ 20000
     → AreDistinct (names_of task before ++ entry_names 1 list)
 own_names limits task before tried list fit so few =

@@ -29,7 +29,8 @@ chosen_at list (p ∷ ps) below =
     let rest = chosen_at list ps (All-tail (λ place. place < length list) p ps below) in
     (λ i. there.1 i ∷ rest i) ∙ sym (ap (λ o. map Some (cons_option o (entries_at list ps))) there.1)
 
-pub length-entries_at : (list : List SupposedEntry) (places : List ℕ) → AreBelow list places → length (entries_at list places) ≡ length places
+pub length-entries_at : (list : List SupposedEntry) (places : List ℕ) → AreBelow list places → length (entries_at list places)
+    ≡ length places
 length-entries_at list places below =
     sym (length-map (entries_at list places) Some) ∙ sym (ap length (chosen_at list places below)) ∙ length-map places (slice_get list)
 
@@ -62,7 +63,8 @@ in_entries list (p ∷ ps) q e m at =
     by None c = c
     by (Some x) c = contains_later x (entries_at list ps) e c
 
-pub entry_of_list : (list : List SupposedEntry) (places : List ℕ) (k : ℕ) (e : SupposedEntry) → slice_get (entries_at list places) k ≡ Some e
+pub entry_of_list : (list : List SupposedEntry) (places : List ℕ) (k : ℕ) (e : SupposedEntry) → slice_get (entries_at list places) k
+    ≡ Some e
     → (q : ℕ) × (slice_get list q ≡ Some e)
 entry_of_list list places k e at =
     let r = from_entries list places e (member_at (entries_at list places) k e at) in (r.0, r.2)
@@ -84,7 +86,8 @@ pub below_at : (n : ℕ) (places : List ℕ) → All (λ place. place < n) place
 below_at n places below k p at =
     subst (λ q. q < n) (get_or_from_slice_get places k p p at) (below k p (slice_get_within places k p at))
 
-pub at_place : (list : List SupposedEntry) (places : List ℕ) → AreBelow list places → (k p : ℕ) → slice_get places k ≡ Some p → p < length list
+pub at_place : (list : List SupposedEntry) (places : List ℕ) → AreBelow list places → (k p : ℕ) → slice_get places k ≡ Some p
+    → p < length list
 at_place list places = below_at (length list) places
 
 pub below_front : (list : List SupposedEntry) (places : List ℕ) (n : ℕ) → AreBelow list places → AreBelow list (take n places)

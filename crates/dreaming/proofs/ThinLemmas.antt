@@ -144,7 +144,8 @@ module _ (limits : Limits) (task : Task) (before : List Entry) (tried : List Ins
       lengths : length uses ≡ length entries
       lengths =
           sym (length-map uses (λ (u : DreamUse). u.call)) ∙ ap length s.calls
-          ∙ length-map (instances_of entries) (call_of_instance task d.known.names) ∙ length-map entries (λ (e : dreams.SupposedEntry). e.instance)
+          ∙ length-map (instances_of entries) (call_of_instance task d.known.names)
+          ∙ length-map entries (λ (e : dreams.SupposedEntry). e.instance)
 
   pub sure_none : AreSupposed task known (notes_of task before) tried limits.depth d.list
       → (¬ (IsSolvable task d.known)) ⊎ IsFar task d.known limits.states → HasSureNoDreamAfter limits task before tried

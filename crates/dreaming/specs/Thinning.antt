@@ -41,6 +41,10 @@ pub record IsPartAt (task : Task) (d : Dreamable) (places : List ℕ) (p : Porti
   pub list : p.list ≡ d.list
   pub places_are : p.places ≡ places
 
+-- the entries at the first places, and behind them those of the others that have support by then
+abbrev pub IsFilled : Task → Dreamable → List ℕ → List ℕ → Portion → Type 0
+IsFilled task d first others p = IsPartAt task d (supported_places task d.base d.list first others) p
+
 -- ---- a plan
 
 -- the plan with the entries at these places is valid at this cost
@@ -62,6 +66,15 @@ module _ (task : Task) (d : Dreamable) (steps : List GroundAction) where
   AreNeededOf places from to =
       (cost : ℕ) → ¬ (IsValidWith task d steps (places_without task d.base d.list places from to) cost)
 
+  -- With the first places, and behind them those of the others that have support by then, the plan is valid and they
+  -- are kept; or it isn't valid with them.
+  abbrev pub IsTriedOf : List ℕ → List ℕ → Option Kept → Type 0
+  IsTriedOf first others (Some k) =
+      (k.places.items ≡ supported_places task d.base d.list first others)
+      × IsValidWith task d steps k.places.items k.cost
+  IsTriedOf first others None =
+      (cost : ℕ) → ¬ (IsValidWith task d steps (supported_places task d.base d.list first others) cost)
+
   -- and none can be left out
   pub record IsThinOf (k : Kept) : Type 0 where
     pub kept : IsKeptOf k
@@ -75,7 +88,8 @@ IsWanted w object = get_or w.flags.items object false ≡ true
 -- an output of the entry at this place is wanted
 abbrev pub HasWanted : Dreamable → Wanted → ℕ → Type 0
 HasWanted d w place =
-    (e : SupposedEntry) × (slice_get d.list place ≡ Some e) × (object : ℕ) × Contains e.outputs object × IsWanted w object
+    (e : SupposedEntry) × (slice_get d.list place ≡ Some e) × (object : ℕ) × Contains e.outputs object
+    × IsWanted w object
 
 module _ (task : Task) (d : Dreamable) (steps : List GroundAction) where
   -- this place is among any places whose entries have support, and with which the plan is valid
@@ -102,6 +116,10 @@ pub record IsTrial (t : Trial) : Type 0 where
 
 abbrev pub TrialKeeps : Trial → Kept → Type 0
 TrialKeeps t k = IsKeptOf t.listing.task.now t.listing.supposed.now t.plan.now.steps k
+
+abbrev pub IsTried : Trial → List ℕ → List ℕ → Option Kept → Type 0
+IsTried t first others found =
+    IsTriedOf t.listing.task.now t.listing.supposed.now t.plan.now.steps first others found
 
 abbrev pub TrialNeeds : Trial → List ℕ → ℕ → ℕ → Type 0
 TrialNeeds t places from to = AreNeededOf t.listing.task.now t.listing.supposed.now t.plan.now.steps places from to

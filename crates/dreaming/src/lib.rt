@@ -13,4 +13,4 @@ mod wanted;
 pub use answer::{Dreamt, dream};
 pub use part::Part;
 pub use shown::entries_of;
-pub use taken::{Listing, part_at, take_supported};
+pub use taken::{Listing, fill};

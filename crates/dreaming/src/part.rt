@@ -121,7 +121,14 @@ impl<'a> Part<'a> {
     }
 
     /// The places of the entries in the list.
-    pub fn into_places(self) -> Vec<usize>
+    pub fn places(&self) -> &[usize]
+        ensures { result.now ≡ self.now.places }
+    {
+        self.places.as_slice()
+    }
+
+    /// The places of the entries in the list.
+    pub(crate) fn into_places(self) -> Vec<usize>
         ensures { result.items ≡ self.entry.places }
     {
         let Part { places, .. } = self;

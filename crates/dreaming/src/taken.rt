@@ -1,7 +1,7 @@
 //! Parts of a list that have some of its entries.
-ghost use Rattle.std.specs.Prelude.{◌<◌, ◌∷◌, [], length, All, IfOk, OnOk};
+ghost use Rattle.std.specs.Prelude.{◌<◌, ◌∷◌, [], length, All, OnOk};
 ghost use Rattle.dreaming.specs.Parts.{IsListing};
-ghost use Rattle.dreaming.specs.Thinning.{IsPartAt, supported_places};
+ghost use Rattle.dreaming.specs.Thinning.{IsFilled, IsPartAt, supported_places};
 
 use crate::part::Part;
 use optimistic_set::Supposed;
@@ -19,17 +19,19 @@ pub struct Listing<'a> {
     pub supposed: &'a Supposed<'a>,
 }
 
-/// The entries at these places. Fails only where memory is wanting.
-pub fn part_at<'a>(listing: &Listing<'a>, places: &[usize]) -> Result<Part<'a>, AllocError>
+/// Takes the entries at these places. Fails only where memory is wanting; then the part is no
+/// longer one.
+fn take_all(listing: &Listing<'_>, part: &mut Part<'_>, places: &[usize]) -> Result<(), AllocError>
     requires listing { IsListing listing.now }
+    requires part { IsPartAt listing.now.task.now listing.now.supposed.now [] part.old }
     requires below { All (λ place. place < length listing.now.supposed.now.list) places.now }
-    ensures { IfOk result (IsPartAt listing.now.task.now listing.now.supposed.now places.now) }
+    ensures { OnOk result (IsPartAt listing.now.task.now listing.now.supposed.now places.now
+        part.new) }
 {
-    let mut part = Part::new(listing.alloc, listing.supposed);
     for place in places {
         part.take(listing.alloc, listing.task, *place)?;
     }
-    Ok(part)
+    Ok(())
 }
 
 /// Takes besides the entry at this place, if it has support.
@@ -51,7 +53,7 @@ fn take_one(listing: &Listing<'_>, part: &mut Part<'_>, place: usize) -> Result<
 
 /// Takes besides, one after another, those of these entries that have support by then. Fails only
 /// where memory is wanting; then the part is no longer one.
-pub fn take_supported(
+fn take_supported(
     listing: &Listing<'_>,
     part: &mut Part<'_>,
     places: &[usize],
@@ -68,4 +70,24 @@ pub fn take_supported(
         take_one(listing, part, *place)?;
     }
     Ok(())
+}
+
+/// Takes the entries at the first places and behind them, one after another, those of the others
+/// that have support by then. The part has none before. Fails only where memory is wanting; then
+/// the part is no longer one.
+pub fn fill(
+    listing: &Listing<'_>,
+    part: &mut Part<'_>,
+    first: &[usize],
+    others: &[usize],
+) -> Result<(), AllocError>
+    requires listing { IsListing listing.now }
+    requires part { IsPartAt listing.now.task.now listing.now.supposed.now [] part.old }
+    requires first { All (λ place. place < length listing.now.supposed.now.list) first.now }
+    requires others { All (λ place. place < length listing.now.supposed.now.list) others.now }
+    ensures { OnOk result (IsFilled listing.now.task.now listing.now.supposed.now first.now
+        others.now part.new) }
+{
+    take_all(listing, part, first)?;
+    take_supported(listing, part, others)
 }

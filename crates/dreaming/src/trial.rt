@@ -1,12 +1,12 @@
 //! Whether a plan stays valid with fewer entries.
-ghost use Rattle.std.specs.Prelude.{ℕ, ◌<◌, ◌≤◌, length, All, IfOk, IfSome, IfNone};
+ghost use Rattle.std.specs.Prelude.{ℕ, [], ◌<◌, ◌≤◌, length, All, IfOk, IfSome, IfNone, OnOk};
 ghost use Rattle.task_model.specs.Plans.{IsValid};
 ghost use Rattle.std.specs.Ordering.{nat_cmp};
 ghost use Rattle.lemmas.specs.Lists.{AreAscending};
-ghost use Rattle.dreaming.specs.Thinning.{IsTrial, IsPartAt, TrialKeeps, TrialNeeds};
+ghost use Rattle.dreaming.specs.Thinning.{IsFilled, IsTrial, IsTried, IsPartAt, TrialKeeps, TrialNeeds};
 
 use crate::part::Part;
-use crate::taken::{Listing, part_at, take_supported};
+use crate::taken::{Listing, fill};
 use crate::wanted::Wanted;
 use plan_check::{CheckFault, check};
 use std::alloc::AllocError;
@@ -68,6 +68,53 @@ fn cost_with(trial: &Trial<'_>, part: &Part<'_>) -> Result<Option<u64>, AllocErr
     }
 }
 
+/// What the plan costs with the entries at the first places and those of the others that have
+/// support behind them, if it is valid. The part, which has none before, gets these.
+fn cost_filled(
+    trial: &Trial<'_>,
+    part: &mut Part<'_>,
+    first: &[usize],
+    others: &[usize],
+) -> Result<Option<u64>, AllocError>
+    requires trial { IsTrial trial.now }
+    requires part { IsPartAt trial.now.listing.task.now trial.now.listing.supposed.now [] part.old }
+    requires first { All (λ place. place < length trial.now.listing.supposed.now.list) first.now }
+    requires others { All (λ place. place < length trial.now.listing.supposed.now.list) others.now }
+    ensures part { OnOk result (IsFilled trial.now.listing.task.now
+        trial.now.listing.supposed.now first.now others.now part.new) }
+    ensures some { IfOk result (λ found. IfSome found
+        (IsValid trial.now.listing.task.now part.new.known trial.now.plan.now.steps)) }
+    ensures none { IfOk result (λ found. IfNone found ((cost : ℕ)
+        → ¬ (IsValid trial.now.listing.task.now part.new.known trial.now.plan.now.steps cost))) }
+{
+    fill(&trial.listing, part, first, others)?;
+    let cost = cost_with(trial, part)?;
+    Ok(cost)
+}
+
+/// What is kept of the entries at the first places and of the others, one after another those that
+/// have support by then, if the plan is valid with them.
+fn kept_with(
+    trial: &Trial<'_>,
+    first: &[usize],
+    others: &[usize],
+) -> Result<Option<Kept>, AllocError>
+    requires trial { IsTrial trial.now }
+    requires first { All (λ place. place < length trial.now.listing.supposed.now.list) first.now }
+    requires others { All (λ place. place < length trial.now.listing.supposed.now.list) others.now }
+    ensures { IfOk result (IsTried trial.now first.now others.now) }
+{
+    let listing = &trial.listing;
+    let mut part = Box::new(listing.alloc, Part::new(listing.alloc, listing.supposed))?;
+    match cost_filled(trial, &mut part, first, others)? {
+        Some(cost) => Ok(Some(Kept {
+            places: Box::into_inner(part).into_places(),
+            cost,
+        })),
+        None => Ok(None),
+    }
+}
+
 /// What is kept of the entries at these places, one after another those that have support by then,
 /// if the plan is valid with them.
 pub(crate) fn kept_of(trial: &Trial<'_>, places: &[usize]) -> Result<Option<Kept>, AllocError>
@@ -76,16 +123,7 @@ pub(crate) fn kept_of(trial: &Trial<'_>, places: &[usize]) -> Result<Option<Kept
     requires ascend { AreAscending nat_cmp places.now }
     ensures { IfOk result (λ found. IfSome found (TrialKeeps trial.now)) }
 {
-    let listing = &trial.listing;
-    let mut part = Part::new(listing.alloc, listing.supposed);
-    take_supported(listing, &mut part, places)?;
-    match cost_with(trial, &part)? {
-        Some(cost) => Ok(Some(Kept {
-            places: part.into_places(),
-            cost,
-        })),
-        None => Ok(None),
-    }
+    kept_with(trial, &[], places)
 }
 
 /// What is kept without the entries from one place on up to another, and without those that lack
@@ -111,13 +149,5 @@ pub(crate) fn without(
     if trial.wants_some(&places[from..to]) {
         return Ok(None);
     }
-    let mut part = part_at(&trial.listing, &places[..from])?;
-    take_supported(&trial.listing, &mut part, &places[to..])?;
-    match cost_with(trial, &part)? {
-        Some(cost) => Ok(Some(Kept {
-            places: part.into_places(),
-            cost,
-        })),
-        None => Ok(None),
-    }
+    kept_with(trial, &places[..from], &places[to..])
 }

@@ -7,7 +7,7 @@ ghost use Rattle.transcript_model.specs.declared.entry.Entry.{Entry as AnyEntry}
 
 use crate::fault::Fault;
 use crate::story::Bounds;
-use dream_check::{Dreamed, judge_dream, judge_none};
+use dream_check::{Dreamed, Point, judge_dream, judge_none};
 use learning::Knowledge;
 use optimistic_set::Tried;
 use report_reader::{REPORT_BYTES, read_report};
@@ -61,50 +61,45 @@ fn push_none(out: &mut String, found: Option<bool>) -> Result<(), AllocError> {
     out.push_str(text)
 }
 
-/// Judges an entry behind none, and adds what is found.
+/// Judges an entry at a point, and adds what is found.
 fn add_entry(
     alloc: Global,
     out: &mut String,
-    task: &Task,
-    knowledge: &Knowledge,
-    tried: &Tried,
+    point: &Point<'_>,
     bounds: Bounds,
     entry: &Entry,
 ) -> Result<(), Fault>
     requires { (version : ℕ) × (before : List AnyEntry)
-        × IsKnowledge version task.now before knowledge.now }
+        × IsKnowledge version point.now.task.now before point.now.knowledge.now }
 {
     match entry {
         Entry::Dream { uses, steps } if !uses.is_empty() => {
-            let (uses, steps) = (uses.as_slice(), steps.as_slice());
-            let found = judge_dream(alloc, task, knowledge, tried, bounds.depth, uses, steps)?;
+            let found = judge_dream(alloc, point, uses.as_slice(), steps.as_slice())?;
             Ok(push_dreamed(out, found)?)
         }
         Entry::Nothing => {
             let states = bounds.states.clamp(1, 200_000);
             let limit = bounds.limit.clamp(1, 200_000);
-            let found = judge_none(alloc, task, knowledge, tried, bounds.depth, states, limit)?;
+            let found = judge_none(alloc, point, states, limit)?;
             Ok(push_none(out, found)?)
         }
         _ => Err(Fault::Unfit),
     }
 }
 
-/// Judges each entry behind none, and adds what is found.
+/// Judges each entry at a point, and adds what is found.
 fn add_entries(
     alloc: Global,
     out: &mut String,
-    task: &Task,
-    knowledge: &Knowledge,
-    tried: &Tried,
+    point: &Point<'_>,
     bounds: Bounds,
     entries: &[Entry],
 ) -> Result<(), Fault>
     requires { (version : ℕ) × (before : List AnyEntry)
-        × IsKnowledge version task.now before knowledge.now }
+        × IsKnowledge version point.now.task.now before point.now.knowledge.now }
 {
     for entry in entries {
-        add_entry(alloc, out, task, knowledge, tried, bounds, entry)?;
+        add_entry(alloc, out, point, bounds, entry)?;
     }
     Ok(())
 }
@@ -122,6 +117,11 @@ pub(crate) fn add_judged(
 {
     let report = report_of(alloc, lines)?;
     let knowledge = Knowledge::new(alloc, task)?;
-    let entries = report.entries.as_slice();
-    add_entries(alloc, out, task, &knowledge, tried, bounds, entries)
+    let point = Point {
+        task,
+        knowledge: &knowledge,
+        tried,
+        depth: bounds.depth,
+    };
+    add_entries(alloc, out, &point, bounds, report.entries.as_slice())
 }

@@ -10,7 +10,7 @@ use crate::finding::Finding;
 use crate::standing::Standing;
 use crate::verdict::BreachKind;
 use dream_asks::first_asks;
-use dream_check::{Dreamed, judge_dream};
+use dream_check::{Dreamed, Point, judge_dream};
 use optimistic_set::OptEntry;
 use std::alloc::AllocError;
 use transcript_model::{Call, DreamUse, Entry, Mode};
@@ -105,16 +105,13 @@ impl Standing {
             return Ok(Finding::Breaks(0, BreachKind::Order));
         }
         let tried = self.course.tried();
-        let knowledge = &self.knowledge;
-        let dreamed = judge_dream(
-            bounds.alloc,
-            bounds.task,
-            knowledge,
+        let point = Point {
+            task: bounds.task,
+            knowledge: &self.knowledge,
             tried,
-            bounds.depth,
-            uses,
-            steps,
-        )?;
+            depth: bounds.depth,
+        };
+        let dreamed = judge_dream(bounds.alloc, &point, uses, steps)?;
         let line = match dreamed {
             Dreamed::Right(dream) => {
                 self.go_on(bounds, dream, place + 1)?;

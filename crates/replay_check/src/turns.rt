@@ -7,7 +7,7 @@ use crate::bounds::Bounds;
 use crate::finding::Finding;
 use crate::standing::Standing;
 use crate::verdict::BreachKind;
-use dream_check::judge_none;
+use dream_check::{Point, judge_none};
 use std::alloc::AllocError;
 use transcript_model::Entry;
 
@@ -50,15 +50,14 @@ impl Standing {
         if !self.may_dream(bounds)? {
             return Ok(Finding::Breaks(0, BreachKind::Order));
         }
-        let is_true = judge_none(
-            bounds.alloc,
-            bounds.task,
-            &self.knowledge,
-            self.course.tried(),
-            bounds.depth,
-            bounds.states,
-            bounds.limit,
-        )?;
+        let tried = self.course.tried();
+        let point = Point {
+            task: bounds.task,
+            knowledge: &self.knowledge,
+            tried,
+            depth: bounds.depth,
+        };
+        let is_true = judge_none(bounds.alloc, &point, bounds.states, bounds.limit)?;
         match is_true {
             Some(true) => {
                 self.course.say_none();

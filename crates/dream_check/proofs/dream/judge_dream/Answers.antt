@@ -17,27 +17,27 @@ optimistic-requires-clause-fit c = c.requires.knowledge.2.fit
 
 pub optimistic-requires-clause-declared : goal.optimistic-requires-clause-declared
 optimistic-requires-clause-declared c =
-    let task = c.args.task.now in
+    let task = c.args.point.now.task.now in
     subst (λ (k : Known). length task.problem.objects ≤ length k.names) (sym c.requires.knowledge.2.known)
     (names_enough task c.requires.knowledge.1)
 
 pub optimistic-requires-clause-names : goal.optimistic-requires-clause-names
 optimistic-requires-clause-names c =
-    let task = c.args.task.now in
+    let task = c.args.point.now.task.now in
     subst (λ (k : Known). AreReal k.names) (sym c.requires.knowledge.2.known)
     (names_real task c.requires.knowledge.2.fit c.requires.knowledge.1)
 
 pub judge_over-requires : goal.judge_over-requires
 judge_over-requires c = record {
-  listed = listed c.args.task.now c.args.knowledge.now.facts.known c.args.knowledge.now.queue c.args.tried.now c.from-depth.result
+  listed = listed c.args.point.now.task.now c.args.point.now.knowledge.now.facts.known c.args.point.now.knowledge.now.queue c.args.point.now.tried.now c.from-depth.result
       c.in-Ok.supposed c.in-Ok.ensures.base c.in-Ok.ensures.list c.in-Ok.ensures.known c.in-Ok.ensures.plain;
 }
 
 pub returns-in-Ok : goal.returns-in-Ok
 returns-in-Ok c = λ limits before deep h.
-    let task = c.args.task.now in
-    let knowledge = c.args.knowledge.now in
-    let tried = c.args.tried.now in
+    let task = c.args.point.now.task.now in
+    let knowledge = c.args.point.now.knowledge.now in
+    let tried = c.args.point.now.tried.now in
     let d = c.in-Ok.supposed in
     let all =
     listed task knowledge.facts.known knowledge.queue tried c.from-depth.result d c.in-Ok.ensures.base c.in-Ok.ensures.list c.in-Ok.ensures.known
@@ -51,9 +51,9 @@ returns-in-Ok c = λ limits before deep h.
 
 pub returns-in-Err-TooManyEntries : goal.returns-in-Err-TooManyEntries
 returns-in-Err-TooManyEntries c = λ limits before deep h.
-    let task = c.args.task.now in
-    let knowledge = c.args.knowledge.now in
-    let tried = c.args.tried.now in
+    let task = c.args.point.now.task.now in
+    let knowledge = c.args.point.now.knowledge.now in
+    let tried = c.args.point.now.tried.now in
     too_many_used limits task before tried c.args.uses.now c.args.steps.now
     (more_after limits task before tried knowledge h c.from-depth.result (deep ∙ sym c.from-depth.ensures)
     (subst (λ (f : OptimisticFault). HasListCause task knowledge.facts.known knowledge.queue tried c.from-depth.result f)

@@ -15,13 +15,13 @@ optimistic-requires-clause-fit c = c.requires.knowledge.2.fit
 
 pub optimistic-requires-clause-declared : goal.optimistic-requires-clause-declared
 optimistic-requires-clause-declared c =
-    let task = c.args.task.now in
+    let task = c.args.point.now.task.now in
     subst (λ (k : Known). length task.problem.objects ≤ length k.names) (sym c.requires.knowledge.2.known)
     (names_enough task c.requires.knowledge.1)
 
 pub optimistic-requires-clause-names : goal.optimistic-requires-clause-names
 optimistic-requires-clause-names c =
-    let task = c.args.task.now in
+    let task = c.args.point.now.task.now in
     subst (λ (k : Known). AreReal k.names) (sym c.requires.knowledge.2.known)
     (names_real task c.requires.knowledge.2.fit c.requires.knowledge.1)
 
@@ -30,9 +30,9 @@ judge_list-requires-clause-fit c = c.requires.knowledge.2.fit
 
 pub returns-in-Ok : goal.returns-in-Ok
 returns-in-Ok c = λ limits before deep same h.
-    let task = c.args.task.now in
-    let knowledge = c.args.knowledge.now in
-    let tried = c.args.tried.now in
+    let task = c.args.point.now.task.now in
+    let knowledge = c.args.point.now.knowledge.now in
+    let tried = c.args.point.now.tried.now in
     let d = c.in-Ok.supposed in
     let all =
     listed task knowledge.facts.known knowledge.queue tried c.from-depth.result d c.in-Ok.ensures.base c.in-Ok.ensures.list c.in-Ok.ensures.known
@@ -47,9 +47,9 @@ returns-in-Ok c = λ limits before deep same h.
 
 pub returns-in-Err-TooManyEntries : goal.returns-in-Err-TooManyEntries
 returns-in-Err-TooManyEntries c = λ limits before deep same h.
-    let task = c.args.task.now in
-    let knowledge = c.args.knowledge.now in
-    let tried = c.args.tried.now in
+    let task = c.args.point.now.task.now in
+    let knowledge = c.args.point.now.knowledge.now in
+    let tried = c.args.point.now.tried.now in
     too_many_none limits c.args.limit task before tried
     (more_after limits task before tried knowledge h c.from-depth.result (deep ∙ sym c.from-depth.ensures)
     (subst (λ (f : OptimisticFault). HasListCause task knowledge.facts.known knowledge.queue tried c.from-depth.result f)

@@ -6,8 +6,7 @@ use Rattle.dream_check.proofs.uses.take_uses.Goals as goal
 pub loop-place-init : goal.loop-place-init
 loop-place-init c =
     let l = c.args.listing.now in
-    taken_first l.task.now l.supposed.now c.new-part.result (c.new-part.ensures.part l.task.now c.requires.listing)
-    c.new-part.ensures.base c.new-part.ensures.list c.new-part.ensures.places
+    let h = c.requires.part in taken_first l.task.now l.supposed.now c.args.part.now h.part h.base h.list h.places_are
 
 pub loop-place-preserved : goal.loop-place-preserved
 loop-place-preserved c =

@@ -61,5 +61,6 @@ pub returns-in-Err-TooManyEntries-clause-empty : goal.returns-in-Err-TooManyEntr
 returns-in-Err-TooManyEntries-clause-empty c limits deep same =
     session_full c.args.task.now c.args.session.now c.requires.session c.requires.working c.requires.learnt c.args.tried.now c.from.result
     c.facts.result.now.known c.queue.result.now c.facts.ensures c.queue.ensures
-    (subst (λ (f : OptimisticFault). HasListCause c.args.task.now c.facts.result.now.known c.queue.result.now c.args.tried.now c.from.result f)
+    (subst (λ (f : OptimisticFault). HasListCause c.args.task.now c.facts.result.now.known c.queue.result.now c.args.tried.now
+    c.from.result f)
     c.in-Err-TooManyEntries.field-0-is c.in-Err-TooManyEntries.ensures.fault) limits (deep ∙ sym c.from.ensures)

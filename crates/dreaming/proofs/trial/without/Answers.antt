@@ -1,11 +1,11 @@
-use Rattle.std.proofs.Common.{ℕ, ◌-◌, ◌<◌, ◌∙◌, List, length, take, drop, refl, sym, ap, subst, arith, Option, Contains}
+use Rattle.std.proofs.Common.{◌≡◌, ℕ, ◌-◌, ◌<◌, ◌∙◌, List, length, take, drop, sym, ap, subst, Contains}
 use Rattle.std.proofs.lemmas.List.{take_rest}
+use Rattle.std.proofs.lemmas.Result.{IfOk-weaker}
 use Rattle.std.specs.Prelude.{IfSome, IfNone}
-use Rattle.task_model.specs.Plans.{IsValid}
-use Rattle.dreaming.proofs.KeptLemmas.{kept_is, without_fewer, essential_needed}
-use Rattle.dreaming.proofs.PartLemmas.{part_valid, part_not_valid}
+use Rattle.dreaming.proofs.KeptLemmas.{essential_needed}
 use Rattle.dreaming.proofs.PlacesLemmas.{AreBelow, below_rest}
-use Rattle.dreaming.specs.Thinning.{IsPartAt, IsValidWith, supported_places, places_without}
+use Rattle.dreaming.proofs.TriedLemmas.{tried_kept, tried_fewer, tried_needed}
+use Rattle.dreaming.specs.Thinning.{TrialNeeds, TrialKeeps, IsTried, places_without, supported_places}
 use Rattle.dreaming.proofs.trial.without.Goals as goal
 
 pub returns-then-wants_some-clause-needed : goal.returns-then-wants_some-clause-needed
@@ -16,54 +16,60 @@ returns-then-wants_some-clause-needed c =
     (subst (λ (ps : List ℕ). Contains (take (c.args.to - c.args.from) (drop c.args.from ps)) some.0) c.as_slice-places.ensures.value some.1)
     (c.requires.trial.essential some.2.2 some.2.4 some.0 some.2.0 some.2.1 some.2.3)
 
-pub take_supported-requires-clause-below : goal.take_supported-requires-clause-below
-take_supported-requires-clause-below c =
+pub kept_with-requires-clause-others : goal.kept_with-requires-clause-others
+kept_with-requires-clause-others c =
     let list = c.args.trial.now.listing.supposed.now.list in
     subst (AreBelow list) (sym (take_rest c.as_slice-places.result.now c.args.to))
     (below_rest list c.as_slice-places.result.now c.args.to
     (subst (AreBelow list) (sym c.as_slice-places.ensures.value) c.requires.kept.below))
 
-pub returns-in-Some-clause-kept : goal.returns-in-Some-clause-kept
-returns-in-Some-clause-kept c =
-    let task = c.args.trial.now.listing.task.now in
-    let d = c.args.trial.now.listing.supposed.now in
-    let steps = c.args.trial.now.plan.now.steps in
-    let p = c.take_supported.new.part in
-    let h = c.in_ok-take_supported.ensures in
-    let here : IsPartAt task d p.places p = record { part = h.part; base = h.base; list = h.list; places_are = refl } in
-    let are = c.into_places.ensures ∙ h.places_are
-    ∙ ap (supported_places task d.base d.list c.in_ok-part.part.places) (take_rest c.as_slice-places.result.now c.args.to)
-    ∙ ap (λ ps. supported_places task d.base d.list ps (drop c.args.to c.as_slice-places.result.now)) c.in_ok-part.ensures.places_are
+pub returns-clause-kept : goal.returns-clause-kept
+returns-clause-kept c =
+    let t = c.args.trial.now in
+    let task = t.listing.task.now in
+    let d = t.listing.supposed.now in
+    let kept = c.args.kept.now in
+    let all = c.as_slice-places.result.now in
+    let first = take c.args.from all in
+    let others = take (length all - c.args.to) (drop c.args.to all) in
+    let are : supported_places task d.base d.list first others
+    ≡ places_without task d.base d.list kept.places.items c.args.from c.args.to =
+    ap (supported_places task d.base d.list first) (take_rest all c.args.to)
     ∙ ap (λ (ps : List ℕ). places_without task d.base d.list ps c.args.from c.args.to) c.as_slice-places.ensures.value in
-    let valid : IsValid task p.known steps c.in-Some.cost =
-    subst (λ (o : Option ℕ). IfSome o (IsValid task p.known steps)) c.in-Some.is c.in_ok-cost.ensures.some in
-    kept_is task d steps c.args.kept.now _ c.args.from c.args.to c.requires.kept (omega (arith, c.requires.from)) are
-    (subst (λ (ps : List ℕ). IsValidWith task d steps ps c.in-Some.cost) (sym c.into_places.ensures)
-    (part_valid task d steps p.places p c.in-Some.cost here valid))
+    IfOk-weaker c.kept_with.result (IsTried t first others) (λ found. IfSome found (TrialKeeps t))
+    (tried_kept task d t.plan.now.steps first others kept c.args.from c.args.to c.requires.kept c.requires.from c.requires.to are)
+    c.kept_with.ensures
 
-pub returns-in-Some-clause-fewer : goal.returns-in-Some-clause-fewer
-returns-in-Some-clause-fewer c =
-    let task = c.args.trial.now.listing.task.now in
-    let d = c.args.trial.now.listing.supposed.now in
-    let are = c.into_places.ensures ∙ c.in_ok-take_supported.ensures.places_are
-    ∙ ap (supported_places task d.base d.list c.in_ok-part.part.places) (take_rest c.as_slice-places.result.now c.args.to)
-    ∙ ap (λ ps. supported_places task d.base d.list ps (drop c.args.to c.as_slice-places.result.now)) c.in_ok-part.ensures.places_are
+pub returns-clause-fewer : goal.returns-clause-fewer
+returns-clause-fewer c =
+    let t = c.args.trial.now in
+    let task = t.listing.task.now in
+    let d = t.listing.supposed.now in
+    let kept = c.args.kept.now in
+    let all = c.as_slice-places.result.now in
+    let first = take c.args.from all in
+    let others = take (length all - c.args.to) (drop c.args.to all) in
+    let are : supported_places task d.base d.list first others
+    ≡ places_without task d.base d.list kept.places.items c.args.from c.args.to =
+    ap (supported_places task d.base d.list first) (take_rest all c.args.to)
     ∙ ap (λ (ps : List ℕ). places_without task d.base d.list ps c.args.from c.args.to) c.as_slice-places.ensures.value in
-    subst (λ (ps : List ℕ). length ps < length c.args.kept.now.places.items) (sym are)
-    (without_fewer task d.base d.list c.args.kept.now.places.items c.args.from c.args.to c.requires.from c.requires.to)
+    IfOk-weaker c.kept_with.result (IsTried t first others) (λ found. IfSome found (λ k. length k.places.items < length kept.places.items))
+    (tried_fewer task d t.plan.now.steps first others kept c.args.from c.args.to c.requires.kept c.requires.from c.requires.to are)
+    c.kept_with.ensures
 
-pub returns-in-None-clause-needed : goal.returns-in-None-clause-needed
-returns-in-None-clause-needed c =
-    let task = c.args.trial.now.listing.task.now in
-    let d = c.args.trial.now.listing.supposed.now in
-    let steps = c.args.trial.now.plan.now.steps in
-    let p = c.take_supported.new.part in
-    let h = c.in_ok-take_supported.ensures in
-    let are =
-    ap (supported_places task d.base d.list c.in_ok-part.part.places) (take_rest c.as_slice-places.result.now c.args.to)
-    ∙ ap (λ ps. supported_places task d.base d.list ps (drop c.args.to c.as_slice-places.result.now)) c.in_ok-part.ensures.places_are
+pub returns-clause-needed : goal.returns-clause-needed
+returns-clause-needed c =
+    let t = c.args.trial.now in
+    let task = t.listing.task.now in
+    let d = t.listing.supposed.now in
+    let kept = c.args.kept.now in
+    let all = c.as_slice-places.result.now in
+    let first = take c.args.from all in
+    let others = take (length all - c.args.to) (drop c.args.to all) in
+    let are : supported_places task d.base d.list first others
+    ≡ places_without task d.base d.list kept.places.items c.args.from c.args.to =
+    ap (supported_places task d.base d.list first) (take_rest all c.args.to)
     ∙ ap (λ (ps : List ℕ). places_without task d.base d.list ps c.args.from c.args.to) c.as_slice-places.ensures.value in
-    let not =
-    subst (λ (o : Option ℕ). IfNone o ((cost : ℕ) → ¬ (IsValid task p.known steps cost))) c.in-None.is c.in_ok-cost.ensures.none in
-    part_not_valid task d steps (places_without task d.base d.list c.args.kept.now.places.items c.args.from c.args.to) p
-    (subst (λ (ps : List ℕ). IsPartAt task d ps p) are h) not
+    IfOk-weaker c.kept_with.result (IsTried t first others) (λ found. IfNone found (TrialNeeds t kept.places.items c.args.from c.args.to))
+    (tried_needed task d t.plan.now.steps first others kept c.args.from c.args.to c.requires.kept c.requires.from c.requires.to are)
+    c.kept_with.ensures

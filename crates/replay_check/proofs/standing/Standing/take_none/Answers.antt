@@ -29,7 +29,7 @@ module _ (c : In_ok-is_true) where
       let judged = c.in_ok-is_true.ensures (limits_by b) before refl refl c.requires.can.standing.stands.knowledge in
       subst (IsNoneJudged (limits_by b) b.task.now before c.args.self.now.course.kept.tried b.limit) is
       (subst (λ (ts : List Instance). IsNoneJudged (limits_by b) b.task.now before ts b.limit c.in_ok-is_true.is_true)
-      c.tried.ensures judged)
+      c.tried-tried.ensures judged)
 
 pub returns-in-Some-true : goal.returns-in-Some-true
 returns-in-Some-true c =

@@ -1,13 +1,8 @@
 use Rattle.dreaming.proofs.PartLemmas.{part_more}
-use Rattle.dreaming.proofs.taken.part_at.Goals as goal
+use Rattle.dreaming.proofs.taken.take_all.Goals as goal
 
 pub loop-place-init : goal.loop-place-init
-loop-place-init c = record {
-  part = c.new-part.ensures.part c.args.listing.now.task.now c.requires.listing;
-  base = c.new-part.ensures.base;
-  list = c.new-part.ensures.list;
-  places_are = c.new-part.ensures.places;
-}
+loop-place-init c = c.requires.part
 
 pub loop-place-preserved : goal.loop-place-preserved
 loop-place-preserved c =
