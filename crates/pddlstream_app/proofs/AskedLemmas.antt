@@ -129,16 +129,16 @@ module _ (words : List (List ℕ)) (outside : Outside) (asked : SolveWords) (mea
   asked_unsolved written why (inr u) =
       subst (AsksBefore words outside.files) (sym u.is) (asked_running words outside.files u.fault (asks_solving u.asks))
 
-  pub solved_asked : {Same : Type 0} (written : Written) (r : Result Status Stop)
+  pub solved_asked : (Same : Type 0) (written : Written) (r : Result Status Stop)
       → SolvesRun asked outside Same written r → IfOk r (λ status. AsksAll words outside.files)
-  solved_asked written (Ok status) e = asks_solving e.solved.asks
-  solved_asked written (Err why) e = tt
+  solved_asked Same written (Ok status) e = asks_solving e.solved.asks
+  solved_asked Same written (Err why) e = tt
 
-  pub solved_asked_before : {Same : Type 0} (written : Written) (r : Result Status Stop)
+  pub solved_asked_before : (Same : Type 0) (written : Written) (r : Result Status Stop)
       → SolvesRun asked outside Same written r
       → IfErr r (AsksBefore words outside.files)
-  solved_asked_before written (Ok status) e = tt
-  solved_asked_before written (Err why) none = asked_unsolved written why none
+  solved_asked_before Same written (Ok status) e = tt
+  solved_asked_before Same written (Err why) none = asked_unsolved written why none
 
 module _ (words : List (List ℕ)) (outside : Outside) (number : ℕ) (meant : command_of words ≡ Some (generate number))
     (nothing : Extends outside.files.before outside.files.after []) where
@@ -158,14 +158,14 @@ module _ (words : List (List ℕ)) (outside : Outside) (number : ℕ) (meant : c
   made_asked (Ok status) = asks_making
   made_asked (Err why) = tt
 
-  pub made_asked_before : {Same : Type 0} (written : Written) (r : Result Status Stop)
+  pub made_asked_before : (Same : Type 0) (written : Written) (r : Result Status Stop)
       → MakesRun number (over_made number outside) Same written r
       → IfErr r (AsksBefore words outside.files)
-  made_asked_before written (Ok status) e = tt
-  made_asked_before written (Err why) (inl e) =
+  made_asked_before Same written (Ok status) e = tt
+  made_asked_before Same written (Err why) (inl e) =
       asked_lined words outside.files (outcome_status e.ran.outcome)
       (made_line number e.ran.outcome e.ran.levels e.ran.asks) written (Err why) e.lined asks_making
-  made_asked_before written (Err why) (inr none) = of none.cause
+  made_asked_before Same written (Err why) (inr none) = of none.cause
     where
       of : ((why ≡ stop.Run fault.Memory) × LogStops outside.was outside.now) ⊎ IsMadeUnsolved (over_made number outside) why
           → AsksBefore words outside.files why

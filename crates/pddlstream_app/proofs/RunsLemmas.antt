@@ -74,7 +74,7 @@ module _ (words : List (List ℕ)) (outside : Outside) (Same : Type 0) (written 
 
   -- all was written, and that is that memory is wanting
   lacks_all : (status : Status) → is_write_fault status ≡ false → (ends : Ends words outside Same written status)
-      → status ≡ Memory → LacksMemory status ends
+      → status ≡ Memory → LacksMemory words outside Same written status ends
   lacks_all WriteFault whole ends is = absurd (cc (whole))
   lacks_all Memory whole ends is = refl
   lacks_all status whole ends is = is
@@ -331,7 +331,7 @@ module _ (words : List (List ℕ)) (outside : Outside) where
       -- it ends so, for want of memory where that is the cause
       abbrev Told : Status → Type 0
       Told status = (ends : Ends words outside Same ended status)
-          × (why ≡ stop.Run fault.Memory → LacksMemory status ends)
+          × (why ≡ stop.Run fault.Memory → LacksMemory words outside Same ended status ends)
 
       ends_told : (status : Status) → is_write why ≡ false
           → TellsStatus (status_at why) (last_text why) (record { before = mid; after = new }) status → Told status
@@ -361,13 +361,13 @@ module _ (words : List (List ℕ)) (outside : Outside) where
     pub ends_closed : (why : Stop) (status : Status)
         → IsStopped words outside (record { before = old; after = mid }) why → is_write why ≡ false
         → ClosesRun why (record { before = mid; after = new }) status
-        → (ends : Ends words outside Same ended status) × (why ≡ stop.Run fault.Memory → LacksMemory status ends)
+        → (ends : Ends words outside Same ended status) × (why ≡ stop.Run fault.Memory → LacksMemory words outside Same ended status ends)
     ends_closed why status s other closed =
         of (before_last words outside (record { before = old; after = mid }) why s other) closed
       where
         of : IsBeforeLast words outside (record { before = old; after = mid }) why
             → ClosesRun why (record { before = mid; after = new }) status
-            → (ends : Ends words outside Same ended status) × (why ≡ stop.Run fault.Memory → LacksMemory status ends)
+            → (ends : Ends words outside Same ended status) × (why ≡ stop.Run fault.Memory → LacksMemory words outside Same ended status ends)
         of b (inl x) = ends_told why b status other x
         of b (inr x) =
             let told = ends_told (stop.Run fault.Memory)

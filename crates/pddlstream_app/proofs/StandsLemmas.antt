@@ -3,7 +3,6 @@ use Rattle.std.proofs.Common.{◌≡◌, ℕ, arith, List, [], true, false, refl
 use Rattle.io_world.specs.Faults.{Extends, HasCause}
 use Rattle.io_world.specs.Talks.{Event, Talk}
 use Rattle.report_text.proofs.PrintsLemmas.{appends_none}
-use Rattle.round_run.proofs.CallsRunLemmas.{stops_none}
 use Rattle.round_run.proofs.StoppedLemmas.{same_err}
 use Rattle.round_run.specs.Calls.{LogStops}
 use Rattle.round_run.specs.declared.fault.RunFault.TheVariants as fault
@@ -15,7 +14,7 @@ use Rattle.command_files.specs.declared.stop.Stop.{Stop}
 use Rattle.command_files.specs.declared.stop.Stop.TheVariants as stop
 use Rattle.command_line.specs.Words.{Command, SolveWords, command_of, generate, solve}
 use Rattle.run_command.proofs.MakingLemmas.{over_made}
-use Rattle.run_command.proofs.RestartsLemmas.{heard_silent, heard_weaker, silent, silent_same}
+use Rattle.run_command.proofs.RestartsLemmas.{heard_silent, heard_weaker, silent, silent_stops}
 use Rattle.run_command.specs.Heard.{Heard, IsHeard, heard_in, hearing, restarts_for, restarts_in}
 use Rattle.run_command.specs.Making.{MakesRun}
 use Rattle.run_command.specs.Solving.{Lacks, SolvesBy}
@@ -31,10 +30,10 @@ use Rattle.pddlstream_app.specs.declared.answer.AnswerConfig.TheVariants as conf
 -- ---- before the last line
 
 -- how many failures are made good, by the command
-restarts_by : {words : List (List ℕ)} {command : Command} (Lacked : Type 0) {below heard : Heard}
+restarts_by : (words : List (List ℕ)) (command : Command) (Lacked : Type 0) (below heard : Heard)
     → command_of words ≡ Some command → IsHeard (restarts_for (Some command)) Lacked below heard
     → IsHeard (restarts_in words) Lacked below heard
-restarts_by Lacked {below} {heard} meant by = subst (λ n. IsHeard n Lacked below heard) (sym (ap restarts_for meant)) by
+restarts_by words command Lacked below heard meant by = subst (λ n. IsHeard n Lacked below heard) (sym (ap restarts_for meant)) by
 
 -- none, where a command is answered
 answering_none : (w : AnswerConfig) → restarts_for (Some (command_answering w)) ≡ 0
@@ -49,7 +48,7 @@ module _ (words : List (List ℕ)) (outside : Outside) (Same : Type 0) (written 
       → SolvesBy asked outside Same written r → StandsBy words outside Same written r
   stands_solved asked meant r e = record {
     heard = e.heard;
-    by = restarts_by (Lacks r) meant e.by;
+    by = restarts_by words (solve asked) (Lacks r) (heard_in outside) e.heard meant e.by;
     completed = solved_completed words (hearing outside.files e.heard) asked meant Same written r e.ends;
     stopped = solved_stopped words (hearing outside.files e.heard) asked meant Same written r e.ends;
   }
@@ -60,7 +59,7 @@ module _ (words : List (List ℕ)) (outside : Outside) (Same : Type 0) (written 
       → MakesRun number (over_made number outside) Same written r → StandsBy words outside Same written r
   stands_made number meant nothing r e = record {
     heard = heard_in outside;
-    by = restarts_by (Lacks r) meant refl;
+    by = restarts_by words (generate number) (Lacks r) (heard_in outside) (heard_in outside) meant refl;
     completed = made_completed words outside number meant nothing Same written r e;
     stopped = made_stopped words outside number meant nothing Same written r e;
   }
@@ -73,7 +72,8 @@ module _ (words : List (List ℕ)) (files : FilesSeen) (spoken : ℕ → Option 
       → StandsBy words (resting files spoken log) Same written r
   stands_answered written w meant r told = record {
     heard = heard_in (resting files spoken log);
-    by = restarts_by (Lacks r) meant
+    by = restarts_by words (command_answering w) (Lacks r) (heard_in (resting files spoken log))
+        (heard_in (resting files spoken log)) meant
         (subst (λ n. IsHeard n (Lacks r) (heard_in (resting files spoken log)) (heard_in (resting files spoken log)))
         (sym (answering_none w)) refl);
     completed = answer_completed words (command_answering w) meant files spoken log written Same r told;
@@ -85,7 +85,7 @@ module _ (words : List (List ℕ)) (files : FilesSeen) (spoken : ℕ → Option 
   early = silent (restarts_in words) spoken log
 
   stops_early : LogStops early.was early.now
-  stops_early = subst (LogStops early.was) (sym (silent_same (restarts_in words) spoken log)) (stops_none early.was)
+  stops_early = silent_stops (restarts_in words) spoken log
 
   pub stands_unused : (sink : Option (List ℕ)) → command_of words ≡ None
       → StandsBy words (resting files spoken log) Same (record { before = sink; after = sink }) (Err stop.Usage)
@@ -150,6 +150,10 @@ lacked_last why written status is (inl (inr x)) = inr x.0
 lacked_last why written status is (inr (inl x)) = inl x.0
 lacked_last why written status is (inr (inr x)) = inr x.0
 
+pub lacked_closed : (why : Stop) (written : Written) (status : Status) → ClosesRun why written status
+    → (let r : Result Status Stop = Err why in Lacks r) → (status ≡ Memory) ⊎ (status ≡ WriteFault)
+lacked_closed why written status closed is = lacked_last why written status (same_err is) closed
+
 module _ {words : List (List ℕ)} {outside : Outside} {Same host_rose sink_rose : Type 0} where
   pub completes_by : {written : Written} {r : Result Status Stop} (s : StandsBy words outside Same written r)
       (status : Status) → (Lacks r → (status ≡ Memory) ⊎ (status ≡ WriteFault))
@@ -160,11 +164,6 @@ module _ {words : List (List ℕ)} {outside : Outside} {Same host_rose sink_rose
     by = heard_weaker (restarts_in words) _ _ _ _ lacks s.by;
     completes = c;
   }
-
-  -- whether memory was lacking
-  pub lacked_closed : (why : Stop) (written : Written) (status : Status) → ClosesRun why written status
-      → (let r : Result Status Stop = Err why in Lacks r) → (status ≡ Memory) ⊎ (status ≡ WriteFault)
-  lacked_closed why written status closed is = lacked_last why written status (same_err is) closed
 
 -- a fault of the generator is told only where it is the cause
 pub closed_generator : (why : Stop) (written : Written) (status : Status) → ClosesRun why written status

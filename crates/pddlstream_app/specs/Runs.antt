@@ -122,17 +122,18 @@ was_memory (inl (other, writes)) = other ≡ Memory
 was_memory (inr part) = ⊥
 
 -- memory was wanting: that is told, or was to be told where the sink failed
-abbrev pub LacksMemory : {words : List (List ℕ)} {outside : Outside} {Same : Type 0} {written : Written}
+abbrev pub LacksMemory : (words : List (List ℕ)) (outside : Outside) (Same : Type 0) (written : Written)
     (status : Status) → Ends words outside Same written status → Type 0
-LacksMemory WriteFault part = was_memory part.was
-LacksMemory status all = status ≡ Memory
+LacksMemory words outside Same written WriteFault part = was_memory part.was
+LacksMemory words outside Same written status all = status ≡ Memory
 
 -- How a run ends, by what it heard of its children.
 pub record EndsBy (words : List (List ℕ)) (outside : Outside) (Same : Type 0) (written : Written) (status : Status)
     : Type 0 where
   pub heard : Heard
   pub ends : Ends words (hearing outside.files heard) Same written status
-  pub by : IsHeard (restarts_in words) (LacksMemory status ends) (heard_in outside) heard
+  pub by : IsHeard (restarts_in words) (LacksMemory words (hearing outside.files heard) Same written status ends)
+      (heard_in outside) heard
 
 -- The count has not fallen, and it rose where this is so.
 pub record Caused (IsSo : Type 0) (last before now : ℕ) : Type 0 where

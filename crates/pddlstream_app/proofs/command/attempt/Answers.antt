@@ -1,4 +1,4 @@
-use Rattle.std.proofs.Common.{◌∙◌, ap, map, refl, string_bytes, subst, sym, Some}
+use Rattle.std.proofs.Common.{rules, ◌∙◌, ap, map, refl, string_bytes, subst, sym, Some}
 use Rattle.command_line.proofs.RangesLemmas.{in_range}
 use Rattle.command_line.specs.Held.{held_solve}
 use Rattle.command_line.specs.Words.{generate, solve}
@@ -44,12 +44,26 @@ returns-in-Solve-clause-leaves g c =
 pub returns-in-Solve-clause-asked : goal.returns-in-Solve-clause-asked
 returns-in-Solve-clause-asked g c =
     solved_asked (map string_bytes c.args.words.now) _ (held_solve c.in-Solve.words)
-    (c.in-Ok.ensures.config ∙ ap Some (sym c.in-Solve.ensures)) _ c.solve.result c.solve.ensures.ends
+    (c.in-Ok.ensures.config ∙ ap Some (sym c.in-Solve.ensures)) _ _ c.solve.result c.solve.ensures.ends.ends
 
 pub returns-in-Solve-clause-asked_before : goal.returns-in-Solve-clause-asked_before
 returns-in-Solve-clause-asked_before g c =
     solved_asked_before (map string_bytes c.args.words.now) _ (held_solve c.in-Solve.words)
-    (c.in-Ok.ensures.config ∙ ap Some (sym c.in-Solve.ensures)) _ c.solve.result c.solve.ensures.ends
+    (c.in-Ok.ensures.config ∙ ap Some (sym c.in-Solve.ensures)) _ _ c.solve.result c.solve.ensures.ends.ends
+
+-- ---- the words mean no command, or memory is wanting for them
+
+pub returns-in-Err-Usage-clause-stands : goal.returns-in-Err-Usage-clause-stands
+returns-in-Err-Usage-clause-stands g c =
+    stands_unused (map string_bytes c.args.words.now)
+    (seen_of g.F.Files.told g.F.Files.faults g.F.Files.asked c.args.files.now c.args.files.now) (g.H.Host.spoken c.args.host.now)
+    (g.H.Host.log c.args.host.now) _ (g.O.Sink.taken c.args.out.now) (search rules)
+
+pub returns-in-Err-Memory-clause-stands : goal.returns-in-Err-Memory-clause-stands
+returns-in-Err-Memory-clause-stands g c =
+    stands_early (map string_bytes c.args.words.now)
+    (seen_of g.F.Files.told g.F.Files.faults g.F.Files.asked c.args.files.now c.args.files.now) (g.H.Host.spoken c.args.host.now)
+    (g.H.Host.log c.args.host.now) _ (g.O.Sink.taken c.args.out.now)
 
 -- ---- the task of a number is to be made and solved
 
@@ -91,7 +105,7 @@ pub returns-in-Make-clause-asked_before : goal.returns-in-Make-clause-asked_befo
 returns-in-Make-clause-asked_before g c =
     made_asked_before (map string_bytes c.args.words.now) (outside_of (seen_of g.F.Files.told g.F.Files.faults g.F.Files.asked c.args.files.now c.args.files.now) g.H.Host.spoken
     g.H.Host.log c.args.host.now c.make.new.host) c.in-Make.number
-    (c.in-Ok.ensures.config ∙ ap Some (sym c.in-Make.ensures)) (extends_none (g.F.Files.asked c.args.files.now)) _ c.make.result c.make.ensures.ends
+    (c.in-Ok.ensures.config ∙ ap Some (sym c.in-Make.ensures)) (extends_none (g.F.Files.asked c.args.files.now)) _ _ c.make.result c.make.ensures.ends
 
 -- ---- a command is to be answered
 

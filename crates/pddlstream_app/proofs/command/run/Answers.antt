@@ -140,6 +140,13 @@ returns-in-Ok-clause-host g c =
     caused_ended c.in-Ok.status GeneratorFault (completed_ended _ _ _ _ c.in-Ok.status c.in-Ok.ensures.stands.completed) refl _ _ _
     c.attempt.ensures.host.later
 
+pub returns-then-is_write-clause-sink : goal.returns-then-is_write-clause-sink
+returns-then-is_write-clause-sink g c = record {
+  later = c.attempt.ensures.sink.later;
+  cause = λ is.
+      c.attempt.ensures.sink.cause (c.in-Err.is ∙ ap Err (write_stop c.in-Err.stop (sym c.is_write.ensures ∙ c.if-is_write.true)));
+}
+
 pub returns-in-Ok-clause-sink : goal.returns-in-Ok-clause-sink
 returns-in-Ok-clause-sink g c =
     caused_ended c.in-Ok.status WriteFault (completed_ended _ _ _ _ c.in-Ok.status c.in-Ok.ensures.stands.completed) refl _ _ _
