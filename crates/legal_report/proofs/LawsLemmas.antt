@@ -107,8 +107,8 @@ module _ (version : ℕ) (task : Task) (entries : List Entry) where
 of_one_report : (bytes : List ℕ) (P Q : Report → Type 0) (C : Type 0) → ((r : Report) → P r → Q r → C)
     → IsOfReport bytes P → IsOfReport bytes Q → C
 of_one_report bytes P Q C f first second =
-    f first.report first.so
-    (subst Q (same_report second.report first.report second.formed first.formed (second.spelled ∙ sym first.spelled)) second.so)
+    f first.report first.said
+    (subst Q (same_report second.report first.report second.formed first.formed (second.spelled ∙ sym first.spelled)) second.said)
 
 pub one_transcript : TextsHaveOneTranscript
 one_transcript task bytes first second a b =

@@ -41,9 +41,9 @@ module _ (w : Walk) (r : Report) (version : w.version ≡ r.version) (entries : 
 pub certified_text : (task : Task) (bytes : List ℕ) (r : Report) → IsFormed r → text_of_report r ≡ bytes → (c : Certified)
     → IsCertifiedReport task r c → IsCertified task bytes c
 certified_text task bytes r formed spelled (Legal knowledge) found =
-    (r.entries, record { report = r; formed = formed; spelled = spelled; so = (refl, found.0) }, found.1)
+    (r.entries, record { report = r; formed = formed; spelled = spelled; said = (refl, found.0) }, found.1)
 certified_text task bytes r formed spelled (Flawed line flaw.Text) found = absurd (let stops = found.stops in stops.wrong)
 certified_text task bytes r formed spelled (Flawed line flaw.Ask) found =
-    record { report = r; formed = formed; spelled = spelled; so = found }
+    record { report = r; formed = formed; spelled = spelled; said = found }
 certified_text task bytes r formed spelled (Flawed line flaw.Answer) found =
-    record { report = r; formed = formed; spelled = spelled; so = found }
+    record { report = r; formed = formed; spelled = spelled; said = found }

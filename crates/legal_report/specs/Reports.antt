@@ -14,12 +14,12 @@ use Rattle.legal_report.specs.declared.report.Certified.TheVariants.{Legal, Flaw
 use Rattle.legal_report.specs.declared.flaw.ReportFlaw.{ReportFlaw}
 use Rattle.legal_report.specs.declared.flaw.ReportFlaw.TheVariants.{Text}
 
--- The bytes are the text of a report of the stated forms, of which this is so.
-pub record IsOfReport (bytes : List ℕ) (IsSo : Report → Type 0) : Type 0 where
+-- The bytes are the text of a report of the stated forms, of which this is said.
+pub record IsOfReport (bytes : List ℕ) (Says : Report → Type 0) : Type 0 where
   pub report : Report
   pub formed : IsFormed report
   pub spelled : text_of_report report ≡ bytes
-  pub so : IsSo report
+  pub said : Says report
 
 -- the report has these entries, which are a legal transcript
 abbrev pub HasTranscript : Task → List Entry → Report → Type 0

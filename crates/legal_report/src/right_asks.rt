@@ -6,11 +6,11 @@ ghost use Rattle.legal_report.specs.Talks.{may_ask as passes};
 ghost use Rattle.task_model.specs.Fit.{IsFit};
 ghost use Rattle.transcript_model.specs.declared.entry.Entry.{Entry as AnyEntry};
 
+use crate::request::Request;
 use learning::Knowledge;
 use shown_steps::instance_of;
 use std::alloc::{AllocError, Global};
 use task_model::{Instance, Task};
-use transcript_model::Call;
 
 /// Whether the request may be made of this instance: it has the next number, the instance is due,
 /// none of its requests is open, and the turn is how many tuples it has given.
@@ -31,21 +31,20 @@ pub fn asked_by(
     task: &Task,
     knowledge: &Knowledge,
     calls: u32,
-    number: u32,
-    turn: u32,
-    call: &Call,
+    request: &Request<'_>,
 ) -> Result<Option<Instance>, AllocError>
     requires { IsFit task.now }
     ensures { (version : ℕ) (before : List AnyEntry) → IsKnowledge version task.now before knowledge.now
-        → IfOk result (IsAskedBy calls task.now before number turn call.now) }
+        → IfOk result (IsAskedBy calls task.now before request.now.number
+        request.now.turn request.now.call.now) }
 {
-    if number > calls {
+    if request.number > calls {
         return Ok(None);
     }
-    let Some(instance) = instance_of(alloc, task, &knowledge.facts, call)? else {
+    let Some(instance) = instance_of(alloc, task, &knowledge.facts, request.call)? else {
         return Ok(None);
     };
-    if may_ask(task, knowledge, number, turn, &instance) {
+    if may_ask(task, knowledge, request.number, request.turn, &instance) {
         Ok(Some(instance))
     } else {
         Ok(None)

@@ -5,12 +5,13 @@ ghost use Rattle.transcript_model.specs.Legal.{answered_number as number_in};
 ghost use Rattle.transcript_model.specs.declared.entry.Entry.TheVariants as entry;
 
 use crate::flaw::ReportFlaw;
+use crate::request::Request;
 use crate::right_answers::may_answer;
 use crate::right_asks::asked_by;
 use learning::{Knowledge, answered};
 use std::alloc::{AllocError, Global};
 use task_model::Task;
-use transcript_model::{Call, Entry, MOST_CALLS};
+use transcript_model::{Entry, MOST_CALLS};
 
 /// The entries of a report over a task.
 #[derive(Clone, Copy)]
@@ -37,18 +38,15 @@ impl Walk<'_> {
         &self,
         knowledge: &mut Knowledge,
         place: usize,
-        number: u32,
-        turn: u32,
-        call: &Call,
+        request: &Request<'_>,
     ) -> Result<Option<ReportFlaw>, AllocError>
         requires readable { IsReadable self.now }
         requires stands { StandsAtEntry self.now place knowledge.old }
         requires here { slice_get self.now.entries.now place
-            ≡ Some (entry.Ask number turn call.now) }
+            ≡ Some (entry.Ask request.now.number request.now.turn request.now.call.now) }
         ensures { IfOk result (IsEntryWalked self.now place knowledge.new) }
     {
-        let calls = MOST_CALLS;
-        match asked_by(self.alloc, self.task, knowledge, calls, number, turn, call)? {
+        match asked_by(self.alloc, self.task, knowledge, MOST_CALLS, request)? {
             Some(instance) => {
                 knowledge.ask(instance)?;
                 Ok(None)
@@ -103,7 +101,8 @@ impl Walk<'_> {
         }
         match entry {
             Entry::Ask { number, turn, call } => {
-                self.take_ask(knowledge, place, *number, *turn, call)
+                let (number, turn) = (*number, *turn);
+                self.take_ask(knowledge, place, &Request { number, turn, call })
             }
             _ => Ok(None),
         }

@@ -70,7 +70,7 @@ legal_of told w task entries report = by w.certified refl
     by (Some words) some =
         let there : HoldsText told w role.Report (λ bytes. SpellsTranscript task bytes entries) =
         subst (IsTranscriptBy told w task entries) some report in
-        (there.so.report.version, there.so.so.1.legal)
+        (there.so.report.version, there.so.said.1.legal)
 
 known_coherent : (told : Option FileMap) (w : ValidateWords) (task : Task) → IsFit task → (entries : List Entry)
     → IsTranscriptOf told w task entries → IsCoherent (known_of task entries)

@@ -13,11 +13,11 @@ pub returns-then-may_ask : goal.returns-then-may_ask
 returns-then-may_ask c = λ version before h.
     let task = c.args.task.now in
     let i = c.in-Some.instance in
-    let named : instance_of task (names_of task before) c.args.call.now ≡ Some i =
-    ap (λ (k : Known). instance_of task k.names c.args.call.now) (sym h.known) ∙ sym c.in_ok-instance.ensures ∙ c.in-Some.is in (
-      passes version task before c.args.knowledge.now h c.args.number c.args.turn c.args.call.now i named
+    let named : instance_of task (names_of task before) c.args.request.now.call.now ≡ Some i =
+    ap (λ (k : Known). instance_of task k.names c.args.request.now.call.now) (sym h.known) ∙ sym c.in_ok-instance.ensures ∙ c.in-Some.is in (
+      passes version task before c.args.knowledge.now h c.args.request.now.number c.args.request.now.turn c.args.request.now.call.now i named
           (sym c.may_ask.ensures ∙ c.if-may_ask.true),
-      c.if-number-calls.false,
+      c.if-request-calls.false,
       named,
     )
 
@@ -25,7 +25,7 @@ pub returns-else-may_ask : goal.returns-else-may_ask
 returns-else-may_ask c = λ version before h right.
     let task = c.args.task.now in
     let i = c.in-Some.instance in
-    let named : instance_of task (names_of task before) c.args.call.now ≡ Some i =
-    ap (λ (k : Known). instance_of task k.names c.args.call.now) (sym h.known) ∙ sym c.in_ok-instance.ensures ∙ c.in-Some.is in
+    let named : instance_of task (names_of task before) c.args.request.now.call.now ≡ Some i =
+    ap (λ (k : Known). instance_of task k.names c.args.request.now.call.now) (sym h.known) ∙ sym c.in_ok-instance.ensures ∙ c.in-Some.is in
     false≢true (sym c.if-may_ask.false ∙ c.may_ask.ensures
-    ∙ must_pass version task before c.args.knowledge.now h c.args.number c.args.turn c.args.call.now i named right.0)
+    ∙ must_pass version task before c.args.knowledge.now h c.args.request.now.number c.args.request.now.turn c.args.request.now.call.now i named right.0)
