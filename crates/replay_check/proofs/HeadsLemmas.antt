@@ -9,7 +9,7 @@ use Rattle.transcript_model.specs.declared.head.PoolLine.{PoolLine}
 use Rattle.transcript_model.specs.declared.report.Report.{Report}
 use Rattle.replay_check.specs.Breaches.{BreaksHead}
 use Rattle.replay_check.specs.Heads.{AreFitPoolLines, are_fit_limits, is_fit_pool}
-use Rattle.replay_check.specs.Lines.{line_behind_pools}
+use Rattle.legal_report.specs.Lines.{line_behind_pools}
 
 module _ (task : Task) (r : Report) (place : ℕ) (limits : are_fit_limits r ≡ true)
     (fit : AreFitPoolLines task (take place r.pools)) (within : place < length r.pools) where

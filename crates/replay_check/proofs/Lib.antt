@@ -21,8 +21,6 @@ pub mod RightReportLemmas
 pub mod StandingsAnswerLemmas
 pub mod StandingsAskLemmas
 pub mod StandingsMarkLemmas
-pub mod TalksAnswerLemmas
-pub mod TalksAskLemmas
 pub mod VerdictsHeadLemmas
 pub mod VerdictsLemmas
 pub mod WalksLemmas

@@ -1,16 +1,16 @@
 -- The lines of a report, and where its parts begin.
-use Rattle.std.proofs.Common.{◌≡◌, ℕ, zero, suc, ◌+◌, ◌<◌, ◌≤◌, ◌⊎◌, inl, inr, List, [], ◌∷◌, ◌++◌, map, take, length, refl, sym, ap, ◌∙◌, Some, None, slice_get, arith, codes}
+use Rattle.std.proofs.Common.{◌≡◌, ℕ, zero, suc, ◌+◌, ◌<◌, ◌≤◌, ◌⊎◌, inl, inr, List, [], ◌∷◌, ◌++◌, map, length, refl, sym, ◌∙◌, Some, None, slice_get, arith, codes}
 use Rattle.std.proofs.lemmas.Bool.{cases_lt}
-use Rattle.std.proofs.lemmas.List.{length-append, length-map, take_all}
+use Rattle.std.proofs.lemmas.List.{length-append, length-map}
 use Rattle.std.specs.Fmt.{decimal}
 use Rattle.std.specs.List.{flat_map}
-use Rattle.std.proofs.lemmas.Option.{none-some, slice_get_past, slice_get_within}
+use Rattle.std.proofs.lemmas.Option.{none-some, slice_get_past}
 use Rattle.dream_check.specs.Lines.{IsWrongLine}
 use Rattle.task_model.specs.declared.stream.Instance.{Instance}
 use Rattle.task_model.specs.declared.task.Task.{Task}
-use Rattle.report_text.proofs.FormsLemmas.{report_text}
+pub use Rattle.legal_report.proofs.LinesLemmas.{report_short}
 use Rattle.transcript_model.specs.Rounds.{Limits}
-use Rattle.report_text.specs.Texts.{Line, do_line, done_line, entry_lines, from_line, head_lines, line, line_text, lines_text, outcome_lines, pool_line, step_line, text_of_report, lines_of_report, use_line}
+use Rattle.report_text.specs.Texts.{do_line, done_line, entry_lines, from_line, head_lines, line, outcome_lines, pool_line, step_line, lines_of_report, use_line}
 use Rattle.transcript_model.specs.declared.entry.Call.{Call}
 use Rattle.transcript_model.specs.declared.entry.DreamUse.{DreamUse}
 use Rattle.transcript_model.specs.declared.entry.Entry.{Entry}
@@ -25,25 +25,6 @@ use Rattle.replay_check.specs.Findings.{IsFirstWrong, NoneEarlier}
 use Rattle.replay_check.specs.Lines.{outcome_line}
 use Rattle.replay_check.specs.declared.verdict.BreachKind.{BreachKind}
 use Rattle.replay_check.specs.declared.verdict.BreachKind.TheVariants as kind
-
--- ---- texts
-
--- each line has a byte at least
-pub lines_long : (lines : List Line) → length lines ≤ length (lines_text lines)
-lines_long [] = omega arith
-lines_long (l ∷ lines) =
-    let rest = lines_long lines in
-    let sum = length-append (line_text l) (lines_text lines) in
-    let own = length-append (l.first ++ flat_map (λ field. 32 ∷ field) l.more) (10 ∷ []) in
-    omega (arith, rest, sum, own)
-
--- a report has at most as many lines as bytes
-pub report_short : (r : Report) (bytes : List ℕ) → text_of_report r ≡ bytes
-    → length (lines_of_report r) ≤ length bytes
-report_short r bytes is =
-    let long = lines_long (lines_of_report r) in
-    let same : length (lines_text (lines_of_report r)) ≡ length bytes = ap length (sym (report_text r) ∙ is) in
-    omega (arith, long, same)
 
 -- ---- entries
 
@@ -68,43 +49,6 @@ dream_count uses steps =
     let first = length-map uses use_line in
     let second = length-map steps step_line in
     omega (arith, sum, first, second)
-
--- an entry begins behind all lines of each that precedes it
-pub lines_rise : (xs : List Entry) (j k : ℕ) (e : Entry) → slice_get xs j ≡ Some e → j < k
-    → length (flat_map entry_lines (take j xs)) + length (entry_lines e) ≤ length (flat_map entry_lines (take k xs))
-lines_rise [] j k e at lt = absurd (cc)
-lines_rise (x ∷ xs) j zero e at lt = absurd (omega (arith, lt))
-lines_rise (x ∷ xs) zero (suc k) e at lt =
-    let is : x ≡ e = cc in
-    let same = ap (λ (d : Entry). length (entry_lines d)) is in
-    let sum = length-append (entry_lines x) (flat_map entry_lines (take k xs)) in
-    omega (arith, sum, same)
-lines_rise (x ∷ xs) (suc j) (suc k) e at lt =
-    let below : j < k = omega (arith, lt) in
-    let first = length-append (entry_lines x) (flat_map entry_lines (take j xs)) in
-    let second = length-append (entry_lines x) (flat_map entry_lines (take k xs)) in
-    let rest = lines_rise xs j k e at below in
-    omega (arith, first, second, rest)
-
--- all entries end behind the lines of each
-pub lines_past : (xs : List Entry) (j : ℕ) (e : Entry) → slice_get xs j ≡ Some e
-    → length (flat_map entry_lines (take j xs)) + length (entry_lines e) ≤ length (flat_map entry_lines xs)
-lines_past xs j e at =
-    let all : length (flat_map entry_lines (take (length xs) xs)) ≡ length (flat_map entry_lines xs) =
-    ap (λ (es : List Entry). length (flat_map entry_lines es)) (take_all (length xs) xs (omega arith)) in
-    let rise = lines_rise xs j (length xs) e at (slice_get_within xs j e at) in
-    omega (arith, all, rise)
-
--- the front of some entries has no more lines
-pub lines_front : (xs : List Entry) (k : ℕ) → length (flat_map entry_lines (take k xs)) ≤ length (flat_map entry_lines xs)
-lines_front [] zero = omega arith
-lines_front [] (suc k) = omega arith
-lines_front (x ∷ xs) zero = omega arith
-lines_front (x ∷ xs) (suc k) =
-    let first = length-append (entry_lines x) (flat_map entry_lines (take k xs)) in
-    let second = length-append (entry_lines x) (flat_map entry_lines xs) in
-    let rest = lines_front xs k in
-    omega (arith, first, second, rest)
 
 -- a line of a dream that is wrong is one of its own
 pub wrong_line_few : (limits : Limits) (task : Task) (before : List Entry) (tried : List Instance) (uses : List DreamUse)

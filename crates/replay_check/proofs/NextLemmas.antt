@@ -140,7 +140,8 @@ module _ (limits : Limits) (task : Task) (entries : List Entry) (l : Knowledge) 
   pub next_level : AreBegun limits task (entries ++ entry.Level ∷ []) → AsksLevel limits.mode a × MayBegin limits task entries
   next_level begun = by (next_step limits task entries here s.leads entry.Level begun)
     where
-      by : (after : ModePlace) × IsModeStep limits task entries here entry.Level after → AsksLevel limits.mode a × MayBegin limits task entries
+      by : (after : ModePlace) × IsModeStep limits task entries here entry.Level after → AsksLevel limits.mode a
+          × MayBegin limits task entries
       by (after, goes_on d t is) = no_batch entry.Level d refl t
       by (after, begins_level t) = (inl (t.mode, awaits_between task entries a t.awaits), t.begins.may)
       by (after, tells_dream t) = absurd (let is = t.is in cc)

@@ -59,7 +59,8 @@ module _ (limits : Limits) (task : Task) (workers : HaveWorkers limits.pools)
   -- ---- dreams
 
   dream_step : (uses : List DreamUse) (steps : List Call) → IsModeStep limits task before p (entry.Dream uses steps) q
-      → BeginsTurn limits task before × (entries : List dreams.SupposedEntry) × IsDreamAfter limits task before p.kept.tried uses steps entries
+      → BeginsTurn limits task before × (entries : List dreams.SupposedEntry)
+      × IsDreamAfter limits task before p.kept.tried uses steps entries
   dream_step uses steps (goes_on d t is) = no_batch (entry.Dream uses steps) d refl t
   dream_step uses steps (begins_level t) = absurd (let is = t.begins.is in cc)
   dream_step uses steps (tells_dream t) =

@@ -11,7 +11,8 @@ use Rattle.replay_check.specs.Breaches.{BreaksEntry, BreaksEntries, BreaksEnd, B
 use Rattle.replay_check.specs.Headed.{IsHeaded}
 use Rattle.replay_check.specs.Heads.{reported_limits}
 use Rattle.replay_check.specs.Kinds.{breach_number}
-use Rattle.replay_check.specs.Lines.{Precedes, line_behind_pools}
+use Rattle.legal_report.specs.Lines.{line_behind_pools}
+use Rattle.replay_check.specs.Lines.{Precedes}
 use Rattle.replay_check.specs.Verdicts.{IsReportVerdict, IsUndecidedAt, NonePrecedes}
 use Rattle.replay_check.specs.declared.head.Headed.TheVariants as headed
 use Rattle.replay_check.specs.declared.verdict.BreachKind.{BreachKind}

@@ -1,7 +1,6 @@
 -- What is said of a report whose head fits, from what is found of its entries and its outcome.
 use Rattle.std.proofs.Common.{◌≡◌, ℕ, ◌+◌, ◌^◌, ◌<◌, ◌≤◌, ◌⊎◌, inl, inr, List, take, length, refl, sym, ap, subst, ◌∙◌, Some, slice_get, arith}
 use Rattle.std.proofs.lemmas.Bool.{cases_lt}
-use Rattle.std.specs.List.{flat_map}
 use Rattle.lemmas.proofs.Members.{get_and_take}
 use Rattle.lemmas.proofs.Numbers.{plus_zero}
 use Rattle.mode_course.specs.Agendas.{mode_place_in}
@@ -13,14 +12,16 @@ use Rattle.transcript_model.specs.declared.entry.Entry.{Entry}
 use Rattle.transcript_model.specs.declared.entry.Entry.TheVariants as entry
 use Rattle.transcript_model.specs.declared.report.Report.{Report}
 use Rattle.replay_check.proofs.FindingsLemmas.{not_later}
-use Rattle.replay_check.proofs.LinesLemmas.{entry_long, line_within, lines_past, lines_rise, offset_few, report_count}
+use Rattle.legal_report.proofs.LinesLemmas.{lines_past, lines_rise}
+use Rattle.replay_check.proofs.LinesLemmas.{entry_long, line_within, offset_few, report_count}
 use Rattle.replay_check.proofs.PlacesLemmas.{stops}
 use Rattle.replay_check.proofs.RightEntriesLemmas.{entry_right}
 use Rattle.replay_check.proofs.RightReportLemmas.{head_right}
 use Rattle.replay_check.specs.Breaches.{BreaksEntry, BreaksEntries, BreaksOutcome, IsBreach}
 use Rattle.replay_check.specs.Findings.{IsRightFinding, NoneEarlier}
 use Rattle.replay_check.specs.Heads.{IsFitReportHead, reported_limits}
-use Rattle.replay_check.specs.Lines.{Precedes, line_of, outcome_line}
+use Rattle.legal_report.specs.Lines.{line_of}
+use Rattle.replay_check.specs.Lines.{Precedes, outcome_line}
 use Rattle.replay_check.specs.Standings.{AreBounds, IsStanding, NoLineEarlier, limits_by}
 use Rattle.replay_check.specs.Verdicts.{HasOpenNone, IsOpenNone, IsReportVerdict, IsUndecidedAt, IsUndecidedClaim, NonePrecedes}
 use Rattle.replay_check.specs.Walks.{IsOpenAt, IsWrongAt}
@@ -48,10 +49,6 @@ nearer base line k other than (inr (is, lt)) = inr (omega (arith, is), lt)
 
 some_is : (x y : Entry) → Some x ≡ Some y → x ≡ y
 some_is x y e = cc
-
--- the entries have fewer lines than the report
-pub entries_few : (r : Report) (most : ℕ) → length (lines_of_report r) < most → length (flat_map entry_lines r.entries) < most
-entries_few r most short = let count = report_count r in omega (arith, count, short)
 
 -- ---- a head that fits
 

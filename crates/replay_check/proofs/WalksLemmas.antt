@@ -10,7 +10,7 @@ use Rattle.report_text.specs.Forms.{IsFormedEntry}
 use Rattle.task_model.specs.declared.stream.Instance.{Instance}
 use Rattle.task_model.specs.declared.task.Task.{Task}
 use Rattle.learning.specs.Knowledge.{IsKnowledge}
-use Rattle.replay_check.specs.Talks.{IsAskedBy}
+use Rattle.legal_report.specs.Talks.{IsAskedBy}
 use Rattle.learning.specs.declared.knowledge.Knowledge.{Knowledge}
 use Rattle.transcript_model.specs.Legal.{IsRightAsk, MayFollow, answered_number, is_answer, is_ask}
 use Rattle.transcript_model.specs.Rounds.{Limits}

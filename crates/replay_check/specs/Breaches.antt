@@ -20,7 +20,8 @@ use Rattle.transcript_model.specs.declared.outcome.Outcome.{Outcome}
 use Rattle.transcript_model.specs.declared.outcome.Outcome.TheVariants as outcome
 use Rattle.transcript_model.specs.declared.report.Report.{Report}
 use Rattle.replay_check.specs.Heads.{are_fit_limits, are_served, is_fit_pool, reported_limits}
-use Rattle.replay_check.specs.Lines.{line_behind_pools, line_of, outcome_line}
+use Rattle.legal_report.specs.Lines.{line_behind_pools, line_of}
+use Rattle.replay_check.specs.Lines.{outcome_line}
 use Rattle.shown_steps.specs.Plans.{CanRun, IsPlan}
 use Rattle.replay_check.specs.declared.verdict.BreachKind.{BreachKind}
 use Rattle.replay_check.specs.declared.verdict.BreachKind.TheVariants as kind

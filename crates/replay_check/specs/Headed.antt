@@ -6,7 +6,7 @@ use Rattle.transcript_model.specs.declared.report.Report.{Report}
 use Rattle.pools.specs.Pools.{shares_of}
 use Rattle.replay_check.specs.Breaches.{BreaksHead}
 use Rattle.replay_check.specs.Heads.{AreFitPoolLines, IsFitReportHead, is_fit_pool, served_by, share_in, workers_together}
-use Rattle.replay_check.specs.Lines.{line_behind_pools}
+use Rattle.legal_report.specs.Lines.{line_behind_pools}
 use Rattle.replay_check.specs.declared.head.Before.{Before}
 use Rattle.replay_check.specs.declared.head.Headed.{Headed}
 use Rattle.replay_check.specs.declared.head.Headed.TheVariants.{Fits, Breaks}

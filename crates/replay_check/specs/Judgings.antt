@@ -35,7 +35,7 @@ IsRightOf task bytes judged.Limit = Unit {0}
 
 -- what is said of the report; and where it is right, what its answers certify is known
 abbrev pub IsEnded : ℕ → Task → Report → Ended → Type 0
-IsEnded limit task r (ended.Valid facts) =
-    IsReportVerdict limit task r Valid × (facts.known ≡ known_of task r.entries)
+IsEnded limit task r (ended.Valid standing) =
+    IsReportVerdict limit task r Valid × (standing.value.knowledge.facts.known ≡ known_of task r.entries)
 IsEnded limit task r (ended.Invalid line k) = IsReportVerdict limit task r (Invalid line k)
 IsEnded limit task r ended.Limit = IsReportVerdict limit task r Limit

@@ -1,18 +1,11 @@
--- The lines of a report, from 1.
-use Rattle.std.specs.Prelude.{◌≡◌, ◌⊎◌, ℕ, ◌+◌, ◌<◌, length, take}
+-- The lines of a report, from 1, and which of two breaches is told.
+use Rattle.std.specs.Prelude.{◌≡◌, ◌⊎◌, ℕ, ◌+◌, ◌<◌, length}
 use Rattle.std.specs.List.{flat_map}
+use Rattle.legal_report.specs.Lines.{line_behind_pools}
 use Rattle.report_text.specs.Texts.{entry_lines}
 use Rattle.transcript_model.specs.declared.report.Report.{Report}
 use Rattle.replay_check.specs.Kinds.{breach_number}
 use Rattle.replay_check.specs.declared.verdict.BreachKind.{BreachKind}
-
--- the first line behind the pools
-abbrev pub line_behind_pools : Report → ℕ
-line_behind_pools r = length r.pools + 3
-
--- the first line of the entry at this place, from 0
-abbrev pub line_of : Report → ℕ → ℕ
-line_of r place = line_behind_pools r + length (flat_map entry_lines (take place r.entries))
 
 -- the first line of the outcome
 abbrev pub outcome_line : Report → ℕ

@@ -6,9 +6,7 @@ use Rattle.task_model.specs.Plans.{IsReached, MoreThan}
 use Rattle.task_model.specs.Streams.{NothingIsDue}
 use Rattle.task_model.specs.declared.task.Task.{Task}
 use Rattle.report_text.specs.Faults.{IsFirstFault}
-use Rattle.report_text.specs.Forms.{IsFormed}
 use Rattle.transcript_model.specs.Outcomes.{IsTrueOutcome, MayStand}
-use Rattle.report_text.specs.Texts.{text_of_report}
 use Rattle.transcript_model.specs.Rounds.{Limits}
 use Rattle.transcript_model.specs.Transcript.{known_of, notes_of}
 use Rattle.transcript_model.specs.Turns.{IsModeLegal, Kept, Stage}
@@ -21,7 +19,9 @@ use Rattle.transcript_model.specs.declared.outcome.Outcome.TheVariants as outcom
 use Rattle.transcript_model.specs.declared.report.Report.{Report}
 use Rattle.replay_check.specs.Breaches.{IsBreach}
 use Rattle.replay_check.specs.Heads.{IsFitReportHead, reported_limits}
-use Rattle.replay_check.specs.Lines.{Precedes, line_of, outcome_line}
+use Rattle.legal_report.specs.Lines.{line_of}
+use Rattle.legal_report.specs.Reports.{IsOfReport}
+use Rattle.replay_check.specs.Lines.{Precedes, outcome_line}
 use Rattle.replay_check.specs.declared.verdict.BreachKind.{BreachKind}
 use Rattle.replay_check.specs.declared.verdict.BreachKind.TheVariants as kind
 use Rattle.replay_check.specs.declared.verdict.Verdict.{Verdict}
@@ -92,17 +92,10 @@ IsReportVerdict limit task r Limit =
 
 -- ---- texts
 
--- the text is one of a report of the stated forms, of which this is said
-pub record IsOfReport (limit : ℕ) (task : Task) (bytes : List ℕ) (v : Verdict) : Type 0 where
-  pub report : Report
-  pub formed : IsFormed report
-  pub spelled : text_of_report report ≡ bytes
-  pub said : IsReportVerdict limit task report v
-
 -- The text is no report, and this is its first line that isn't of a form at its place.
 abbrev pub IsNoReport : List ℕ → Verdict → Type 0
 IsNoReport bytes v = (line : ℕ) × (v ≡ Invalid line kind.Text) × IsFirstFault bytes line
 
--- what may be said of a text
+-- what may be said of a text: it is no report, or this is said of the report that it spells
 abbrev pub IsVerdict : ℕ → Task → List ℕ → Verdict → Type 0
-IsVerdict limit task bytes v = IsNoReport bytes v ⊎ IsOfReport limit task bytes v
+IsVerdict limit task bytes v = IsNoReport bytes v ⊎ IsOfReport bytes (λ r. IsReportVerdict limit task r v)

@@ -42,7 +42,8 @@ IsEntryTaken b entries place s Holds = IsStanding b (take (place + 1) entries) s
 IsEntryTaken b entries place s (Breaks offset k) = IsWrongAt b entries place offset k
 IsEntryTaken b entries place s Open = IsOpenAt b entries place
 
-abbrev pub IsWalked : Bounds → List Entry → Walked → Type 0
-IsWalked b entries (walked.Breaks place offset k) = IsWrongAt b entries place offset k
-IsWalked b entries (walked.Open place) = IsOpenAt b entries place
-IsWalked b entries (walked.Ends s) = IsStanding b entries s
+-- the judge stands behind all entries, or one is wrong, or its claim isn't decided
+abbrev pub IsWalked : Bounds → List Entry → Standing → Walked → Type 0
+IsWalked b entries s (walked.Breaks place offset k) = IsWrongAt b entries place offset k
+IsWalked b entries s (walked.Open place) = IsOpenAt b entries place
+IsWalked b entries s walked.Ends = IsStanding b entries s

@@ -11,37 +11,27 @@ ghost use Rattle.transcript_model.specs.declared.limits.TheConstants.{MOST_CALLS
 use crate::bounds::Bounds;
 use crate::finding::Finding;
 use crate::requests::is_request;
-use crate::right_answers::may_answer;
-use crate::right_asks::asked_by;
 use crate::standing::Standing;
 use crate::verdict::BreachKind;
+use legal_report::{Request, asked_by, may_answer};
 use std::alloc::AllocError;
-use transcript_model::{Call, Entry};
+use transcript_model::Entry;
 
 impl Standing {
     /// Whether the request is the next of the open round.
-    fn is_next(&self, bounds: &Bounds<'_>, number: u32, turn: u32, call: &Call) -> bool
+    fn is_next(&self, bounds: &Bounds<'_>, request: &Request<'_>) -> bool
         requires { length self.now.knowledge.asked.items ≤ MOST_CALLS }
         ensures yes { IsTrue result
-            → IsNextRequest bounds.now.task.now self.now.knowledge self.now.course.batch number turn
-            call.now }
-        ensures no { IsNextRequest bounds.now.task.now self.now.knowledge self.now.course.batch number
-            turn call.now → IsTrue result }
+            → IsNextRequest bounds.now.task.now self.now.knowledge self.now.course.batch
+            request.now.number request.now.turn request.now.call.now }
+        ensures no { IsNextRequest bounds.now.task.now self.now.knowledge self.now.course.batch
+            request.now.number request.now.turn request.now.call.now → IsTrue result }
     {
         let knowledge = &self.knowledge;
         let due = knowledge.asked.len() as u32 + 1;
         let names = knowledge.facts.names();
         match self.course.next_asked() {
-            Some(next) => is_request(
-                bounds.task,
-                names,
-                &knowledge.queue,
-                due,
-                next,
-                number,
-                turn,
-                call,
-            ),
+            Some(next) => is_request(bounds.task, names, &knowledge.queue, due, next, request),
             None => false,
         }
     }
@@ -50,30 +40,21 @@ impl Standing {
     pub(crate) fn take_ask(
         &mut self,
         bounds: &Bounds<'_>,
-        number: u32,
-        turn: u32,
-        call: &Call,
+        request: &Request<'_>,
         entries: &[Entry],
         place: usize,
     ) -> Result<Finding, AllocError>
         requires can { CanTake bounds.now entries.now place self.old }
-        requires here { slice_get entries.now place ≡ Some (entry.Ask number turn call.now) }
+        requires here { slice_get entries.now place ≡ Some (entry.Ask request.now.number
+            request.now.turn request.now.call.now) }
         ensures { IfOk result (IsEntryTaken bounds.now entries.now place self.new) }
     {
         let knowledge = &self.knowledge;
-        let asked = asked_by(
-            bounds.alloc,
-            bounds.task,
-            knowledge,
-            bounds.calls,
-            number,
-            turn,
-            call,
-        )?;
+        let asked = asked_by(bounds.alloc, bounds.task, knowledge, bounds.calls, request)?;
         let Some(instance) = asked else {
             return Ok(Finding::Breaks(0, BreachKind::Ask));
         };
-        if !self.is_next(bounds, number, turn, call) {
+        if !self.is_next(bounds, request) {
             return Ok(Finding::Breaks(0, BreachKind::Order));
         }
         self.knowledge.ask(instance)?;

@@ -1,6 +1,6 @@
 //! The entries of a report, one after another.
-ghost use Rattle.std.specs.Prelude.{All, IfOk};
-ghost use Rattle.replay_check.specs.Standings.{AreBounds};
+ghost use Rattle.std.specs.Prelude.{[], All, IfOk};
+ghost use Rattle.replay_check.specs.Standings.{AreBounds, IsStanding};
 ghost use Rattle.replay_check.specs.Walks.{CanTake, IsEntryTaken, IsWalked};
 ghost use Rattle.report_text.specs.Forms.{IsFormedEntry};
 
@@ -8,8 +8,8 @@ use crate::bounds::Bounds;
 use crate::finding::Finding;
 use crate::standing::Standing;
 use crate::verdict::BreachKind;
-use learning::{Knowledge, answered};
-use mode_course::ModeCourse;
+use learning::answered;
+use legal_report::Request;
 use std::alloc::AllocError;
 use transcript_model::Entry;
 
@@ -30,7 +30,8 @@ impl Standing {
         }
         match entry {
             Entry::Ask { number, turn, call } => {
-                self.take_ask(bounds, *number, *turn, call, entries, place)
+                let (number, turn) = (*number, *turn);
+                self.take_ask(bounds, &Request { number, turn, call }, entries, place)
             }
             Entry::Level => self.take_level(bounds, entries, place),
             Entry::Dream { uses, steps } => {
@@ -46,7 +47,7 @@ impl Standing {
 }
 
 /// What entries come to.
-#[derive(Drop)]
+#[derive(Clone, Copy)]
 pub(crate) enum Walked {
     /// The entry at this place, from 0, is wrong, first in this line, from 0 for its own first;
     /// nothing before it is.
@@ -55,19 +56,21 @@ pub(crate) enum Walked {
     /// wrong.
     Open(usize),
     /// None is wrong.
-    Ends(Standing),
+    Ends,
 }
 
-/// Takes all entries, up to the first that is wrong or whose claim can't be decided.
-pub(crate) fn walk(bounds: &Bounds<'_>, entries: &[Entry]) -> Result<Walked, AllocError>
+/// Takes all entries, up to the first that is wrong or whose claim can't be decided. The standing is
+/// that before the first entry.
+pub(crate) fn walk(
+    bounds: &Bounds<'_>,
+    standing: &mut Standing,
+    entries: &[Entry],
+) -> Result<Walked, AllocError>
     requires bounds { AreBounds bounds.now }
     requires formed { All (IsFormedEntry bounds.now.version) entries.now }
-    ensures { IfOk result (IsWalked bounds.now entries.now) }
+    requires standing { IsStanding bounds.now [] standing.old }
+    ensures { IfOk result (IsWalked bounds.now entries.now standing.new) }
 {
-    let mut standing = Standing {
-        knowledge: Knowledge::new(bounds.alloc, bounds.task)?,
-        course: ModeCourse::new(bounds.alloc),
-    };
     for place in 0..entries.len() {
         match standing.take(bounds, entries, place)? {
             Finding::Holds => {}
@@ -75,5 +78,5 @@ pub(crate) fn walk(bounds: &Bounds<'_>, entries: &[Entry]) -> Result<Walked, All
             Finding::Open => return Ok(Walked::Open(place)),
         }
     }
-    Ok(Walked::Ends(standing))
+    Ok(Walked::Ends)
 }

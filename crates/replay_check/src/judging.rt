@@ -1,5 +1,5 @@
 //! Reports, replayed.
-ghost use Rattle.std.specs.Prelude.{◌≡◌, ◌<◌, ◌≤◌, ◌^◌, ℕ, List, length, IfOk};
+ghost use Rattle.std.specs.Prelude.{◌≡◌, ◌+◌, ◌<◌, ◌≤◌, ◌^◌, ℕ, List, length, IfOk};
 ghost use Rattle.replay_check.specs.Heads.{IsFitReportHead, reported_limits};
 ghost use Rattle.replay_check.specs.Judgings.{IsEnded, IsRightOf, verdict_of};
 ghost use Rattle.report_text.specs.Texts.{lines_of_report, text_of_report};
@@ -15,21 +15,22 @@ use crate::bounds::Bounds;
 use crate::entries::{Walked, walk};
 use crate::finding::Finding;
 use crate::head::{Headed, judge_head};
-use crate::lines::lines_of;
 use crate::standing::Standing;
 use crate::verdict::{BreachKind, Judged, RightReport, Verdict};
 use fact_store::Facts;
+use learning::Knowledge;
+use legal_report::line_of;
 use report_reader::read_report;
 use report_text::ReportFault;
 use std::alloc::{AllocError, Global};
 use task_model::Task;
 use transcript_model::Report;
 
-/// What is said of a report, with what its answers certify where it is right.
+/// What is said of a report, with what is kept of its entries where it is right.
 #[derive(Drop)]
 pub(crate) enum Ended {
-    /// It is right, and this is known at its end.
-    Valid(Facts),
+    /// It is right, and its entries come to this.
+    Valid(Box<Standing>),
     /// This line is wrong, from 1.
     Invalid(u32, BreachKind),
     /// A claim of it can't be decided.
@@ -44,21 +45,33 @@ fn invalid(line: usize, kind: BreachKind) -> Ended
     Ended::Invalid(line as u32, kind)
 }
 
+/// That the line so many behind this one is wrong.
+fn invalid_behind(first: usize, line: usize, kind: BreachKind) -> Ended
+    requires { first + line < 2 ^ 31 }
+    ensures { result ≡ Invalid (first + line) kind }
+{
+    invalid(first + line, kind)
+}
+
 /// Judges the outcome of a report of which nothing else is wrong.
-fn judge_end(bounds: &Bounds<'_>, report: &Report, standing: Standing) -> Result<Ended, AllocError>
+fn judge_end(
+    bounds: &Bounds<'_>,
+    report: &Report,
+    standing: Box<Standing>,
+) -> Result<Ended, AllocError>
     requires bounds { AreBounds bounds.now }
     requires head { IsFitReportHead bounds.now.task.now report.now }
     requires limits { reported_limits bounds.now.task.now report.now ≡ limits_by bounds.now }
     requires lines { length (lines_of_report report.now) < 2 ^ 31 }
-    requires standing { IsStanding bounds.now report.now.entries standing }
+    requires standing { IsStanding bounds.now report.now.entries standing.value }
     ensures { IfOk result (IsEnded bounds.now.limit bounds.now.task.now report.now) }
 {
     let entries = report.entries.as_slice();
-    let first = report.pools.len() + 3 + lines_of(entries);
+    let first = line_of(report, report.entries.len());
     match standing.judge_outcome(bounds, entries, &report.outcome)? {
-        Finding::Holds => Ok(Ended::Valid(standing.knowledge.facts)),
+        Finding::Holds => Ok(Ended::Valid(standing)),
         Finding::Open => Ok(Ended::Limit),
-        Finding::Breaks(line, kind) => Ok(invalid(first + line, kind)),
+        Finding::Breaks(line, kind) => Ok(invalid_behind(first, line, kind)),
     }
 }
 
@@ -72,12 +85,12 @@ fn judge_rest(bounds: &Bounds<'_>, report: &Report) -> Result<Ended, AllocError>
     ensures { IfOk result (IsEnded bounds.now.limit bounds.now.task.now report.now) }
 {
     let entries = report.entries.as_slice();
-    match walk(bounds, entries)? {
-        Walked::Ends(standing) => judge_end(bounds, report, standing),
+    let mut standing = Box::new(bounds.alloc, Standing::new(bounds)?)?;
+    match walk(bounds, &mut standing, entries)? {
+        Walked::Ends => judge_end(bounds, report, standing),
         Walked::Open(_) => Ok(Ended::Limit),
         Walked::Breaks(place, line, kind) => {
-            let first = report.pools.len() + 3 + lines_of(&entries[..place]);
-            Ok(invalid(first + line, kind))
+            Ok(invalid_behind(line_of(report, place), line, kind))
         }
     }
 }
@@ -109,16 +122,28 @@ fn judge(alloc: Global, task: &Task, report: &Report, limit: u32) -> Result<Ende
     judge_rest(&bounds, report)
 }
 
+/// What is known of the entries that come to this.
+fn facts_of(standing: Box<Standing>) -> Facts
+    ensures { result ≡ standing.value.knowledge.facts }
+{
+    let Standing { knowledge, .. } = Box::into_inner(standing);
+    let Knowledge { facts, .. } = knowledge;
+    facts
+}
+
 /// What is said of the text of a report of which this is said.
-fn judged(report: Report, ended: Ended) -> Judged
-    ensures verdict { (limit : ℕ) (task : AnyTask) → IsEnded limit task report ended
-        → IsReportVerdict limit task report (verdict_of result) }
-    ensures right { (limit : ℕ) (task : AnyTask) (bytes : List ℕ) → IsFormed report
-        → text_of_report report ≡ bytes → IsEnded limit task report ended
+fn judged(report: Box<Report>, ended: Ended) -> Judged
+    ensures verdict { (limit : ℕ) (task : AnyTask) → IsEnded limit task report.value ended
+        → IsReportVerdict limit task report.value (verdict_of result) }
+    ensures right { (limit : ℕ) (task : AnyTask) (bytes : List ℕ) → IsFormed report.value
+        → text_of_report report.value ≡ bytes → IsEnded limit task report.value ended
         → IsRightOf task bytes result }
 {
     match ended {
-        Ended::Valid(facts) => Judged::Valid(RightReport { report, facts }),
+        Ended::Valid(standing) => Judged::Valid(RightReport {
+            report: Box::into_inner(report),
+            facts: facts_of(standing),
+        }),
         Ended::Invalid(line, kind) => Judged::Invalid { line, kind },
         Ended::Limit => Judged::Limit,
     }
@@ -148,7 +173,8 @@ pub fn replay_whole(
     ensures right { IfOk result (IsRightOf task.now bytes.now) }
 {
     match read_report(alloc, bytes) {
-        Ok(report) => {
+        Ok(read) => {
+            let report = Box::new(alloc, read)?;
             let ended = judge(alloc, task, &report, limit)?;
             Ok(judged(report, ended))
         }
@@ -168,6 +194,6 @@ pub fn replay(alloc: Global, task: &Task, bytes: &[u8], limit: u32) -> Result<Ve
     requires bytes { length bytes.now < 2 ^ 31 }
     ensures { IfOk result (IsVerdict limit task.now bytes.now) }
 {
-    let judged = replay_whole(alloc, task, bytes, limit)?;
+    let judged = Box::new(alloc, replay_whole(alloc, task, bytes, limit)?)?;
     Ok(judged.verdict())
 }

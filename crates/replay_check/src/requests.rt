@@ -7,8 +7,8 @@ ghost use Rattle.gen_lines.specs.Request.{stream_name as name_of_stream};
 ghost use Rattle.replay_check.specs.Talks.{is_same_request};
 
 use instance_queue::Queue;
+use legal_report::Request;
 use task_model::{Instance, Name, Obj, Task};
-use transcript_model::Call;
 
 /// The name of an object, or no bytes where the table has none.
 fn name_at(names: &[Name], object: Obj) -> &[u8]
@@ -43,22 +43,21 @@ fn have_names(names: &[Name], objects: &[Obj], shown: &[Name]) -> bool
     }
 }
 
-/// Whether this is the request of this number, of this instance: `shown` is the number that it has.
+/// Whether this is the request of this number, of this instance.
 pub(crate) fn is_request(
     task: &Task,
     names: &[Name],
     queue: &Queue,
     number: u32,
     instance: &Instance,
-    shown: u32,
-    turn: u32,
-    call: &Call,
+    request: &Request<'_>,
 ) -> bool
-    ensures { result ≡ is_same_request task.now names.now queue.now number instance.now shown turn
-        call.now }
+    ensures { result ≡ is_same_request task.now names.now queue.now number instance.now
+        request.now.number request.now.turn request.now.call.now }
 {
-    shown == number
-        && turn == queue.yields(instance)
+    let call = request.call;
+    request.number == number
+        && request.turn == queue.yields(instance)
         && call.name.bytes() == stream_name(task, instance.stream)
         && have_names(names, instance.inputs.as_slice(), call.args.as_slice())
 }

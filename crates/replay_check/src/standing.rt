@@ -1,8 +1,8 @@
 //! Where the judge of a transcript stands.
-ghost use Rattle.std.specs.Prelude.{◌≡◌, ◌↔◌, List, IfOk, IfSome, IfNone, IsTrue, true};
+ghost use Rattle.std.specs.Prelude.{◌≡◌, ◌↔◌, [], List, IfOk, IfSome, IfNone, IsTrue, true};
 ghost use Rattle.std.specs.List.{list_all};
 ghost use Rattle.replay_check.specs.Breaches.{BeginsTurn};
-ghost use Rattle.replay_check.specs.Standings.{AreBounds, StandsBehind, limits_by};
+ghost use Rattle.replay_check.specs.Standings.{AreBounds, IsStanding, StandsBehind, limits_by};
 ghost use Rattle.replay_check.specs.Turns.{AreDueFor, AsksLevel, HasNothing, PicksNext};
 ghost use Rattle.transcript_model.specs.Turns.{IsPicked, MayBegin, Skeleton};
 ghost use Rattle.transcript_model.specs.declared.entry.Entry.{Entry as AnyEntry};
@@ -22,6 +22,16 @@ pub(crate) struct Standing {
 }
 
 impl Standing {
+    /// Where the judge stands before the first entry. Fails only where memory is wanting.
+    pub(crate) fn new(bounds: &Bounds<'_>) -> Result<Standing, AllocError>
+        requires { AreBounds bounds.now }
+        ensures { IfOk result (IsStanding bounds.now []) }
+    {
+        let knowledge = Knowledge::new(bounds.alloc, bounds.task)?;
+        let course = ModeCourse::new(bounds.alloc);
+        Ok(Standing { knowledge, course })
+    }
+
     /// What is due, where a turn may begin as far as that and the calls go: something is due, but
     /// not too much, and a call is left. Else None.
     pub(crate) fn turn_dues(&self, bounds: &Bounds<'_>) -> Result<Option<Vec<Due>>, AllocError>

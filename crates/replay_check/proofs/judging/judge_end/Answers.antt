@@ -1,21 +1,27 @@
 use Rattle.std.proofs.Common.{◌≡◌, ◌∙◌, ◌+◌, ◌<◌, ◌^◌, List, length, sym, ap, subst, arith}
+use Rattle.std.proofs.lemmas.List.{take_all}
 use Rattle.std.specs.List.{flat_map}
 use Rattle.report_text.specs.Texts.{entry_lines}
 use Rattle.transcript_model.specs.declared.entry.Entry.{Entry}
-use Rattle.replay_check.proofs.VerdictsLemmas.{end_line_few, entries_few, open_end, right_end, wrong_end}
+use Rattle.replay_check.proofs.VerdictsLemmas.{end_line_few, open_end, right_end, wrong_end}
 use Rattle.replay_check.specs.Findings.{IsRightFinding}
 use Rattle.replay_check.specs.Judgings.{IsEnded}
 use Rattle.replay_check.specs.Lines.{outcome_line}
-use Rattle.replay_check.specs.Standings.{limits_by}
+use Rattle.replay_check.specs.Standings.{IsStanding, limits_by}
 use Rattle.replay_check.specs.declared.finding.Finding.TheVariants as finding
 use Rattle.replay_check.specs.declared.judging.Ended.TheVariants.{Invalid}
+use Rattle.replay_check.specs.declared.standing.Standing.{Standing}
 use Rattle.replay_check.proofs.judging.judge_end.Goals as goal
 use Rattle.replay_check.proofs.judging.judge_end.Goals.{In-Breaks}
 
-pub lines_of-requires : goal.lines_of-requires
-lines_of-requires c =
-    subst (λ (es : List Entry). length (flat_map entry_lines es) < 2 ^ 31) (sym c.as_slice-entries.ensures)
-    (entries_few c.args.report.now (2 ^ 31) c.requires.lines)
+pub line_of-first-requires-clause-within : goal.line_of-first-requires-clause-within
+line_of-first-requires-clause-within c = omega (arith, c.len.ensures)
+
+pub judge_outcome-requires-clause-standing : goal.judge_outcome-requires-clause-standing
+judge_outcome-requires-clause-standing c =
+    subst (λ (s : Standing). IsStanding c.args.bounds.now c.as_slice-entries.result.now s) (sym c.deref.ensures)
+    (subst (λ (es : List Entry). IsStanding c.args.bounds.now es c.args.standing.value) (sym c.as_slice-entries.ensures)
+    c.requires.standing)
 
 pub returns-in-Holds : goal.returns-in-Holds
 returns-in-Holds c =
@@ -24,8 +30,9 @@ returns-in-Holds c =
     let found =
     subst (IsRightFinding (limits_by b) b.limit b.task.now c.as_slice-entries.result.now r.outcome) c.in-Holds.is
     c.in_ok-judge_outcome.ensures in (
-      right_end b r c.requires.bounds c.requires.head c.requires.limits c.args.standing c.requires.standing
-          (subst (λ (es : List Entry). IsRightFinding (limits_by b) b.limit b.task.now es r.outcome finding.Holds) c.as_slice-entries.ensures
+      right_end b r c.requires.bounds c.requires.head c.requires.limits c.args.standing.value c.requires.standing
+          (subst (λ (es : List Entry). IsRightFinding (limits_by b) b.limit b.task.now es r.outcome finding.Holds)
+          c.as_slice-entries.ensures
           found),
       c.requires.standing.stands.knowledge.known,
     )
@@ -37,7 +44,7 @@ returns-in-Open c =
     let found =
     subst (IsRightFinding (limits_by b) b.limit b.task.now c.as_slice-entries.result.now r.outcome) c.in-Open.is
     c.in_ok-judge_outcome.ensures in
-    open_end b r c.requires.bounds c.requires.head c.requires.limits c.args.standing c.requires.standing
+    open_end b r c.requires.bounds c.requires.head c.requires.limits c.args.standing.value c.requires.standing
     (subst (λ (es : List Entry). IsRightFinding (limits_by b) b.limit b.task.now es r.outcome finding.Open) c.as_slice-entries.ensures
     found)
 
@@ -54,23 +61,24 @@ module _ (c : In-Breaks) where
       IsRightFinding (limits_by b) b.limit b.task.now es r.outcome (finding.Breaks c.in-Breaks.line c.in-Breaks.kind))
       c.as_slice-entries.ensures here
 
-  counted : c.lines_of.result ≡ length (flat_map entry_lines c.args.report.now.entries)
-  counted = c.lines_of.ensures ∙ ap (λ (es : List Entry). length (flat_map entry_lines es)) c.as_slice-entries.ensures
+  first_is : c.line_of-first.result ≡ outcome_line c.args.report.now
+  first_is =
+      let all = take_all c.len.result c.args.report.now.entries (omega (arith, c.len.ensures)) in
+      c.line_of-first.ensures
+      ∙ ap (λ (es : List Entry). length c.args.report.now.pools + 3 + length (flat_map entry_lines es)) all
 
-  few : c.len.result + 3 + c.lines_of.result + c.in-Breaks.line < 2 ^ 31
+  few : c.line_of-first.result + c.in-Breaks.line < 2 ^ 31
   few =
       let most = end_line_few c.args.bounds.now c.args.report.now c.requires.bounds c.requires.head c.requires.limits
-      c.args.standing c.requires.standing c.in-Breaks.line c.in-Breaks.kind found c.requires.lines in
-      omega (arith, most, c.len.ensures, counted)
+      c.args.standing.value c.requires.standing c.in-Breaks.line c.in-Breaks.kind found c.requires.lines in
+      let is = first_is in
+      omega (arith, most, is)
 
-  line_is : c.len.result + 3 + c.lines_of.result + c.in-Breaks.line ≡ outcome_line c.args.report.now + c.in-Breaks.line
-  line_is = omega (arith, c.len.ensures, counted)
+  line_is : c.line_of-first.result + c.in-Breaks.line ≡ outcome_line c.args.report.now + c.in-Breaks.line
+  line_is = ap (λ n. n + c.in-Breaks.line) first_is
 
-pub invalid-requires : goal.invalid-requires
-invalid-requires c = let most = few c in omega (arith, most)
-
-pub overflow_add-first-in-Breaks : goal.overflow_add-first-in-Breaks
-overflow_add-first-in-Breaks c = let most = few c in omega (arith, most)
+pub invalid_behind-requires : goal.invalid_behind-requires
+invalid_behind-requires c = few c
 
 pub returns-in-Breaks : goal.returns-in-Breaks
 returns-in-Breaks c =
@@ -78,6 +86,6 @@ returns-in-Breaks c =
     let r = c.args.report.now in
     let at = (goal.at.returns-in-Breaks c).In-Breaks in
     let wrong =
-    wrong_end b r c.requires.bounds c.requires.head c.requires.limits c.args.standing c.requires.standing
+    wrong_end b r c.requires.bounds c.requires.head c.requires.limits c.args.standing.value c.requires.standing
     c.in-Breaks.line c.in-Breaks.kind (found at) in
-    subst (IsEnded b.limit b.task.now r) (sym (c.invalid.ensures ∙ ap (λ n. Invalid n c.in-Breaks.kind) (line_is at))) wrong
+    subst (IsEnded b.limit b.task.now r) (sym (c.invalid_behind.ensures ∙ ap (λ n. Invalid n c.in-Breaks.kind) (line_is at))) wrong

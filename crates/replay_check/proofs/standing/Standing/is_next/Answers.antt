@@ -27,7 +27,7 @@ returns-in-Some-clause-yes c = λ e.
       instance = next;
       head = head_is c;
       is = same_yes task c.names-names.result.now l.queue
-          (c.len.result + 1) next c.args.number c.args.turn c.args.call.now (sym c.is_request.ensures ∙ e)
+          (c.len.result + 1) next c.args.request.now.number c.args.request.now.turn c.args.request.now.call.now (sym c.is_request.ensures ∙ e)
           ∙ (λ k. entry.Ask (number_is c k) (yields_of l.queue next) (call_of_instance task (c.names-names.ensures k) next));
     }
 
@@ -38,7 +38,7 @@ returns-in-Some-clause-no c = λ n.
     let next = c.in-Some.next.now in
     let same : n.instance ≡ next = some_is n.instance next (sym n.head ∙ head_is c) in
     c.is_request.ensures
-    ∙ same_no task c.names-names.result.now l.queue (c.len.result + 1) next c.args.number c.args.turn c.args.call.now
+    ∙ same_no task c.names-names.result.now l.queue (c.len.result + 1) next c.args.request.now.number c.args.request.now.turn c.args.request.now.call.now
     (n.is
     ∙ (λ k. entry.Ask (sym (number_is c) k)
     (yields_of l.queue (same k)) (call_of_instance task (sym c.names-names.ensures k) (same k))))
