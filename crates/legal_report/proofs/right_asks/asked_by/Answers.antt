@@ -17,7 +17,7 @@ returns-then-may_ask c = λ version before h.
     ap (λ (k : Known). instance_of task k.names c.args.request.now.call.now) (sym h.known) ∙ sym c.in_ok-instance.ensures ∙ c.in-Some.is in (
       passes version task before c.args.knowledge.now h c.args.request.now.number c.args.request.now.turn c.args.request.now.call.now i named
           (sym c.may_ask.ensures ∙ c.if-may_ask.true),
-      c.if-number-calls.false,
+      c.if-request-calls.false,
       named,
     )
 
