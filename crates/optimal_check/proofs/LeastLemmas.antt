@@ -15,9 +15,9 @@ pub unflawed : (task : Task) (r : Report) → IsFormed r → IsSoundTranscript r
 unflawed task r formed sound line Text bad = bad.stops.wrong
 unflawed task r formed sound line Ask bad =
     not_refused task (text_of_report r) r.entries line Ask
-    (record { report = r; formed = formed; spelled = refl; so = (refl, sound) })
-    (record { report = r; formed = formed; spelled = refl; so = bad })
+    (record { report = r; formed = formed; spelled = refl; said = (refl, sound) })
+    (record { report = r; formed = formed; spelled = refl; said = bad })
 unflawed task r formed sound line Answer bad =
     not_refused task (text_of_report r) r.entries line Answer
-    (record { report = r; formed = formed; spelled = refl; so = (refl, sound) })
-    (record { report = r; formed = formed; spelled = refl; so = bad })
+    (record { report = r; formed = formed; spelled = refl; said = (refl, sound) })
+    (record { report = r; formed = formed; spelled = refl; said = bad })
