@@ -86,6 +86,27 @@ def lamps(count, goal):
     return task(domain, f"(define (problem p) (:domain d) (:objects {names}) (:init) (:goal {goal}))\n")
 
 
+def dear_lamps(count):
+    """Returns the same task, where turning a lamp on costs what a function says of it, and the goal is never reached."""
+    domain = """(define (domain d) (:predicates (on ?x) (never)) (:functions (price ?x) - number (total-cost) - number)
+  (:action turn :parameters (?x) :precondition (not (on ?x)) :effect (and (on ?x) (increase (total-cost) (price ?x)))))\n"""
+    names = [f"l{n}" for n in range(count)]
+    prices = " ".join(f"(= (price {name}) {n})" for n, name in enumerate(names))
+    return task(domain, f"""(define (problem p) (:domain d) (:objects {' '.join(names)}) (:init {prices})
+  (:goal (never)) (:metric minimize (total-cost)))\n""")
+
+
+def priced(count, goal):
+    """Returns a task of things to be bought, whose prices a cost stream gives."""
+    domain = """(define (domain d) (:predicates (item ?x) (bought ?x) (never)) (:functions (price ?x) - number (total-cost) - number)
+  (:action buy :parameters (?x) :precondition (item ?x) :effect (and (bought ?x) (increase (total-cost) (price ?x)))))\n"""
+    streams = "(define (stream s) (:cost-stream ask :inputs (?x) :domain (item ?x) :value (price ?x)))\n"
+    names = [f"o{n}" for n in range(count)]
+    facts = " ".join(f"(item {name})" for name in names)
+    return task(domain, f"""(define (problem p) (:domain d) (:objects {' '.join(names)}) (:init {facts}) (:goal {goal})
+  (:metric minimize (total-cost)))\n""", streams)
+
+
 def chain(goal):
     """Returns a counter of five digits: 100,000 states, each with one step to the next."""
     places, digits = [f"p{n}" for n in range(5)], [f"n{n}" for n in range(10)]
@@ -148,6 +169,7 @@ def inputs():
                       """(define (stream s) (:stream mk :inputs (?x) :domain (s ?x) :outputs (?y) :certified (p ?y))
   (:stream pair :inputs (?x ?y) :domain (and (p ?x) (p ?y)) :certified (q ?x ?y)))\n"""),
         "walks": walks(1000), "walks-20": walks(20_000), "hops": hops(1000), "hops-20": hops(20_000),
+        "dear-lamps": dear_lamps(16), "prices": priced(10_000, "(never)"), "one-price": priced(10_000, "(bought o0)"),
         "three-lamps": lamps(23, "(and (on l0) (on l1) (on l2))"), "lamps": lamps(16, "(never)"),
         "chain": chain("(never)"), "derived": chain("(over)"), "ends": chain(f"(and {ends})"),
         "objects": large(objects, "", "()"), "refused": large(objects, "", "(nope)"),
@@ -179,6 +201,9 @@ ROWS = [  # the row, the command, the task, further words
     ("the same over 20,000 objects", "solve", "hops-20", NEVER),
     ("three lamps among 23, within 200 states", "solve", "three-lamps", ["--states", "200", *NEVER]),
     ("lamps, 65,536 states", "solve", "lamps", NEVER),
+    ("the same, each at a price of its own", "solve", "dear-lamps", NEVER),
+    ("a cost stream, 10,000 requests in a level", "solve", "prices", ["--", "yes", "value 1"]),
+    ("a dream over 10,000 prices, focused", "solve", "one-price", ["--algorithm", "focused", "--", "yes", "value 1"]),
     ("a chain of 100,000 states", "solve", "chain", NEVER),
     ("the same with a derived goal", "solve", "derived", NEVER),
     ("the same past its limit of states", "solve", "chain", ["--states", "99999", *NEVER]),

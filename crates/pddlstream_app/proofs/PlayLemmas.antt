@@ -132,8 +132,8 @@ module _ (words : List (List ℕ)) (outside : Outside) (files : FileMap) (asked 
   writes_safe told meant has text (inr (inr h)) = fault_not_invalid words outside text h
 
 -- however a run ends that ends as it says
-pub plays_safely : {Same : Type 0} (words : List (List ℕ)) (outside : Outside) (written : Written) (status : Status)
+pub plays_safely : (words : List (List ℕ)) (outside : Outside) (Same : Type 0) (written : Written) (status : Status)
     → Ends words outside Same written status → PlaysSafely words outside.files.told status
-plays_safely {Same} words outside written status ends files asked told meant has invalid =
+plays_safely words outside Same written status ends files asked told meant has invalid =
     let all = taken_all words outside Same written Invalid refl (subst (Ends words outside Same written) invalid ends) in
     writes_safe words outside files asked told meant has all.text all.writes

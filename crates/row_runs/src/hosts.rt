@@ -65,8 +65,9 @@ pub(crate) fn run_row(rt: &HostRuntime, draft: &mut Draft) -> io::Result<Box<Ran
     }
     add_idle(&mut members, Box::new(alloc, GridGen::new(alloc))?)?;
     let is_sure = draft.replies.has_some();
+    let is_whole = matches!(draft.log, Log::Calls);
     let replies = mem::replace(&mut draft.replies, Replies::new(alloc));
     let host = EitherHost::new(draft.talk.take(), BoxHost::new(members), draft.is_real);
     let host = EitherHost::new(host, SureHost::new(alloc, replies), is_sure);
-    run_over(draft, &mut NotingHost::new(host, draft.log == Log::Calls))
+    run_over(draft, &mut NotingHost::new(host, is_whole))
 }

@@ -49,11 +49,11 @@ returns-then-is_write-clause-no_plan g c = λ e. absurd (cc)
 
 pub returns-in-Ok-clause-safe : goal.returns-in-Ok-clause-safe
 returns-in-Ok-clause-safe g c =
-    plays_safely _ _ _ c.in-Ok.status (returns-in-Ok-clause-ends g c).ends
+    plays_safely _ _ _ _ c.in-Ok.status (returns-in-Ok-clause-ends g c).ends
 
 pub returns-else-is_write-clause-safe : goal.returns-else-is_write-clause-safe
 returns-else-is_write-clause-safe g c =
-    plays_safely _ _ _ c.close.result (returns-else-is_write-clause-ends g c).ends
+    plays_safely _ _ _ _ c.close.result (returns-else-is_write-clause-ends g c).ends
 
 pub returns-then-is_write-clause-safe : goal.returns-then-is_write-clause-safe
 returns-then-is_write-clause-safe g c = λ files asked told meant has e. absurd (cc)
