@@ -202,7 +202,7 @@ ROWS = [  # the row, the command, the task, further words
     ("three lamps among 23, within 200 states", "solve", "three-lamps", ["--states", "200", *NEVER]),
     ("lamps, 65,536 states", "solve", "lamps", NEVER),
     ("the same, each at a price of its own", "solve", "dear-lamps", NEVER),
-    ("a cost stream, 10,000 requests in a level", "solve", "prices", ["--", "yes", "value 1"]),
+    ("a cost stream, 10,000 requests in a level", "solve", "prices", ["--", "sed", "-u", "s/.*/value 1/"]),
     ("a dream over 10,000 prices, focused", "solve", "one-price", ["--algorithm", "focused", "--", "yes", "value 1"]),
     ("a chain of 100,000 states", "solve", "chain", NEVER),
     ("the same with a derived goal", "solve", "derived", NEVER),
