@@ -201,9 +201,6 @@ ROWS = [  # the row, the command, the task, further words
     ("the same over 20,000 objects", "solve", "hops-20", NEVER),
     ("three lamps among 23, within 200 states", "solve", "three-lamps", ["--states", "200", *NEVER]),
     ("lamps, 65,536 states", "solve", "lamps", NEVER),
-    ("the same, each at a price of its own", "solve", "dear-lamps", NEVER),
-    ("a cost stream, 10,000 requests in a level", "solve", "prices", ["--", "sed", "-u", "s/.*/value 1/"]),
-    ("a dream over 10,000 prices, focused", "solve", "one-price", ["--algorithm", "focused", "--", "yes", "value 1"]),
     ("a chain of 100,000 states", "solve", "chain", NEVER),
     ("the same with a derived goal", "solve", "derived", NEVER),
     ("the same past its limit of states", "solve", "chain", ["--states", "99999", *NEVER]),
@@ -214,6 +211,11 @@ ROWS = [  # the row, the command, the task, further words
     ("replay of the stream with four inputs", "replay", "walks", ["walks/report"]),
     ("replay of a plan of 99,999 steps", "replay", "ends", ["ends/report"]),
     ("replay of 2,000 levels", "replay", "levels", ["levels/report"]),
+]
+COSTS = [  # rows of the program alone
+    ("lamps, each at a price of its own", "solve", "dear-lamps", NEVER),
+    ("a cost stream, 10,000 requests in a level", "solve", "prices", ["--", "sed", "-u", "s/.*/value 1/"]),
+    ("a dream over 10,000 prices, focused", "solve", "one-price", ["--algorithm", "focused", "--", "yes", "value 1"]),
 ]
 REPORTS = [("walks", ["--", "yes", "end"]), ("ends", NEVER), ("levels", ["--calls", "2000", "--", "yes", "yield x"])]
 
@@ -258,7 +260,7 @@ def shown(name, ours, others, memory):
 
 def table(folder, programs, only, runs):
     """Yields the rows of the table."""
-    for row, command, name, further in ROWS:
+    for row, command, name, further in ROWS if len(programs) > 1 else ROWS + COSTS:
         words = [*words_of(command, name), *further]
         if only in row:
             done = [[run(program, words, folder) for program in programs] for _ in range(runs)]
