@@ -2,7 +2,8 @@
 """Measures what the gate costs, and writes the table of docs/PERFORMANCE.md ('What the gate costs').
 
   bench/gate.py run [--log FILE]    runs `rt ci` at the top of the repository, and writes its log and the table
-  bench/gate.py table LOG           writes the table of a log that `run` wrote
+  bench/gate.py table LOG [LOG..]   writes the table of a log that `run` wrote, or of a run in parts: each over what those
+                                    before it passed, so that of a check which two of them made the later counts
 
 What `rt ci` prints has no times. So `run` looks every two seconds at the processes below it, and takes the processor
 time of each check as it was when last seen: of a check in crates/NAME it is the crate's proof, or its tests where it
@@ -29,7 +30,7 @@ ROOT = os.path.dirname(os.path.dirname(os.path.realpath(__file__)))
 KINDS = ("proof", "tests", "first", "edits")
 
 Process = collections.namedtuple("Process", "pid parent seconds words folder")
-Costs = collections.namedtuple("Costs", "minutes whole wall edits said")
+Costs = collections.namedtuple("Costs", "minutes whole wall edits said parts")
 
 
 # ---- looking at processes
@@ -165,7 +166,23 @@ def read_log(file):
                 said = re.search(r"\d+ passed, \d+ failed", line)[0]
     if not minutes:
         sys.exit(f"{file} has no line 'cost NAME KIND SECONDS': only 'bench/gate.py run' writes such a log")
-    return Costs(minutes, whole, wall, edits, said)
+    return Costs(minutes, whole, wall, edits, said, 1)
+
+
+def listed_crates():
+    """Returns the names of the crates that crates.txt lists."""
+    with open(f"{ROOT}/crates.txt", encoding="utf-8") as lines:
+        return {line.split(":")[0].split()[0] for line in lines if ":" in line.partition("#")[0]}
+
+
+def join_logs(files):
+    """Returns what the logs of a run in parts say together. A crate that isn't listed any more doesn't count."""
+    parts, listed = [read_log(it) for it in files], listed_crates()
+    minutes = collections.defaultdict(float)
+    for part in parts:
+        minutes.update({key: it for key, it in part.minutes.items() if key[0] in listed})
+    sums = [sum(it) for it in zip(*((part.whole, part.wall, part.edits) for part in parts))]
+    return Costs(minutes, *sums, parts[-1].said, len(parts))
 
 
 def told(minutes):
@@ -192,11 +209,12 @@ def show_table(costs):
     proof, tests, first, edits = (sum(m for (_, k), m in costs.minutes.items() if k == kind) for kind in KINDS)
     crates = len({name for name, kind in costs.minutes if kind == "first"})
     together = proof + tests + first + edits
+    parts = f" in {costs.parts} parts" if costs.parts > 1 else ""
     print(f"""
 Together {together:.0f} processor minutes: {proof:.0f} for proofs and programs, {tests:.0f} for tests, {first:.0f} for the
 first edits of the {crates} crates that have some, each a proof from nothing, and {edits:.0f} for the other edits and the
 checks behind a crate's last ({costs.edits} edits in all). The kernel counted {costs.whole:.0f} for all that `rt ci` did.
-It took {costs.wall:.0f} minutes, and its last line is `{costs.said or 'missing'}`.""")
+It took {costs.wall:.0f} minutes{parts}, and its last line is `{costs.said or 'missing'}`.""")
 
 
 def main():
@@ -205,10 +223,13 @@ def main():
     run = verbs.add_parser("run", help="run the gate, and write its log and the table")
     run.add_argument("--log", default="/tmp/gate.log", metavar="FILE", help="the log (default: /tmp/gate.log)")
     run.add_argument("--every", type=float, default=2.0, metavar="SECONDS", help="how often to look (default: 2)")
-    table = verbs.add_parser("table", help="write the table of a log")
-    table.add_argument("log", metavar="LOG")
+    table = verbs.add_parser("table", help="write the table of a log, or of the logs of a run in parts")
+    table.add_argument("logs", nargs="+", metavar="LOG")
     asked = words.parse_args()
-    status = run_gate(asked.log, asked.every) if asked.verb == "run" else 0
+    if asked.verb == "table":
+        show_table(join_logs(asked.logs))
+        return 0
+    status = run_gate(asked.log, asked.every)
     show_table(read_log(asked.log))
     return status
 

@@ -2,7 +2,7 @@
 use Rattle.std.proofs.Common.{ℕ, ◌+◌, inl, inr, List, map, take, sym, ap, ◌∙◌, slice_get, Some}
 use Rattle.std.proofs.lemmas.List.{take-map}
 use Rattle.dream_check.specs.Lines.{IsChosen, IsWrongLine}
-use Rattle.dream_laws.proofs.SupportLemmas.{support_front}
+use Rattle.turn_laws.proofs.DreamSupportLemmas.{support_front}
 use Rattle.lemmas.proofs.Members.{from_take}
 use Rattle.shown_steps.proofs.PlansLemmas.{front_can, plan_can}
 use Rattle.shown_steps.specs.Plans.{IsPlan}

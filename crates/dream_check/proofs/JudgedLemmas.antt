@@ -1,6 +1,6 @@
 -- Whether no plan rests on what is supposed, from what is reached over the list.
 use Rattle.std.proofs.Common.{◌≡◌, ℕ, ◌≤◌, ◌⊎◌, arith, inl, inr, Bool, true, false, List, length, sym, ap, subst, ◌∙◌, Option, None, Some}
-use Rattle.dream_laws.proofs.ListLemmas.{more_come, supposed_once}
+use Rattle.turn_laws.proofs.DreamListLemmas.{more_come, supposed_once}
 use Rattle.dreaming.specs.Parts.{IsListed}
 use Rattle.optimistic_set.specs.Dreamable.{Dreamable}
 use Rattle.task_model.specs.Dreams as dreams

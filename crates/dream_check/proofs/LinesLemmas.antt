@@ -4,8 +4,8 @@ use Rattle.std.proofs.lemmas.Bool.{cases_lt}
 use Rattle.std.proofs.lemmas.List.{take-take}
 use Rattle.std.proofs.lemmas.List.Elements.{All-cons, All-nil}
 use Rattle.std.proofs.lemmas.Option.{slice_get_within}
-use Rattle.dream_laws.proofs.DreamLemmas.{places_same, somes_same}
-use Rattle.dream_laws.proofs.ListLemmas.{more_come, supposed_once}
+use Rattle.turn_laws.proofs.DreamLemmas.{places_same, somes_same}
+use Rattle.turn_laws.proofs.DreamListLemmas.{more_come, supposed_once}
 use Rattle.dreaming.proofs.KeptLemmas.{without_is}
 use Rattle.dreaming.proofs.PartLemmas.{plain_few}
 use Rattle.dreaming.proofs.PlacesLemmas.{AreBelow, chosen_at, entry_of_list, length-entries_at}

@@ -8,8 +8,8 @@ use Rattle.std.proofs.lemmas.Option.{same_Some, slice_get_within}
 use Rattle.std.specs.Cmp.{nat_cmp_is}
 use Rattle.std.specs.Ordering.{nat_cmp}
 use Rattle.std.specs.declared.cmp.Ordering.TheVariants.{Less, Equal, Greater}
-use Rattle.dream_laws.proofs.DreamLemmas.{places_same}
-use Rattle.dream_laws.proofs.SupportLemmas.{support_front, support_none, support_pushed}
+use Rattle.turn_laws.proofs.DreamLemmas.{places_same}
+use Rattle.turn_laws.proofs.DreamSupportLemmas.{support_front, support_none, support_pushed}
 use Rattle.dreaming.proofs.KeptLemmas.{below_push}
 use Rattle.dreaming.proofs.PlacesLemmas.{AreBelow, AreBefore, ascend_front, ascend_push, at_place, below_front, entries_front, entries_pushed}
 use Rattle.dreaming.specs.Parts.{entries_at}

@@ -8,8 +8,8 @@ use Rattle.std.specs.List.{list_any, list_all, flat_map}
 use Rattle.std.proofs.lemmas.Result.{IfOk-weaker}
 use Rattle.std.specs.Prelude.{IfOk}
 use Rattle.learning.proofs.OutputsLemmas.{names_grow}
-use Rattle.dream_laws.proofs.FreshLemmas.{each_is_fresh}
-use Rattle.dream_laws.proofs.ListLemmas.{list_supported}
+use Rattle.turn_laws.proofs.DreamFreshLemmas.{each_is_fresh}
+use Rattle.turn_laws.proofs.DreamListLemmas.{list_supported}
 use Rattle.lemmas.proofs.ListTests.{all_at, all_by_place, all_one}
 use Rattle.optimistic_set.specs.Dreamable.{Dreamable, AreReal}
 use Rattle.optimistic_set.specs.Entries.{ArePlainEntries}

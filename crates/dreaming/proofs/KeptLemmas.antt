@@ -8,7 +8,7 @@ use Rattle.std.specs.List.{cons_option}
 use Rattle.std.specs.Ordering.{nat_cmp}
 use Rattle.std.specs.Prelude.{Bool}
 use Rattle.std.specs.declared.cmp.Ordering.TheVariants.{Less, Equal}
-use Rattle.dream_laws.proofs.SupportLemmas.{support_none, support_front, support_after}
+use Rattle.turn_laws.proofs.DreamSupportLemmas.{support_none, support_front, support_after}
 use Rattle.lemmas.proofs.Ascending.{contains_none, contains_cases, contains_later}
 use Rattle.lemmas.proofs.ListTests.{get_there, all_by_place}
 use Rattle.lemmas.proofs.Members.{push_cases, get_single, from_take, place_of}

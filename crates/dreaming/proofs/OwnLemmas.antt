@@ -1,7 +1,7 @@
 -- No placeholder has the name of another object.
 use Rattle.std.proofs.Common.{◌++◌, ◌≤◌, List, length}
 use Rattle.learning.proofs.FitStreamLemmas.{fit_parts}
-use Rattle.dream_laws.proofs.FreshLemmas.{few_outputs}
+use Rattle.turn_laws.proofs.DreamFreshLemmas.{few_outputs}
 use Rattle.lemmas.specs.Lists.{AreDistinct}
 use Rattle.optimistic_set.proofs.PlaceholderLemmas.{names_distinct}
 use Rattle.task_model.specs.Dreams as dreams

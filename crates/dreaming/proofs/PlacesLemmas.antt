@@ -7,7 +7,7 @@ use Rattle.std.specs.Cmp.{nat_cmp_is}
 use Rattle.std.specs.List.{cons_option}
 use Rattle.std.specs.Ordering.{nat_cmp}
 use Rattle.std.specs.declared.cmp.Ordering.TheVariants.{Less}
-use Rattle.dream_laws.proofs.DreamLemmas.{somes_same}
+use Rattle.turn_laws.proofs.DreamLemmas.{somes_same}
 use Rattle.lemmas.proofs.Ascending.{contains_none, contains_cases, contains_here, contains_later}
 use Rattle.lemmas.proofs.ListTests.{get_there, all_by_place}
 use Rattle.lemmas.proofs.Members.{push_cases, get_behind, get_single, from_take, member_at}

@@ -5,7 +5,7 @@ use Rattle.std.proofs.lemmas.List.{length-map, map-append, map_more}
 use Rattle.std.proofs.lemmas.Option.{slice_get_within}
 use Rattle.task_model.proofs.KnownLemmas.{below_names}
 use Rattle.std.specs.Ordering.{nat_cmp}
-use Rattle.dream_laws.proofs.NamesFreeLemmas.{valid_same}
+use Rattle.turn_laws.proofs.DreamNamesFreeLemmas.{valid_same}
 use Rattle.lemmas.specs.Lists.{AreAscending, numbers_from}
 use Rattle.optimistic_set.specs.Dreamable.{Dreamable}
 use Rattle.task_model.specs.Dreams as dreams

@@ -2,8 +2,8 @@
 use Rattle.std.proofs.Common.{◌≡◌, ℕ, zero, suc, ◌⊎◌, inl, inr, Bool, true, false, List, [], ◌∷◌, take, set, replicate, get_or, refl, sym, ap, subst, Some, slice_get, Contains}
 use Rattle.std.specs.Cmp.{first_so, second_so}
 use Rattle.std.specs.List.{flat_map}
-use Rattle.dream_laws.proofs.FreshLemmas.{one_owner, owner_there}
-use Rattle.dream_laws.proofs.SupportLemmas.{stream_of}
+use Rattle.turn_laws.proofs.DreamFreshLemmas.{one_owner, owner_there}
+use Rattle.turn_laws.proofs.DreamSupportLemmas.{stream_of}
 use Rattle.lemmas.proofs.Ascending.{contains_none, contains_cases, from_flat_map}
 use Rattle.lemmas.proofs.Members.{from_take, member_at, place_of}
 use Rattle.optimistic_set.specs.Dreamable.{Dreamable}

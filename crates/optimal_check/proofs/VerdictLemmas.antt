@@ -21,12 +21,12 @@ use Rattle.transcript_model.specs.declared.outcome.Origin.{Origin}
 use Rattle.transcript_model.specs.declared.outcome.Outcome.TheVariants as outcome
 use Rattle.transcript_model.specs.declared.report.Report.{Report}
 use Rattle.optimal_check.specs.Least.{IsLeastFound}
-use Rattle.optimal_check.specs.Verdicts.{IsDear, ShowsPlan}
+use Rattle.optimal_check.specs.Verdicts.{IsDear, ShowsRightPlan}
 
 -- ---- what is found
 
 module _ (limit : ℕ) (task : Task) (right : RightReport) (steps : List Call) (cost : ℕ)
-    (shown : ShowsPlan task right steps cost) where
+    (shown : ShowsRightPlan task right steps cost) where
   pub dear_found : (plan : Plan) (least : ℕ) → IsLeastFound task right.facts.known limit (found.Plan plan least)
       → least < cost
       → IsDear task right.report cost

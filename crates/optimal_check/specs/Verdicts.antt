@@ -18,8 +18,8 @@ use Rattle.transcript_model.specs.declared.outcome.Outcome.TheVariants as outcom
 use Rattle.transcript_model.specs.declared.report.Report.{Report}
 
 -- the line of the cost, where the report shows a plan of these steps
-abbrev pub cost_line : Report → List Call → ℕ
-cost_line r steps = outcome_line r + length steps + 1
+abbrev pub place_of_cost : Report → List Call → ℕ
+place_of_cost r steps = outcome_line r + length steps + 1
 
 -- a valid plan over what the report certifies costs less
 abbrev pub IsDear : Task → Report → ℕ → Type 0
@@ -27,7 +27,7 @@ IsDear task r cost =
     (others : List GroundAction) × (other : ℕ) × IsValid task (known_of task r.entries) others other × (other < cost)
 
 -- The report shows a valid plan of these steps, and what its answers certify is known.
-pub record ShowsPlan (task : Task) (right : RightReport) (steps : List Call) (cost : ℕ) : Type 0 where
+pub record ShowsRightPlan (task : Task) (right : RightReport) (steps : List Call) (cost : ℕ) : Type 0 where
   pub known : right.facts.known ≡ known_of task right.report.entries
   pub valid : (taken : List GroundAction) × IsValid task (known_of task right.report.entries) taken cost
   pub lines : length (lines_of_report right.report) < 2 ^ 31
@@ -37,7 +37,7 @@ pub record ShowsPlan (task : Task) (right : RightReport) (steps : List Call) (co
 -- reached.
 abbrev pub IsCostSaid : ℕ → Task → Report → List Call → ℕ → Verdict → Type 0
 IsCostSaid limit task r steps cost Valid = IsLeastCost task (known_of task r.entries) cost
-IsCostSaid limit task r steps cost (Invalid line k) = (line ≡ cost_line r steps) × (k ≡ kind.Cost) × IsDear task r cost
+IsCostSaid limit task r steps cost (Invalid line k) = (line ≡ place_of_cost r steps) × (k ≡ kind.Cost) × IsDear task r cost
 IsCostSaid limit task r steps cost Limit = MoreThan limit (IsReached task (known_of task r.entries))
 
 -- the same of a report that shows a plan; nothing is wrong with the cost of another one

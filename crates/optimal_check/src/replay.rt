@@ -1,6 +1,6 @@
 //! Reports, replayed, with the cost of the plan.
 ghost use Rattle.std.specs.Prelude.{◌≡◌, ◌+◌, ◌<◌, ◌≤◌, ◌^◌, IfOk, length};
-ghost use Rattle.optimal_check.specs.Verdicts.{IsCostSaid, IsCostVerdict, IsOutcomeSaid, ShowsPlan};
+ghost use Rattle.optimal_check.specs.Verdicts.{IsCostSaid, IsCostVerdict, IsOutcomeSaid, ShowsRightPlan};
 ghost use Rattle.replay_check.specs.Lines.{outcome_line};
 ghost use Rattle.replay_check.specs.Verdicts.{IsRightReport};
 ghost use Rattle.report_text.specs.Texts.{lines_of_report};
@@ -38,7 +38,7 @@ fn judge_cost(
     requires fit { IsFit task.now }
     requires some { 1 ≤ limit }
     requires few { limit ≤ MOST_STATES }
-    requires shown { ShowsPlan task.now right.now steps.now cost }
+    requires shown { ShowsRightPlan task.now right.now steps.now cost }
     ensures { IfOk result (IsCostSaid limit task.now right.now.report steps.now cost) }
 {
     match cheapest_known(alloc, task, &right.facts, limit)? {

@@ -4,10 +4,13 @@ use Rattle.std.specs.Prelude.{⊤}
 use Rattle.std.proofs.lemmas.List.{append-nil}
 use Rattle.io_world.specs.FileMap.{FileMap}
 use Rattle.io_world.specs.Faults.{Rose}
-use Rattle.plain_runs.specs.Laws.{IsSettledOutcome}
+use Rattle.io_world.specs.Talks.{Event}
+use Rattle.turn_laws.specs.PlainLaws.{IsSettledOutcome}
+use Rattle.restart_runs.specs.Tabled.{AnsweredAgain, IsRanAgain}
 use Rattle.task_model.specs.declared.task.Task.{Task}
-use Rattle.transcript_model.specs.Plain.{IsPlainRun, PlainEnd, end_of, no_plan, plan}
-use Rattle.transcript_model.specs.Tables.{Answers}
+use Rattle.transcript_model.specs.Plain.{IsAsPlain, IsPlainRun, PlainEnd, end_of, no_plan, plan}
+use Rattle.transcript_model.specs.Tables.{Answers, IsBounded}
+use Rattle.transcript_model.specs.declared.head.Mode.TheVariants.{Incremental}
 use Rattle.transcript_model.specs.declared.outcome.LimitKind.TheVariants.{States}
 use Rattle.transcript_model.specs.declared.outcome.Outcome.{Outcome}
 use Rattle.transcript_model.specs.declared.outcome.Outcome.TheVariants as outcome
@@ -113,37 +116,54 @@ same_command : (words : List (List ℕ)) (a b : Command) → command_of words �
 same_command words a b x y = let both = sym x ∙ y in cc
 
 -- where a task is to be solved the command doesn't answer
-no_answer : {words : List (List ℕ)} {outside : Outside} {status : Status} {text : List ℕ} (asked : SolveWords)
+pub no_answer : {words : List (List ℕ)} {outside : Outside} {status : Status} {text : List ℕ} (asked : SolveWords)
     → command_of words ≡ Some (solve asked) → HasAnswer words outside status text → ⊥
 no_answer {words} {outside} {status} {text} asked meant h =
     subst (λ c. AnswerOf c h.answer.texts status text) (same_command words h.command (solve asked) h.meant meant) h.answer.so
 
 -- ---- outcomes that are no limit
 
+-- it is as the plain run over the answers
+abbrev IsPlainFor : {words : List (List ℕ)} {outside : Outside} {status : Status} {text : List ℕ} → Answers
+    → HasOutcome words outside status text → Type 0
+IsPlainFor answers h =
+    h.run.head.mode ≡ Incremental → ¬ (h.outcome ≡ outcome.Limit States)
+    → IsAsPlain h.run.task answers h.run.head.calls h.run.entries h.outcome
+
 -- the plain run over the answers ends so, where the outcome does and isn't the limit of states
 plain_ends : {words : List (List ℕ)} {outside : Outside} {status : Status} {text : List ℕ} (answers : Answers) (end : PlainEnd)
-    → AreGivenAnswers words outside answers → (h : HasOutcome words outside status text) → ¬ (h.outcome ≡ outcome.Limit States)
+    → (h : HasOutcome words outside status text) → IsPlainFor answers h → ¬ (h.outcome ≡ outcome.Limit States)
     → end_of h.outcome ≡ Some end → EndsPlain words outside.files.told answers end
-plain_ends answers end given h known_end is = record {
+plain_ends answers end h as_so known_end is = record {
   run = h.run;
   plain = λ mode.
-      let p = h.tabled.plain answers (given.said h.run h.outcome h.turns h.talks) mode known_end in
+      let p = as_so mode known_end in
       let both : Some p.end ≡ Some end = sym p.ends ∙ is in
       let same : p.end ≡ end = cc in
       (p.plain, subst (IsPlainRun h.run.task answers h.run.head.calls [] p.plain) same p.run);
 }
 
 outcome_settles : {words : List (List ℕ)} {outside : Outside} {status : Status} {text : List ℕ} (answers : Answers)
-    → AreGivenAnswers words outside answers → (h : HasOutcome words outside status text) (o : Outcome) → h.outcome ≡ o
+    → (h : HasOutcome words outside status text) → IsPlainFor answers h → IsSettledOutcome h.outcome → (o : Outcome) → h.outcome ≡ o
     → SettlesBy words outside.files.told answers (outcome_status o)
-outcome_settles answers given h (outcome.Plan steps cost from) is =
-    plain_ends answers plan given h
+outcome_settles answers h as_so settled (outcome.Plan steps cost from) is =
+    plain_ends answers plan h as_so
     (λ far. absurd (let no : outcome.Plan steps cost from ≡ outcome.Limit States = sym is ∙ far in cc)) (ap end_of is)
-outcome_settles answers given h outcome.NoPlan is =
-    plain_ends answers no_plan given h
+outcome_settles answers h as_so settled outcome.NoPlan is =
+    plain_ends answers no_plan h as_so
     (λ far. absurd (let no : outcome.NoPlan ≡ outcome.Limit States = sym is ∙ far in cc)) (ap end_of is)
-outcome_settles answers given h (outcome.Limit kind) is =
-    absurd (subst IsSettledOutcome is (h.tabled.settled answers (given.said h.run h.outcome h.turns h.talks) (given.few h.run)))
+outcome_settles answers h as_so settled (outcome.Limit kind) is = absurd (subst IsSettledOutcome is settled)
+
+-- so where children answer by a table in each of their lives
+pub again_settles : {words : List (List ℕ)} {outside : Outside} {status : Status} {text : List ℕ} (answers : Answers)
+    → (h : HasOutcome words outside status text) (was now : Option (List Event))
+    → IsRanAgain h.run.task h.run.head h.run.entries was now h.outcome
+    → AnsweredAgain h.run.head.version h.run.task answers was now
+    → IsBounded h.run.head.version h.run.task answers h.run.head.calls h.run.head.states
+    → SettlesBy words outside.files.told answers status
+again_settles {words} {outside} answers h was now ran said few =
+    subst (SettlesBy words outside.files.told answers) h.kind
+    (outcome_settles answers h (ran.tabled.plain answers said) (ran.tabled.settled answers said few) h.outcome refl)
 
 module _ {words : List (List ℕ)} {outside : Outside} {host_rose sink_rose : Type 0}
     (well : GoesWell words outside host_rose sink_rose) where
@@ -313,7 +333,10 @@ module _ {words : List (List ℕ)} {outside : Outside} {host_rose sink_rose : Ty
     where
       of : HasOutcome words outside status c.text ⊎ HasAnswer words outside status c.text
           → SettlesBy words outside.files.told answers status
-      of (inl h) = subst (SettlesBy words outside.files.told answers) h.kind (outcome_settles answers given h h.outcome refl)
+      of (inl h) =
+          let said = given.said h.run h.outcome h.turns h.talks in
+          subst (SettlesBy words outside.files.told answers) h.kind
+          (outcome_settles answers h (h.tabled.plain answers said) (h.tabled.settled answers said (given.few h.run)) h.outcome refl)
       of (inr h) = absurd (no_answer asked well.meant h)
 
 -- ---- last lines
@@ -350,13 +373,20 @@ module _ {words : List (List ℕ)} {outside : Outside} {host_rose sink_rose : Ty
   pub completes_closed : (before after : Written) (why : Stop) (status : Status) → IsBeforeLast words outside before why
       → (why ≡ stop.Run fault.Generator → host_rose) → (status ≡ WriteFault → sink_rose) → ClosesRun why after status
       → Completes words outside host_rose sink_rose status
-  completes_closed before after why status last host sink closes = record {
-    ends = λ well.
-        answered_close EndsWell tt why after status (stops_for_memory well before why last host) (λ e. well.written (sink e)) closes;
-    settles = λ answers well given.
-        answered_close (SettlesBy words outside.files.told answers) tt why after status (stops_for_memory well before why last host)
-        (λ e. well.written (sink e)) closes;
-  }
+      × ((answers : Answers) → GoesWell words outside host_rose sink_rose → SettlesBy words outside.files.told answers status)
+  completes_closed before after why status last host sink closes = (
+    record {
+      ends = λ well.
+          answered_close EndsWell tt why after status (stops_for_memory well before why last host) (λ e. well.written (sink e)) closes;
+      settles = λ answers well given. settled answers well;
+    },
+    settled,
+  )
+    where
+      settled : (answers : Answers) → GoesWell words outside host_rose sink_rose → SettlesBy words outside.files.told answers status
+      settled answers well =
+          answered_close (SettlesBy words outside.files.told answers) tt why after status
+          (stops_for_memory well before why last host) (λ e. well.written (sink e)) closes
 
 -- a fault of the sink in the last line is one of the run
 pub sink_whole : (last before mid now : ℕ) (why : Stop) → before ≤ mid

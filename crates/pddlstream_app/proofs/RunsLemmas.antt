@@ -27,7 +27,7 @@ use Rattle.run_command.specs.Runs.{HasOutcome, IsPartOfRun, ProgramRun, outcome_
 use Rattle.command_files.specs.Stop.{is_write, is_write_fault, status_at, last_text}
 use Rattle.command_line.specs.Words.{SolveWords, command_of, solve}
 use Rattle.run_command.specs.Solving.{HasNoReport, IsPosed, IsSolved, SolvesRun}
-use Rattle.run_command.specs.Works.{Work, command_for, files_of, solving, words_of}
+use Rattle.run_command.specs.Works.{Work, command_for, files_of, solving, words_of_work}
 use Rattle.round_run.specs.declared.fault.RunFault.{RunFault}
 use Rattle.round_run.specs.declared.fault.RunFault.TheVariants as fault
 use Rattle.command_files.specs.declared.status.Status.{Status}
@@ -135,7 +135,7 @@ module _ (words : List (List ℕ)) (outside : Outside) where
 
   -- a task is to be solved, or made and solved
   module _ (work : Work) (meant : command_of words ≡ Some (command_for work)) (task : Task) (head : Head)
-      (posed : IsPosed (files_of outside.files.told work) (words_of work) task head) where
+      (posed : IsPosed (files_of outside.files.told work) (words_of_work work) task head) where
     abbrev run_with : (entries : List Entry) → IsLegal head.version task entries
         → ProgramRun words outside.files.told
     run_with entries legal = record {

@@ -1,8 +1,9 @@
 -- When a run has an outcome, and when that is no limit.
-use Rattle.std.specs.Prelude.{◌≡◌, ◌⊎◌, ℕ, List, [], Option, Some, ⊤}
+use Rattle.std.specs.Prelude.{◌≡◌, ◌⊎◌, ℕ, ◌<◌, List, [], Option, Some, ⊤}
 use Rattle.gen_lines.specs.declared.answer.Why.{Why}
 use Rattle.io_world.specs.FileMap.{FileMap}
 use Rattle.turn_run.specs.Reports.{IsRun}
+use Rattle.restart_runs.specs.Tabled.{AnsweredAgain}
 use Rattle.round_run.specs.Dialogue.{Dialogue, workers_in}
 use Rattle.table_runs.specs.Asking.{AnsweredBy}
 use Rattle.task_model.specs.declared.task.Task.{Task}
@@ -53,6 +54,14 @@ pub record AreGivenAnswers (words : List (List ℕ)) (outside : Outside) (answer
   pub few : (run : ProgramRun words outside.files.told)
       → IsBounded run.head.version run.task answers run.head.calls run.head.states
 
+-- The same by the log of the host, where children may have several lives: whichever run it was, each child answered so
+-- in each of its lives.
+pub record AreGivenAgain (words : List (List ℕ)) (outside : Outside) (answers : Answers) : Type 0 where
+  pub said : (run : ProgramRun words outside.files.told)
+      → AnsweredAgain run.head.version run.task answers outside.was outside.now
+  pub few : (run : ProgramRun words outside.files.told)
+      → IsBounded run.head.version run.task answers run.head.calls run.head.states
+
 -- the run has an outcome, or memory is wanting
 abbrev pub EndsWell : Status → Type 0
 EndsWell Plan = ⊤
@@ -83,9 +92,12 @@ pub record Completes (words : List (List ℕ)) (outside : Outside) (host_rose si
   pub settles : (answers : Answers) → GoesWell words outside host_rose sink_rose
       → AreGivenAnswers words outside answers → SettlesBy words outside.files.told answers status
 
--- The same, by what the run heard of its children.
+-- The same, by what the run heard of its children; and where they are started again, by what they answered in each of
+-- their lives.
 pub record CompletesBy (words : List (List ℕ)) (outside : Outside) (host_rose sink_rose : Type 0)
     (status : Status) : Type 0 where
   pub heard : Heard
   pub by : IsHeard (restarts_in words) ((status ≡ Memory) ⊎ (status ≡ WriteFault)) (heard_in outside) heard
   pub completes : Completes words (hearing outside.files heard) host_rose sink_rose status
+  pub again : (answers : Answers) → GoesWell words (hearing outside.files heard) host_rose sink_rose
+      → 0 < restarts_in words → AreGivenAgain words outside answers → SettlesBy words outside.files.told answers status

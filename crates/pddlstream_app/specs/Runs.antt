@@ -1,8 +1,9 @@
 -- What a run of the program is, what it writes, and how it ends.
-use Rattle.std.specs.Prelude.{◌≡◌, ◌⊎◌, ℕ, ◌<◌, ◌≤◌, List, [], ◌++◌, length, take, true, MatchBool, None, Some, Result, IfErr, IfOk, ⊤}
+use Rattle.std.specs.Prelude.{◌≡◌, ◌⊎◌, ℕ, zero, suc, ◌<◌, ◌≤◌, List, [], ◌++◌, length, take, true, MatchBool, None, Some, Result, IfErr, IfOk, ⊤}
 use Rattle.std.proofs.Common.{inl, inr}
 use Rattle.std.specs.Io.KnownBytes.{Appends}
 use Rattle.io_world.specs.Faults.{Rose}
+use Rattle.restart_runs.specs.Tabled.{IsRanAgain}
 use Rattle.round_run.specs.Calls.{LogStops}
 use Rattle.turn_run.specs.Reports.{last_begins}
 use Rattle.task_model.specs.declared.task.Task.{Task}
@@ -19,7 +20,7 @@ use Rattle.run_command.specs.Works.{Work, making, solving}
 use Rattle.round_run.specs.declared.fault.RunFault.{RunFault}
 use Rattle.round_run.specs.declared.fault.RunFault.TheVariants as fault
 use Rattle.command_files.specs.declared.status.Status.{Status}
-use Rattle.command_files.specs.declared.status.Status.TheVariants.{Usage, Input, ReadFault, WriteFault, Memory}
+use Rattle.command_files.specs.declared.status.Status.TheVariants.{GeneratorFault, Usage, Input, ReadFault, WriteFault, Memory}
 use Rattle.command_files.specs.declared.stop.Stop.{Stop}
 use Rattle.command_files.specs.declared.stop.Stop.TheVariants as stop
 use Rattle.run_command.specs.Runs.{HasOutcome, IsPartOfRun, shown_so_far}
@@ -127,13 +128,40 @@ abbrev pub LacksMemory : (words : List (List ℕ)) (outside : Outside) (Same : T
 LacksMemory words outside Same written WriteFault part = was_memory part.was
 LacksMemory words outside Same written status all = status ≡ Memory
 
--- How a run ends, by what it heard of its children.
+-- Where some failures of children are made good, and an outcome is written, the log of the host below is that of the
+-- run whose children are started again: each may have several lives.
+abbrev pub WritesAgain : {words : List (List ℕ)} {outside : Outside} {status : Status} {text : List ℕ}
+    → (restarts : ℕ) → (below : Heard) → RunWrites words outside status text → Type 0
+WritesAgain zero below writes = ⊤
+WritesAgain (suc more) below (inl h) = IsRanAgain h.run.task h.run.head h.run.entries below.was below.now h.outcome
+WritesAgain (suc more) below (inr other) = ⊤
+
+-- the same where it was to be written, and the sink failed
+abbrev pub ShowsAgain : {words : List (List ℕ)} {outside : Outside} {text : List ℕ}
+    → (restarts : ℕ) → (below : Heard) → WasShown words outside text → Type 0
+ShowsAgain restarts below (inl (other, writes)) = WritesAgain restarts below writes
+ShowsAgain restarts below (inr part) = ⊤
+
+abbrev pub EndsAgain : (restarts : ℕ) → (below : Heard) → (words : List (List ℕ)) (outside : Outside) (Same : Type 0)
+    (written : Written) (status : Status) → Ends words outside Same written status → Type 0
+EndsAgain restarts below words outside Same written WriteFault part = ShowsAgain restarts below part.was
+EndsAgain restarts below words outside Same written status all = WritesAgain restarts below all.writes
+
+-- How a run ends, by what it heard of its children; and what the log of their host has, where they are started again.
 pub record EndsBy (words : List (List ℕ)) (outside : Outside) (Same : Type 0) (written : Written) (status : Status)
     : Type 0 where
   pub heard : Heard
   pub ends : Ends words (hearing outside.files heard) Same written status
   pub by : IsHeard (restarts_in words) (LacksMemory words (hearing outside.files heard) Same written status ends)
       (heard_in outside) heard
+  pub again : EndsAgain (restarts_in words) (heard_in outside) words (hearing outside.files heard) Same written status ends
+
+-- the run ended by itself: by no fault of a generator or of the sink, and not for want of memory
+abbrev pub IsUnhindered : Status → Type 0
+IsUnhindered GeneratorFault = ⊥
+IsUnhindered WriteFault = ⊥
+IsUnhindered Memory = ⊥
+IsUnhindered status = ⊤
 
 -- The count has not fallen, and it rose where this is so.
 pub record Caused (IsSo : Type 0) (last before now : ℕ) : Type 0 where

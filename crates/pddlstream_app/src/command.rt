@@ -1,15 +1,15 @@
 //! The program's call.
-ghost use Rattle.std.specs.Prelude.{◌≡◌, ◌≤◌, ◌⊎◌, ℕ, suc, false, map, string_bytes, IfOk, IfErr, IsErrOf};
+ghost use Rattle.std.specs.Prelude.{◌≡◌, ◌≤◌, ◌⊎◌, ℕ, suc, false, map, string_bytes, IfOk, IfErr};
 ghost use Rattle.io_world.specs.Faults.{last_count, HasCause, Rose};
 ghost use Rattle.pddlstream_app.specs.Asked.{AsksAll, AsksBefore, AsksFiles, HasReadCause};
 ghost use Rattle.pddlstream_app.specs.Complete.{CompletesBy};
 ghost use Rattle.pddlstream_app.specs.Headline.{PrintsNoPlan, PrintsPlan};
 ghost use Rattle.command_files.specs.Outside.{outside_of, seen_of, written_of};
 ghost use Rattle.pddlstream_app.specs.Plays.{PlaysSafely};
-ghost use Rattle.pddlstream_app.specs.Runs.{Caused, ClosesRun, EndsBy, LeavesAnswers, LeavesHost, SparesHost, StandsBy, TellsStatus};
+ghost use Rattle.pddlstream_app.specs.Runs.{Caused, ClosesRun, EndsBy, IsUnhindered, LeavesAnswers, LeavesHost, SparesHost, StandsBy, TellsStatus};
 ghost use Rattle.restart_host.specs.Leads.{RoseBy};
 ghost use Rattle.round_run.specs.Told.{course};
-ghost use Rattle.run_command.specs.Heard.{AreTooMany, restarts_in};
+ghost use Rattle.run_command.specs.Heard.{AreCounted, AreMadeGood, AreTooMany, restarts_in};
 ghost use Rattle.round_run.specs.declared.fault.RunFault.TheVariants as fault;
 ghost use Rattle.command_files.specs.declared.status.Status.TheVariants.{GeneratorFault, NoPlan, Plan, ReadFault, WriteFault};
 ghost use Rattle.command_files.specs.declared.stop.Stop.TheVariants.{Run};
@@ -67,8 +67,8 @@ fn attempt<F: Files, H: Host, O: Sink>(
     ensures leaves { SparesHost (map string_bytes words.now) result host.old host.new }
     ensures host { HasCause (Run fault.Generator) H.last (H.faults host.old) (H.faults host.new)
         result }
-    ensures many { IsErrOf result (Run fault.Generator)
-        → AreTooMany (restarts_in (map string_bytes words.now)) (course H.Host host.old host.new) }
+    ensures failed { AreCounted (restarts_in (map string_bytes words.now))
+        (course H.Host host.old host.new) result }
     ensures sink { HasCause (Run fault.Write) last_count (O.faults out.old) (O.faults out.new)
         result }
     ensures asked { IfOk result (λ _. AsksAll (map string_bytes words.now)
@@ -140,7 +140,9 @@ pub fn run<F: Files, H: Host, O: Sink>(
     // and where no line stands that may have requests behind it only stops came. Where nothing was
     // asked in a run with an outcome, no call was made on a child, and the host itself is as it
     // was. With `--restarts R` above 0 all this is so of what the host tells that starts children
-    // again over this one (`IsHeard`).
+    // again over this one (`IsHeard`); and the log of this one has, of a run with an outcome, the
+    // calls of the run, whose children may have several lives, and the run comes to what they
+    // answer in each of their lives (`IsRanAgain`).
     ensures ends { EndsBy (map string_bytes words.now) (outside_of (seen_of F.told F.faults F.asked
         files.old files.new) H.spoken H.log host.old host.new) (host.new ≡ host.old)
         (written_of O.taken out.old out.new) result }
@@ -163,15 +165,20 @@ pub fn run<F: Files, H: Host, O: Sink>(
     // A fault of the generator or of the sink is answered only where its count rose.
     ensures host { Caused (result ≡ GeneratorFault) H.last (H.faults host.old) (H.faults host.new) }
     ensures sink { Caused (result ≡ WriteFault) last_count (O.faults out.old) (O.faults out.new) }
-    // One of the generator is answered only where more starts, writes and reads failed than are
-    // made good: the count rose by more, and a log that is told has more of them.
+    // One of the generator is answered only where one start, write or read more failed than is made
+    // good: the count rose by as many, and so many failed in a log that is told.
     ensures many { result ≡ GeneratorFault
         → AreTooMany (restarts_in (map string_bytes words.now)) (course H.Host host.old host.new) }
+    // Where neither the generator nor the sink nor want of memory ended the run, no more of them
+    // failed than are made good.
+    ensures made_good { IsUnhindered result
+        → AreMadeGood (restarts_in (map string_bytes words.now)) (course H.Host host.old host.new) }
     // Where the words mean that a task is to be solved, the files are told and spell one, no count
-    // of faults rose, the children's by no more than are made good, and only answers were heard, the run has an outcome, or memory is wanting. And
-    // where the generators answer by a finite table over which no run passes the limits of calls
-    // and of states, that outcome is a plan or `no plan`, in each mode, and in incremental mode the
-    // one of the plain run over the table, whatever the workers.
+    // of faults rose, the children's by no more than are made good, and only answers were heard,
+    // the run has an outcome, or memory is wanting. And where the generators answer by a finite
+    // table over which no run passes the limits of calls and of states, that outcome is a plan or
+    // `no plan`, in each mode, and in incremental mode the one of the plain run over the table,
+    // whatever the workers.
     ensures complete { CompletesBy (map string_bytes words.now)
         (outside_of (seen_of F.told F.faults F.asked files.old files.new) H.spoken H.log host.old
         host.new) (RoseBy (suc (restarts_in (map string_bytes words.now))) H.last

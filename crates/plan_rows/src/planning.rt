@@ -8,7 +8,8 @@ use crate::plans::{
 };
 use crate::queue::tell_queue;
 use crate::searches::{
-    add_estimate, add_exceeds, add_found_steps, add_out_of_reach, add_search, add_wanted,
+    add_estimate, add_exceeds, add_found_steps, add_out_of_reach, add_outcome, add_search,
+    add_wanted,
 };
 use crate::store::tell_store;
 use fact_store::Facts;
@@ -39,6 +40,7 @@ fn answer_part(
         "applicable_count" => add_applicable(alloc, task, facts, line, true, out),
         "kept" => add_kept(alloc, task, facts, number(line), out),
         "search" => add_search(alloc, task, facts, line, out),
+        "finds" => add_outcome(alloc, task, facts, line, out),
         "steps" => add_found_steps(alloc, task, facts, line, out),
         "cheapest" => add_cheapest(alloc, task, facts, line, out),
         "cheapest_steps" => add_cheapest_steps(alloc, task, facts, line, out),

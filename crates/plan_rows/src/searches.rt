@@ -84,6 +84,25 @@ pub(crate) fn push_found(out: &mut String, found: &Found) -> Result<(), AllocErr
     }
 }
 
+/// Adds whether a search finds a plan, or that there is none, or meets its limit.
+pub(crate) fn add_outcome(
+    alloc: Global,
+    task: &Task,
+    facts: &Facts,
+    line: &[u8],
+    out: &mut String,
+) -> Result<(), Fault>
+    requires { IsFit task.now }
+{
+    let found = found_of(alloc, task, facts, line)?;
+    let outcome = match &*found {
+        Found::Plan(..) => "plan\n",
+        Found::Nothing => "nothing\n",
+        Found::Limit => "limit\n",
+    };
+    Ok(out.push_str(outcome)?)
+}
+
 /// Adds the steps of the plan that a search finds.
 pub(crate) fn add_found_steps(
     alloc: Global,

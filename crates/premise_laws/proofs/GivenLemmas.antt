@@ -9,7 +9,7 @@ use Rattle.io_world.specs.Talks.{silence, spelled}
 use Rattle.pddlstream_app.specs.Complete.{AreGivenAnswers}
 use Rattle.command_files.specs.Inputs.{IsTaskOf}
 use Rattle.run_command.specs.Runs.{ProgramRun}
-use Rattle.run_command.specs.Works.{Work, command_for, files_of, making, solving, words_of}
+use Rattle.run_command.specs.Works.{Work, command_for, files_of, making, solving, words_of_work}
 use Rattle.table_runs.specs.Asking.{SpeaksBy}
 use Rattle.task_model.specs.declared.task.Task.{Task}
 use Rattle.task_reader.proofs.SpelledLemmas.{one_task}
@@ -86,11 +86,11 @@ work_of run = work_is run.work run.meant
 pub task_of : (run : CupRun) → run.task ≡ fetch
 task_of run =
     only_task run.task
-    (subst (λ w. IsTaskOf (files_of (Some cup_files) w) (words_of w).files run.task) (work_of run) run.spelled)
+    (subst (λ w. IsTaskOf (files_of (Some cup_files) w) (words_of_work w).files run.task) (work_of run) run.spelled)
 
 -- it speaks protocol 1
 pub version_of : (run : CupRun) → run.head.version ≡ 1
-version_of run = run.headed.version ∙ ap (λ w. (words_of w).protocol) (work_of run)
+version_of run = run.headed.version ∙ ap (λ w. (words_of_work w).protocol) (work_of run)
 
 -- ---- the limits
 
@@ -120,6 +120,6 @@ table_given = record {
   );
   few = λ run.
       bounded_at run.head.version run.head.calls run.head.states run.task (version_of run) (task_of run)
-      (run.headed.calls ∙ ap (λ w. (words_of w).limits.calls) (work_of run))
-      (run.headed.states ∙ ap (λ w. (words_of w).limits.states) (work_of run));
+      (run.headed.calls ∙ ap (λ w. (words_of_work w).limits.calls) (work_of run))
+      (run.headed.states ∙ ap (λ w. (words_of_work w).limits.states) (work_of run));
 }

@@ -1,13 +1,14 @@
 -- The run of the first worked task, whose dialogue was said.
 use Rattle.std.proofs.Common.{◌≡◌, zero, suc, inl, inr, Bool, true, false, [], ◌∷◌, codes, length, refl, sym, ap, ◌∙◌, arith, lit<, Some}
 use Rattle.std.proofs.lemmas.Bool.{false≢true}
+use Rattle.std.proofs.lemmas.List.Elements.{All-cons, All-nil}
 use Rattle.std.proofs.lemmas.Option.{same_Some}
 use Rattle.std.specs.declared.alloc.Global.{Global}
 use Rattle.io_world.specs.Talks.{silence, spelled}
 use Rattle.lemmas.proofs.Options.{none_at}
 use Rattle.turn_run.specs.Reports.{IsRun}
-use Rattle.turn_run.specs.Turns.{IsSure}
-use Rattle.mode_turns.specs.Lazy.{IsFewDue, IsLazy, IsLazyEnd, begins}
+use Rattle.turn_run.specs.Turns.{HasShortDreams, IsShortDream, IsSure}
+use Rattle.turn_laws.specs.Lazy.{IsFewDue, IsLazy, IsLazyEnd, begins}
 use Rattle.run_command.specs.Heads.{IsHeadOf}
 use Rattle.run_command.specs.Runs.{ProgramRun}
 use Rattle.run_command.specs.Works.{solving}
@@ -85,6 +86,13 @@ cup_lazy (suc (suc zero)) e at b =
     absurd (false≢true (ap (begins Incremental) (same_Some (entry.Got 1 1 (codes "left" ∷ [])) e at) ∙ b))
 cup_lazy (suc (suc (suc k))) e at b = absurd (none_at k e at)
 
+-- it has no dreams
+cup_short : HasShortDreams 100000 cup_entries
+cup_short =
+    All-cons (IsShortDream 100000) entry.Level (entry.Ask 1 0 grip_cup ∷ entry.Got 1 1 (codes "left" ∷ []) ∷ []) tt
+    (All-cons (IsShortDream 100000) (entry.Ask 1 0 grip_cup) (entry.Got 1 1 (codes "left" ∷ []) ∷ []) tt
+    (All-cons (IsShortDream 100000) (entry.Got 1 1 (codes "left" ∷ [])) [] tt (All-nil (IsShortDream 100000))))
+
 abbrev is_plan : Outcome → Bool
 is_plan (outcome.Plan steps cost from) = true
 is_plan outcome.NoPlan = false
@@ -114,6 +122,7 @@ cup_whole g = record {
   legal = first_run.legal;
   turns = first_run.turns;
   lazy = cup_lazy;
+  short = cup_short;
   end = cup_end;
   few = cup_few;
   stands = inl refl;

@@ -7,8 +7,9 @@ use Rattle.instance_queue.specs.declared.due.Due.{Due}
 use Rattle.std.specs.List.{list_all}
 use Rattle.lemmas.proofs.ListTests.{all_at}
 use Rattle.lemmas.proofs.Pigeonhole.{pigeons}
-use Rattle.mode_course.proofs.MadeLemmas.{between_awaits}
-use Rattle.mode_course.specs.Agendas.{ModeAgenda, is_over, is_resting, mode_place_in}
+use Rattle.course_check.proofs.MadeLemmas.{between_awaits}
+use Rattle.course_check.specs.Agendas.{ModeAgenda, is_resting, mode_place_in}
+use Rattle.course_check.specs.BatchAgendas.{is_over}
 use Rattle.pools.specs.Pools.{HaveWorkers}
 use Rattle.task_model.proofs.StreamsLemmas.{due_once}
 use Rattle.task_model.specs.Streams.{MoreAreDue}

@@ -1,13 +1,14 @@
 -- Where outcomes stand.
 use Rattle.std.proofs.Common.{◌≡◌, ℕ, zero, suc, ◌+◌, ◌<◌, ◌≤◌, ◌⊎◌, inl, inr, Bool, true, false, ◌&&◌, ◌||◌, List, [], ◌∷◌, ◌++◌, length, refl, sym, ap, subst, ◌∙◌, arith, eq-eqb}
 use Rattle.std.proofs.lemmas.Bool.{cases_lt, true≢false, false_from_ne_true}
-use Rattle.level_course.specs.Courses.{Course, IsBehind, Opens, with_asks}
-use Rattle.mode_course.proofs.MadeLemmas.{between_awaits, line_awaits}
-use Rattle.mode_course.proofs.StepsLemmas.{batch_open}
-use Rattle.mode_course.specs.Agendas.{is_over, mode_place_in}
-use Rattle.mode_course.specs.Laws.{IsPlaceAt}
-use Rattle.mode_course.specs.Places.{AwaitsPhase, AwaitsLine, IsBatchStep, ModePlace, Settles, asked_next, awaits_line, goes_on, is_repeated, joining, moves, phase_behind, resting, sent_next, stays, with_batch}
-use Rattle.mode_course.specs.Running.{sent_of}
+use Rattle.course_check.specs.Courses.{Course, IsBehind, Opens, with_asks}
+use Rattle.course_check.proofs.MadeLemmas.{between_awaits, line_awaits}
+use Rattle.course_check.proofs.StepsLemmas.{batch_open}
+use Rattle.course_check.specs.Agendas.{mode_place_in}
+use Rattle.course_check.specs.BatchAgendas.{is_over}
+use Rattle.course_check.specs.Laws.{IsPlaceAt}
+use Rattle.course_check.specs.Places.{AwaitsPhase, AwaitsLine, IsBatchStep, ModePlace, Settles, asked_next, awaits_line, goes_on, is_repeated, joining, moves, phase_behind, resting, sent_next, stays, with_batch}
+use Rattle.course_check.specs.Running.{sent_of}
 use Rattle.task_model.specs.Streams.{yields_of}
 use Rattle.task_model.specs.declared.stream.Instance.{Instance}
 use Rattle.task_model.specs.declared.task.Task.{Task}

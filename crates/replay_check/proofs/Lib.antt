@@ -14,6 +14,7 @@ pub mod NextRequestLemmas
 pub mod OneVerdictLemmas
 pub mod OriginsLemmas
 pub mod PlacesLemmas
+pub mod PointLemmas
 pub mod ReadBackLemmas
 pub mod RightEntriesLemmas
 pub mod RightPlanLemmas

@@ -8,7 +8,6 @@ use Rattle.std.proofs.lemmas.Option.{none-some, slice_get_past}
 use Rattle.dream_check.specs.Lines.{IsWrongLine}
 use Rattle.task_model.specs.declared.stream.Instance.{Instance}
 use Rattle.task_model.specs.declared.task.Task.{Task}
-pub use Rattle.legal_report.proofs.LinesLemmas.{report_short}
 use Rattle.transcript_model.specs.Rounds.{Limits}
 use Rattle.report_text.specs.Texts.{do_line, done_line, entry_lines, from_line, head_lines, line, outcome_lines, pool_line, step_line, lines_of_report, use_line}
 use Rattle.transcript_model.specs.declared.entry.Call.{Call}

@@ -1,9 +1,10 @@
 -- What comes next where the judge stands.
 use Rattle.std.proofs.Common.{◌≡◌, ℕ, ◌+◌, ◌<◌, ◌==◌, ◌&&◌, ◌⊎◌, not, inl, inr, Bool, true, false, List, [], ◌∷◌, ◌++◌, length, refl, sym, ap, ◌∙◌, Some, None, arith, eqb-true, eq-eqb}
 use Rattle.std.proofs.lemmas.Bool.{true≢false}
-use Rattle.level_course.specs.Courses.{Course}
-use Rattle.mode_course.specs.Agendas.{ModeAgenda, is_dreamt, is_over, is_resting, is_undreamt, mode_place_in}
-use Rattle.mode_course.specs.Places.{AwaitsPhase, AwaitsLine, AwaitsPick, IsBatchStep, IsModeStep, ModePlace, awaits_line, begins_level, dreamt, falls_back, goes_on, picks, resets, resting, retires, tells_dream, tells_none, unasked, undreamt}
+use Rattle.course_check.specs.Courses.{Course}
+use Rattle.course_check.specs.Agendas.{ModeAgenda, is_dreamt, is_resting, is_undreamt, mode_place_in}
+use Rattle.course_check.specs.BatchAgendas.{is_over}
+use Rattle.course_check.specs.Places.{AwaitsPhase, AwaitsLine, AwaitsPick, IsBatchStep, IsModeStep, ModePlace, awaits_line, begins_level, dreamt, falls_back, goes_on, picks, resets, resting, retires, tells_dream, tells_none, unasked, undreamt}
 use Rattle.task_model.specs.Streams.{yields_of}
 use Rattle.task_model.specs.declared.stream.Instance.{Instance}
 use Rattle.task_model.specs.declared.task.Task.{Task}

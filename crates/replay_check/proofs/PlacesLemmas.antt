@@ -1,16 +1,16 @@
 -- Where entries lead, and what may come behind them.
 use Rattle.std.proofs.Common.{◌≡◌, ℕ, zero, suc, ◌+◌, inl, inr, Bool, true, false, List, [], ◌∷◌, ◌++◌, length, refl, sym, ap, subst, ◌∙◌, Some, slice_get, arith}
 use Rattle.std.proofs.lemmas.Bool.{true≢false}
-use Rattle.level_course.proofs.CoursesLemmas.{nothing_left}
-use Rattle.level_course.specs.Courses.{Course, IsBehind, Opens}
-use Rattle.mode_course.proofs.StepsLemmas.{at_first_rest, leads_on_once, leads_on_then}
-use Rattle.mode_course.proofs.TurnedLemmas.{turned}
-use Rattle.mode_course.proofs.TurnsLemmas.{turns_lead}
-use Rattle.mode_course.proofs.WholeLemmas.{between_alone, step_of}
-use Rattle.mode_course.specs.Laws.{IsPlaceAt}
-use Rattle.mode_course.specs.Places.{AwaitsPhase, IsBatchStep, IsBehindDream, IsModeStep, LeadsOn, MayDream, Phase, ModePlace, RunsNext, Settles, at_start, begins_level, falls_back, goes_on, moves, picks, resets, resting, retires, stays, tells_dream, tells_none, with_batch}
-use Rattle.mode_turns.proofs.ModesLemmas.{as_family, of_mode}
-use Rattle.mode_turns.specs.Modes.{nothing_kept}
+use Rattle.course_check.proofs.CoursesLemmas.{nothing_left}
+use Rattle.course_check.specs.Courses.{Course, IsBehind, Opens}
+use Rattle.course_check.proofs.StepsLemmas.{at_first_rest, leads_on_once, leads_on_then}
+use Rattle.course_check.proofs.TurnedLemmas.{turned}
+use Rattle.course_check.proofs.TurnsLemmas.{turns_lead}
+use Rattle.course_check.proofs.WholeLemmas.{between_alone, step_of}
+use Rattle.course_check.specs.Laws.{IsPlaceAt}
+use Rattle.course_check.specs.Places.{AwaitsPhase, IsBatchStep, IsBehindDream, IsModeStep, LeadsOn, MayDream, Phase, ModePlace, RunsNext, Settles, at_start, begins_level, falls_back, goes_on, moves, picks, resets, resting, retires, stays, tells_dream, tells_none, with_batch}
+use Rattle.turn_laws.proofs.ModesLemmas.{as_family, of_mode}
+use Rattle.turn_laws.specs.Modes.{nothing_kept}
 use Rattle.pools.specs.Pools.{HaveWorkers}
 use Rattle.task_model.specs.Dreams as dreams
 use Rattle.task_model.specs.Streams.{yields_of}

@@ -5,15 +5,15 @@ use Rattle.std.proofs.lemmas.List.{length-map}
 use Rattle.dream_check.proofs.DreamLinesLemmas.{dream_lines}
 use Rattle.dream_check.specs.Lines.{IsWrongLine}
 use Rattle.lemmas.proofs.Members.{take_next}
-use Rattle.level_course.specs.Courses.{Course}
-use Rattle.mode_course.proofs.StepsLemmas.{at_first_rest, leads_on_apart}
-use Rattle.mode_course.proofs.TurnsLemmas.{turns_lead}
-use Rattle.mode_course.proofs.WholeLemmas.{left_kept}
-use Rattle.mode_course.specs.Places.{IsBatchStep, IsModeStep, LeadsOn, ModePlace, at_start, begins_level, falls_back, goes_on, picks, resets, retires, tells_dream, tells_none}
-use Rattle.mode_turns.proofs.CountsLemmas.{turn_keeps, turns_keep}
-use Rattle.mode_turns.proofs.FrontsLemmas.{front_turns}
-use Rattle.mode_turns.proofs.ModesLemmas.{as_family, of_mode}
-use Rattle.mode_turns.specs.Modes.{Leaves, TurnOf, nothing_kept}
+use Rattle.course_check.specs.Courses.{Course}
+use Rattle.course_check.proofs.StepsLemmas.{at_first_rest, leads_on_apart}
+use Rattle.course_check.proofs.TurnsLemmas.{turns_lead}
+use Rattle.course_check.proofs.WholeLemmas.{left_kept}
+use Rattle.course_check.specs.Places.{IsBatchStep, IsModeStep, LeadsOn, ModePlace, at_start, begins_level, falls_back, goes_on, picks, resets, retires, tells_dream, tells_none}
+use Rattle.turn_laws.proofs.ModeCountsLemmas.{turn_keeps, turns_keep}
+use Rattle.turn_laws.proofs.ModeFrontsLemmas.{front_turns}
+use Rattle.turn_laws.proofs.ModesLemmas.{as_family, of_mode}
+use Rattle.turn_laws.specs.Modes.{Leaves, TurnOf, nothing_kept}
 use Rattle.pools.specs.Pools.{HaveWorkers}
 use Rattle.task_model.specs.Dreams as dreams
 use Rattle.task_model.specs.declared.stream.Instance.{Instance}

@@ -5,13 +5,13 @@ use Rattle.std.proofs.lemmas.List.{length-append, length-take}
 use Rattle.dream_asks.specs.Next.{asked_instances}
 use Rattle.dream_asks.specs.Progress.{numbered}
 use Rattle.lemmas.proofs.Bools.{and_not_parts, zero_and_not}
-use Rattle.level_course.specs.Agendas.{Agenda, Starts, place_in}
-use Rattle.level_course.specs.Courses.{GivesAnswer}
-use Rattle.mode_course.proofs.KeepsLemmas.{run_answered, run_settled}
-use Rattle.mode_course.proofs.MovesLemmas.{settle_made, starts_open}
-use Rattle.mode_course.specs.Agendas.{HasSettled, IsAnswered, KeepsRun, ModeAgenda, is_over, is_to_settle, is_undreamt, left_behind, mode_place_in, with_agenda}
-use Rattle.mode_course.specs.Places.{LeadsOn, Phase, at_start, goes_on, is_repeated, phase_behind, resting, undreamt}
-use Rattle.mode_course.specs.Running.{made_by, sent_of}
+use Rattle.course_check.specs.BatchAgendas.{Agenda, IsAnswered, Starts, is_over, place_in}
+use Rattle.course_check.specs.Courses.{GivesAnswer}
+use Rattle.course_check.proofs.KeepsLemmas.{run_answered, run_settled}
+use Rattle.course_check.proofs.MovesLemmas.{settle_made, starts_open}
+use Rattle.course_check.specs.Agendas.{HasSettled, KeepsRun, ModeAgenda, is_to_settle, is_undreamt, left_behind, mode_place_in, with_agenda}
+use Rattle.course_check.specs.Places.{LeadsOn, Phase, at_start, goes_on, is_repeated, phase_behind, resting, undreamt}
+use Rattle.course_check.specs.Running.{made_by, sent_of}
 use Rattle.pools.specs.Pools.{HaveWorkers}
 use Rattle.learning.proofs.LearningLemmas.{answers_to}
 use Rattle.task_model.specs.Dreams as dreams

@@ -3,11 +3,11 @@ use Rattle.std.proofs.Common.{◌≡◌, ℕ, ◌+◌, ◌<◌, ◌≤◌, ◌==
 use Rattle.std.proofs.lemmas.Bool.{cases_lt, or_cases}
 use Rattle.std.specs.List.{list_any}
 use Rattle.lemmas.proofs.Bools.{or_true}
-use Rattle.level_course.specs.Agendas.{place_in, with_asked}
-use Rattle.mode_course.proofs.KeepsLemmas.{run_asked}
-use Rattle.mode_course.proofs.StepsLemmas.{leads_on_then}
-use Rattle.mode_course.specs.Agendas.{ModeAgenda, mode_place_in, nothing_begun, with_agenda}
-use Rattle.mode_course.specs.Places.{IsModeStep, LeadsOn, ModePlace, at_start, goes_on, stays, undreamt}
+use Rattle.course_check.specs.BatchAgendas.{place_in, with_asked}
+use Rattle.course_check.proofs.KeepsLemmas.{run_asked}
+use Rattle.course_check.proofs.StepsLemmas.{leads_on_then}
+use Rattle.course_check.specs.Agendas.{ModeAgenda, mode_place_in, nothing_begun, with_agenda}
+use Rattle.course_check.specs.Places.{IsModeStep, LeadsOn, ModePlace, at_start, goes_on, stays, undreamt}
 use Rattle.task_model.specs.Known.{Known}
 use Rattle.task_model.specs.Streams.{yields_of}
 use Rattle.task_model.specs.declared.stream.Instance.{Instance}

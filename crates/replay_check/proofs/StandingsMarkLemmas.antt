@@ -6,11 +6,11 @@ use Rattle.dream_asks.specs.Next.{asked_instances}
 use Rattle.dream_asks.specs.Progress.{numbered}
 use Rattle.instance_queue.specs.Level.{due_instances}
 use Rattle.instance_queue.specs.declared.due.Due.{Due}
-use Rattle.level_course.specs.Agendas.{Agenda, Starts}
-use Rattle.mode_course.proofs.StepsLemmas.{phases_differ}
-use Rattle.mode_course.specs.Agendas.{BeginsBatch, KeepsRun, ModeAgenda, MovesOn, is_undreamt, left_behind, mode_place_in, with_run}
-use Rattle.mode_course.specs.Places.{AwaitsPhase, IsModeStep, Phase, is_repeated, undreamt}
-use Rattle.mode_course.specs.Running.{made_by, sent_of}
+use Rattle.course_check.specs.BatchAgendas.{Agenda, Starts}
+use Rattle.course_check.proofs.StepsLemmas.{phases_differ}
+use Rattle.course_check.specs.Agendas.{BeginsBatch, KeepsRun, ModeAgenda, MovesOn, is_undreamt, left_behind, mode_place_in, with_run}
+use Rattle.course_check.specs.Places.{AwaitsPhase, IsModeStep, Phase, is_repeated, undreamt}
+use Rattle.course_check.specs.Running.{made_by, sent_of}
 use Rattle.lemmas.proofs.Counts.{count_joined, count_one}
 use Rattle.task_model.specs.Dreams as dreams
 use Rattle.task_model.specs.Known.{Known}

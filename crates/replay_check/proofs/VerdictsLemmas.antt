@@ -3,7 +3,7 @@ use Rattle.std.proofs.Common.{◌≡◌, ℕ, ◌+◌, ◌^◌, ◌<◌, ◌≤�
 use Rattle.std.proofs.lemmas.Bool.{cases_lt}
 use Rattle.lemmas.proofs.Members.{get_and_take}
 use Rattle.lemmas.proofs.Numbers.{plus_zero}
-use Rattle.mode_course.specs.Agendas.{mode_place_in}
+use Rattle.course_check.specs.Agendas.{mode_place_in}
 use Rattle.report_text.specs.Texts.{entry_lines, lines_of_report}
 use Rattle.task_model.specs.declared.task.Task.{Task}
 use Rattle.transcript_model.specs.Outcomes.{IsTrueOutcome}

@@ -3,8 +3,8 @@ use Rattle.std.proofs.Common.{◌≡◌, ℕ, ◌+◌, ◌<◌, ◌≤◌, ◌�
 use Rattle.std.proofs.lemmas.Bool.{false≢true, true≢false}
 use Rattle.std.proofs.lemmas.List.Elements.{All-contains}
 use Rattle.lemmas.proofs.Members.{member_at, next_taken}
-use Rattle.level_course.specs.Agendas.{with_asked}
-use Rattle.mode_course.specs.Agendas.{HasSettled, IsAnswered, KeepsRun, ModeAgenda, with_agenda}
+use Rattle.course_check.specs.BatchAgendas.{IsAnswered, with_asked}
+use Rattle.course_check.specs.Agendas.{HasSettled, KeepsRun, ModeAgenda, with_agenda}
 use Rattle.pools.specs.Pools.{shares_of}
 use Rattle.report_text.specs.Forms.{IsFormedEntry}
 use Rattle.task_model.specs.declared.stream.Instance.{Instance}

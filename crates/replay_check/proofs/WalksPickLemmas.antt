@@ -1,12 +1,13 @@
 -- A skeleton is picked or given up, or the line that says so is wrong.
 use Rattle.std.proofs.Common.{◌≡◌, ℕ, ◌+◌, ◌<◌, inl, inr, true, List, [], ◌∷◌, ◌++◌, take, length, refl, sym, ap, subst, ◌∙◌, Some, slice_get, arith}
 use Rattle.std.specs.List.{list_all}
-use Rattle.mode_course.proofs.KeepsLemmas.{run_picked}
-use Rattle.mode_course.proofs.MadeLemmas.{awaits_where, dreamt_awaits, pick_made, retire_made, undreamt_awaits}
-use Rattle.mode_course.proofs.FewLemmas.{agenda_few, pick_left as call_left}
-use Rattle.mode_course.proofs.StepsLemmas.{phases_differ, picked_place}
-use Rattle.mode_course.specs.Agendas.{HasPicked, KeepsRun, is_over, mode_place_in}
-use Rattle.mode_course.specs.Places.{AwaitsPick, ModePlace, is_repeated, picks, resting, retires, unasked}
+use Rattle.course_check.proofs.KeepsLemmas.{run_picked}
+use Rattle.course_check.proofs.MadeLemmas.{awaits_where, dreamt_awaits, pick_made, retire_made, undreamt_awaits}
+use Rattle.course_check.proofs.FewLemmas.{agenda_few, pick_left as call_left}
+use Rattle.course_check.proofs.StepsLemmas.{phases_differ, picked_place}
+use Rattle.course_check.specs.Agendas.{HasPicked, KeepsRun, mode_place_in}
+use Rattle.course_check.specs.BatchAgendas.{is_over}
+use Rattle.course_check.specs.Places.{AwaitsPick, ModePlace, is_repeated, picks, resting, retires, unasked}
 use Rattle.task_model.specs.Known.{Known}
 use Rattle.task_model.specs.Streams.{Note}
 use Rattle.task_model.specs.declared.task.Task.{Task}

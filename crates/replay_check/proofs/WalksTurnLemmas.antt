@@ -8,13 +8,13 @@ use Rattle.dream_check.specs.Judged.{IsUndecidedNone}
 use Rattle.dream_check.specs.Lines.{IsFirstWrongLine}
 use Rattle.instance_queue.specs.Level.{due_instances}
 use Rattle.instance_queue.specs.declared.due.Due.{Due}
-use Rattle.mode_course.proofs.KeepsLemmas.{run_followed}
-use Rattle.mode_course.proofs.MadeLemmas.{between_awaits, dream_made, fallback_made, keep_made, level_made, none_made, reset_made, run_made, undreamt_awaits}
-use Rattle.mode_course.proofs.StepsLemmas.{phases_differ}
-use Rattle.mode_course.proofs.WholeLemmas.{kept_left, left_kept}
-use Rattle.mode_course.specs.Agendas.{BeginsBatch, ModeAgenda, MovesOn, mode_place_in, with_run}
-use Rattle.mode_course.specs.Places.{AwaitsPhase, MayDream, Phase, ModePlace, begins_level, dreamt, falls_back, forgetting, is_repeated, joining, keeping, resets, resting, sent_first, tells_dream, tells_none, undreamt}
-use Rattle.mode_turns.specs.Modes.{Leaves}
+use Rattle.course_check.proofs.KeepsLemmas.{run_followed}
+use Rattle.course_check.proofs.MadeLemmas.{between_awaits, dream_made, fallback_made, keep_made, level_made, none_made, reset_made, run_made, undreamt_awaits}
+use Rattle.course_check.proofs.StepsLemmas.{phases_differ}
+use Rattle.course_check.proofs.WholeLemmas.{kept_left, left_kept}
+use Rattle.course_check.specs.Agendas.{BeginsBatch, ModeAgenda, MovesOn, mode_place_in, with_run}
+use Rattle.course_check.specs.Places.{AwaitsPhase, MayDream, Phase, ModePlace, begins_level, dreamt, falls_back, forgetting, is_repeated, joining, keeping, resets, resting, sent_first, tells_dream, tells_none, undreamt}
+use Rattle.turn_laws.specs.Modes.{Leaves}
 use Rattle.task_model.specs.Dreams as dreams
 use Rattle.task_model.specs.Known.{Known}
 use Rattle.task_model.specs.Streams.{AreDue}

@@ -2,7 +2,7 @@
 use Rattle.std.proofs.Common.{◌≡◌, ℕ, ◌<◌, ◌≤◌, inl, inr, true, false, List, [], ◌∷◌, ◌++◌, length, refl, sym, ap, subst, ◌∙◌, arith}
 use Rattle.std.proofs.lemmas.Bool.{false≢true, true≢false}
 use Rattle.dream_check.specs.Lines.{IsFirstWrongLine, IsWrongLine}
-use Rattle.mode_turns.specs.Modes.{Leaves}
+use Rattle.turn_laws.specs.Modes.{Leaves}
 use Rattle.task_model.specs.declared.task.Task.{Task}
 use Rattle.transcript_model.specs.Dreaming.{HasNoDreamAfter}
 use Rattle.transcript_model.specs.Legal.{MayFollow, is_answer, is_ask, is_mark}

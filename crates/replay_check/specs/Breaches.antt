@@ -1,7 +1,7 @@
 -- What is wrong with a report, line by line. There is one case for each kind.
 use Rattle.std.specs.Prelude.{◌≡◌, ◌⊎◌, ◌||◌, ℕ, ◌+◌, ◌<◌, ◌≤◌, List, [], ◌∷◌, ◌++◌, length, take, true, false, Some, slice_get}
 use Rattle.dream_check.specs.Lines.{IsWrongLine}
-use Rattle.mode_turns.specs.Modes.{Leaves}
+use Rattle.turn_laws.specs.Modes.{Leaves}
 use Rattle.task_model.specs.declared.task.Task.{Task}
 use Rattle.transcript_model.specs.Dreaming.{HasNoDreamAfter}
 use Rattle.transcript_model.specs.Legal.{MayFollow, is_ask, is_answer}

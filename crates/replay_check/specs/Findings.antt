@@ -1,7 +1,8 @@
 -- What is found of an outcome.
 use Rattle.std.specs.Prelude.{◌≡◌, ◌⊎◌, ◌&&◌, true, false, ℕ, List}
-use Rattle.mode_course.specs.Agendas.{ModeAgenda, is_over, is_resting}
-use Rattle.mode_course.specs.Places.{awaits_line}
+use Rattle.course_check.specs.Agendas.{ModeAgenda, is_resting}
+use Rattle.course_check.specs.BatchAgendas.{is_over}
+use Rattle.course_check.specs.Places.{awaits_line}
 use Rattle.task_model.specs.declared.task.Task.{Task}
 use Rattle.transcript_model.specs.Outcomes.{IsTrueOutcome, MayStand}
 use Rattle.transcript_model.specs.Rounds.{Limits}

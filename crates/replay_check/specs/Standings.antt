@@ -1,8 +1,8 @@
 -- Where the judge of a transcript stands.
 use Rattle.std.specs.Prelude.{◌≡◌, ℕ, ◌+◌, ◌≤◌, List, [], length, take, true, Some, slice_get}
-use Rattle.level_course.specs.Agendas.{Agenda}
-use Rattle.mode_course.specs.Agendas.{KeepsRun, ModeAgenda, mode_place_in}
-use Rattle.mode_course.specs.Places.{AwaitsPhase, LeadsOn, at_start, undreamt}
+use Rattle.course_check.specs.BatchAgendas.{Agenda}
+use Rattle.course_check.specs.Agendas.{KeepsRun, ModeAgenda, mode_place_in}
+use Rattle.course_check.specs.Places.{AwaitsPhase, LeadsOn, at_start, undreamt}
 use Rattle.pools.specs.Pools.{HaveWorkers, shares_of}
 use Rattle.task_model.specs.Fit.{IsFit}
 use Rattle.task_model.specs.Streams.{yields_of}

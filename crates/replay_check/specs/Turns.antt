@@ -3,8 +3,11 @@ use Rattle.std.specs.Prelude.{◌≡◌, ◌⊎◌, ◌&&◌, ◌-◌, ℕ, List
 use Rattle.dream_asks.specs.First.{AreFirstAsks}
 use Rattle.instance_queue.specs.Level.{due_instances}
 use Rattle.instance_queue.specs.declared.due.Due.{Due}
-use Rattle.mode_course.specs.Agendas.{BeginsBatch, HasPicked, HasSettled, ModeAgenda, MovesOn, is_dreamt, is_over, is_resting, is_undreamt, with_run}
-use Rattle.mode_course.specs.Places.{HasNoneToPick, dreamt, joining, keeping, resting}
+use Rattle.course_check.specs.Agendas.{BeginsBatch, HasPicked, HasSettled, ModeAgenda, MovesOn, is_dreamt, is_resting, is_undreamt, with_run}
+use Rattle.course_check.specs.BatchAgendas.{is_over}
+use Rattle.course_check.specs.Places.{HasNoneToPick, dreamt, joining, keeping, resting}
+use Rattle.course_check.specs.declared.point.BatchPoint.{BatchPoint}
+use Rattle.learning.specs.declared.knowledge.Knowledge.{Knowledge}
 use Rattle.pools.specs.Pools.{shares_of}
 use Rattle.task_model.specs.Dreams as dreams
 use Rattle.task_model.specs.declared.task.Task.{Task}
@@ -37,6 +40,14 @@ abbrev pub PicksNext : Mode → ModeAgenda → Type 0
 PicksNext mode a =
     (mode ≡ Adaptive)
     × (((is_over a.batch && is_dreamt a.phase) ≡ true) ⊎ ((is_over a.batch && is_undreamt a.phase) ≡ true))
+
+-- The point of a transcript that is judged by these, where this is known.
+pub record IsPointOf (b : Bounds) (l : Knowledge) (p : BatchPoint) : Type 0 where
+  pub task_is : p.task.now ≡ b.task.now
+  pub known_is : p.facts.now.known ≡ l.facts.known
+  pub notes_is : p.queue.now ≡ l.queue
+  pub pools_is : p.pools.now ≡ b.pools.now
+  pub calls_is : p.calls ≡ b.calls
 
 -- ---- behind a dream
 

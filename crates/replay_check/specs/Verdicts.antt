@@ -1,7 +1,7 @@
 -- What a replay may say of a text.
 use Rattle.std.specs.Prelude.{◌≡◌, ◌⊎◌, ℕ, ◌<◌, List, take, Some, slice_get}
 use Rattle.dream_check.specs.Judged.{IsUndecidedNone}
-use Rattle.mode_turns.specs.Modes.{Leaves}
+use Rattle.turn_laws.specs.Modes.{Leaves}
 use Rattle.task_model.specs.Plans.{IsReached, MoreThan}
 use Rattle.task_model.specs.Streams.{NothingIsDue}
 use Rattle.task_model.specs.declared.task.Task.{Task}

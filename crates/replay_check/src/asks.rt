@@ -1,6 +1,6 @@
 //! Requests and answers.
 ghost use Rattle.std.specs.Prelude.{◌≡◌, ◌≤◌, Some, length, slice_get, IfOk, IfSome, IsTrue, OnOk};
-ghost use Rattle.mode_course.specs.Agendas.{KeepsRun};
+ghost use Rattle.course_check.specs.Agendas.{KeepsRun};
 ghost use Rattle.replay_check.specs.Standings.{AreBounds, IsNextRequest};
 ghost use Rattle.replay_check.specs.Turns.{SettlesOn};
 ghost use Rattle.replay_check.specs.Walks.{CanTake, IsEntryTaken};
@@ -69,15 +69,8 @@ impl Standing {
         requires run { KeepsRun bounds.now.calls entries.now self.old.course }
         ensures { OnOk result (SettlesOn bounds.now entries.now self.old self.new) }
     {
-        let knowledge = &self.knowledge;
-        self.course.settle(
-            bounds.task,
-            &knowledge.facts,
-            &knowledge.queue,
-            entries,
-            bounds.pools,
-            bounds.calls,
-        )
+        let point = bounds.point(&self.knowledge);
+        self.course.settle(&point, entries)
     }
 
     /// Takes the answer at this place, to the request of this number.

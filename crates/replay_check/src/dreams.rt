@@ -49,20 +49,10 @@ impl Standing {
         requires left { length self.old.knowledge.asked.items < bounds.now.calls }
         ensures { OnOk result (RunsDream bounds.now from dream.items self.old self.new) }
     {
-        let knowledge = &self.knowledge;
-        let real = knowledge.facts.name_count();
-        let before = knowledge.asked.len() as u32;
-        self.course.follow_dream(
-            bounds.task,
-            &knowledge.facts,
-            &knowledge.queue,
-            bounds.pools,
-            dream,
-            real,
-            from,
-            before,
-            bounds.calls,
-        )
+        let real = self.knowledge.facts.name_count();
+        let before = self.knowledge.asked.len() as u32;
+        let point = bounds.point(&self.knowledge);
+        self.course.follow_dream(&point, dream, real, from, before)
     }
 
     /// Goes on behind a dream with these entries, whose line is the last of so many entries: with

@@ -38,18 +38,9 @@ impl Standing {
         ensures { (s : Skeleton) → slice_get self.old.course.kept.skeletons skeleton ≡ Some s
             → OnOk result (RunsPick bounds.now from skeleton s self.old self.new) }
     {
-        let knowledge = &self.knowledge;
-        let before = knowledge.asked.len() as u32;
-        self.course.pick(
-            bounds.task,
-            &knowledge.facts,
-            &knowledge.queue,
-            bounds.pools,
-            skeleton,
-            from,
-            before,
-            bounds.calls,
-        )
+        let before = self.knowledge.asked.len() as u32;
+        let point = bounds.point(&self.knowledge);
+        self.course.pick(&point, skeleton, from, before)
     }
 
     /// Takes the line at this place by which the skeleton of this number is picked.

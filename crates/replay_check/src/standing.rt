@@ -8,9 +8,9 @@ ghost use Rattle.transcript_model.specs.Turns.{IsPicked, MayBegin, Skeleton};
 ghost use Rattle.transcript_model.specs.declared.entry.Entry.{Entry as AnyEntry};
 
 use crate::bounds::Bounds;
+use course_check::ModeCourse;
 use instance_queue::Due;
 use learning::{Knowledge, dues_of};
-use mode_course::ModeCourse;
 use std::alloc::AllocError;
 use transcript_model::Mode;
 

@@ -7,7 +7,7 @@ use Rattle.gen_lines.specs.Lines.{lines_of}
 use Rattle.io_world.specs.Replies.{IsLine}
 use Rattle.io_world.specs.Talks.{Event, Talk, started, wrote, heard, stopped, silence, spelled, heard_more, wrote_more, IsTaken, IsGiven, Takes, Gives}
 use Rattle.restart_host.proofs.NotedLemmas.{not_equal}
-use Rattle.restart_host.specs.Lives.{Course, IsNoRead, Moment, moment_after, moment_by, moment_of}
+use Rattle.restart_host.specs.Lives.{CourseOfCalls, IsNoRead, Moment, moment_after, moment_by, moment_of}
 use Rattle.restart_host.specs.Tries.{IsOn}
 
 pub moment_join : (child : ℕ) (m : Moment) (xs ys : List Event)
@@ -26,18 +26,18 @@ moment_spelled child past events =
     ap (λ (m : Moment). m.talk) (sym (moment_join child (record { talk = silence; fallen = false }) past events))
     ∙ moment_talk child (record { talk = silence; fallen = false }) (past ++ events)
 
-pub course_join : (child : ℕ) (P : Moment → Type 0) (m : Moment) (xs ys : List Event) → Course child P m xs
-    → Course child P (moment_by child m xs) ys → Course child P m (xs ++ ys)
+pub course_join : (child : ℕ) (P : Moment → Type 0) (m : Moment) (xs ys : List Event) → CourseOfCalls child P m xs
+    → CourseOfCalls child P (moment_by child m xs) ys → CourseOfCalls child P m (xs ++ ys)
 course_join child P m [] ys first second = second
 course_join child P m (x ∷ xs) ys first second =
     (first.0, first.1, course_join child P (moment_after child m x) xs ys first.2 second)
 
 pub course_so : (child : ℕ) (P Q : Moment → Type 0) (m : Moment) (xs : List Event) → ((at : Moment) → P at → Q at)
-    → Course child P m xs → Course child Q m xs
+    → CourseOfCalls child P m xs → CourseOfCalls child Q m xs
 course_so child P Q m [] so first = so m first
 course_so child P Q m (x ∷ xs) so first = (so m first.0, first.1, course_so child P Q (moment_after child m x) xs so first.2)
 
-pub course_end : (child : ℕ) (P : Moment → Type 0) (m : Moment) (xs : List Event) → Course child P m xs
+pub course_end : (child : ℕ) (P : Moment → Type 0) (m : Moment) (xs : List Event) → CourseOfCalls child P m xs
     → P (moment_by child m xs)
 course_end child P m [] first = first
 course_end child P m (x ∷ xs) first = course_end child P (moment_after child m x) xs first.2
@@ -48,7 +48,7 @@ pub record TakesFrom (child : ℕ) (m : Moment) (events : List Event) : Type 0 w
   pub bytes : List ℕ
   pub spells : (talk : Talk) → spelled child talk events ≡ wrote_more bytes talk
   pub unread : All IsNoRead events
-  pub course : Course child (λ at. (n : ℕ) × (at.talk.written ≡ m.talk.written ++ take n bytes)) m events
+  pub course : CourseOfCalls child (λ at. (n : ℕ) × (at.talk.written ≡ m.talk.written ++ take n bytes)) m events
   pub done : moment_by child m events ≡ record { talk = wrote_more bytes m.talk; fallen = m.fallen }
 
 more_none : (talk : Talk) → talk ≡ wrote_more [] talk
@@ -128,7 +128,7 @@ module _ (child : ℕ) (held base w : List ℕ) (fallen : Bool)
   Heard so_far = record { written = []; heard = so_far }
 
   record GivesFrom (so_far : List ℕ) (events : List Event) : Type 0 where
-    course : Course child (λ at. at.talk.written ≡ w) (Hearing so_far) events
+    course : CourseOfCalls child (λ at. at.talk.written ≡ w) (Hearing so_far) events
     done : moment_by child (Hearing so_far) events ≡ Hearing (spelled child (Heard so_far) events).heard
 
   given_step : (room : ℕ) (bytes so_far : List ℕ) (events : List Event) → IsLine (held ++ so_far)
@@ -138,7 +138,7 @@ module _ (child : ℕ) (held base w : List ℕ) (fallen : Bool)
       refl,
       may so_far line,
       rw (eq-eqb child child refl)
-          (subst (λ bs. Course child (λ at. at.talk.written ≡ w)
+          (subst (λ bs. CourseOfCalls child (λ at. at.talk.written ≡ w)
           (record { talk = record { written = w; heard = bs }; fallen = fallen }) events)
           (sym (append_assoc base so_far bytes)) rest.course),
     );
@@ -169,14 +169,14 @@ module _ (child : ℕ) (held base w : List ℕ) (fallen : Bool)
 
 pub gives_course : (child : ℕ) (held bytes : List ℕ) (m : Moment) (events : List Event) → Gives child held bytes events
     → ((more : List ℕ) → IsLine (held ++ more) → length (lines_of (m.talk.heard ++ more)) < length (lines_of m.talk.written))
-    → Course child (λ at. at.talk.written ≡ m.talk.written) m events
+    → CourseOfCalls child (λ at. at.talk.written ≡ m.talk.written) m events
     × (moment_by child m events ≡ record { talk = heard_more bytes m.talk; fallen = m.fallen })
 gives_course child held bytes m events gives may =
     let from = gives_from child held m.talk.heard m.talk.written m.fallen may [] events gives.each gives.early in
     let start : (let at : Moment = record { talk = record { written = m.talk.written; heard = m.talk.heard ++ [] }; fallen = m.fallen } in at) ≡ m =
     ap (λ bs. let at : Moment = record { talk = record { written = m.talk.written; heard = bs }; fallen = m.fallen } in at)
     (append-nil m.talk.heard) in (
-      subst (λ (at : Moment). Course child (λ at. at.talk.written ≡ m.talk.written) at events) start from.course,
+      subst (λ (at : Moment). CourseOfCalls child (λ at. at.talk.written ≡ m.talk.written) at events) start from.course,
       ap (λ (at : Moment). moment_by child at events) (sym start) ∙ from.done
           ∙ ap (λ (talk : Talk). let at : Moment = record {
             talk = record { written = m.talk.written; heard = m.talk.heard ++ talk.heard };

@@ -4,13 +4,14 @@ use Rattle.io_world.specs.Faults.{Counts, HasCause}
 use Rattle.io_world.specs.Leads.{wants_memory}
 use Rattle.io_world.specs.declared.host.HostFault.{HostFault}
 use Rattle.io_world.specs.declared.host.HostFault.TheVariants.{Failed, Memory}
-use Rattle.io_world.specs.Logs.{Calls}
+use Rattle.io_world.specs.Logs.{Calls, Notes}
 use Rattle.io_world.specs.Talks.{Event}
 use Rattle.io_world.proofs.TalksLemmas.{extends_none}
+use Rattle.restart_host.proofs.NotedLemmas.{failures_noted, noted_failures, noted_lost, noted_whole}
 use Rattle.restart_host.proofs.UsesLemmas.{done_once}
 use Rattle.restart_host.specs.Leads.{Carries, IsDoneBy, Parts}
-use Rattle.restart_host.specs.Noted.{IsLed}
-use Rattle.restart_host.specs.Tries.{CalledInner, Tried, refusals}
+use Rattle.restart_host.specs.Noted.{IsCallNoted, IsLed}
+use Rattle.restart_host.specs.Tries.{CalledInner, Tried, has_failed, is_failed, refusals}
 use Rattle.restart_host.specs.Uses.{IsDone}
 
 -- calls that led there, of which none wanted memory but the last
@@ -32,18 +33,19 @@ by_call old new call events past done was whole =
 -- calls of which none failed
 pub carries_called : (child : ℕ) {words : List (List ℕ)} (last : ℕ) (old new : Parts) (call : Event) {D : List Event → Type 0}
     → (called : CalledInner child words last old.below new.below 0 D) → new.left ≡ old.left → new.faults ≡ old.faults
-    → new.log.whole ≡ old.log.whole → IsCallDone old new call called.events → Carries last old new false
-carries_called child last old new call called left faults whole done = record {
+    → Notes old.log new.log call → IsCallDone old new call called.events → Carries last old new false
+carries_called child last old new call called left faults noted done = record {
   count = 0;
   left = omega (arith, left, faults);
+  most = λ is. omega (arith, left, failures_noted old.log new.log call noted);
   later = called.later;
   rose = called.rose;
-  whole = λ is. whole;
-  lost = λ is. sym whole ∙ is;
+  whole = λ is. noted.whole;
+  lost = λ is. sym noted.whole ∙ is;
   events = called.events;
   failed = called.failed;
   log = called.log;
-  done = λ past after was now is. by_call old new call called.events past done was is;
+  done = λ is past after was now. by_call old new call called.events past done was is;
 }
 
 -- tries
@@ -51,20 +53,21 @@ pub carries_tried : {T : Type 0} (child : ℕ) {words : List (List ℕ)} (last :
     (result : Result T HostFault) (call : Event) {D : List Event → Type 0}
     → (tried : Tried child words last old.left new.left old.below new.below result D)
     → new.faults ≤ old.faults + refusals result
-    → (wants_memory result ≡ false → new.log.whole ≡ old.log.whole) → (new.log.whole ≡ true → old.log.whole ≡ true)
+    → IsCallNoted old.log new.log call result → has_failed call ≡ is_failed result
     → IsCallDone old new call tried.called.events
     → Carries last old new (wants_memory result)
-carries_tried child last old new result call tried faults whole lost done = record {
+carries_tried child last old new result call tried faults noted fails done = record {
   count = tried.count;
   left = omega (arith, tried.left, faults);
+  most = λ quiet. omega (arith, tried.most quiet, noted_failures old.log new.log call result noted fails quiet);
   later = tried.called.later;
   rose = tried.called.rose;
-  whole = whole;
-  lost = lost;
+  whole = noted_whole old.log new.log call result noted;
+  lost = noted_lost old.log new.log call result noted;
   events = tried.called.events;
   failed = tried.called.failed;
   log = tried.called.log;
-  done = λ past after was now is. by_call old new call tried.called.events past done was is;
+  done = λ is past after was now. by_call old new call tried.called.events past done was is;
 }
 
 -- a call that got lost, and wasn't done
@@ -73,6 +76,7 @@ pub carries_lost : (last : ℕ) (old : Parts) (log : Calls) → log.whole ≡ fa
 carries_lost last old log lost = record {
   count = 0;
   left = omega arith;
+  most = λ is. absurd (cc (is));
   later = omega arith;
   rose = λ below. omega arith;
   whole = λ is. absurd (cc (is));
@@ -80,7 +84,7 @@ carries_lost last old log lost = record {
   events = [];
   failed = refl;
   log = extends_none old.below.log;
-  done = λ past after was now is. absurd (cc (is, lost));
+  done = λ is past after was now. absurd (cc (is, lost));
 }
 
 -- how much the count of a host's own faults rises

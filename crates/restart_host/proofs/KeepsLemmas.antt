@@ -16,7 +16,7 @@ use Rattle.restart_host.proofs.TriesLemmas.{GivesPart}
 use Rattle.restart_host.specs.Fits.{Fits}
 use Rattle.restart_host.specs.Kept.{IsFallen}
 use Rattle.restart_host.specs.Lines.{due_length}
-use Rattle.restart_host.specs.Lives.{Course, IsNoRead, IsRewritten, IsWritten, Moment, moment_by}
+use Rattle.restart_host.specs.Lives.{CourseOfCalls, IsNoRead, IsRewritten, IsWritten, Moment, moment_by}
 use Rattle.restart_host.specs.Steps.{Fetched, IsBringing, IsFetching, IsHearing, IsReviving, IsSending}
 use Rattle.restart_host.specs.Uses.{IsEnding}
 use Rattle.restart_host.specs.declared.kept.Life.{Life}
@@ -110,10 +110,10 @@ brings_again child words asked bytes old new fault result xs ys failed begun sen
     let mid : Moment = moment_by child m xs in
     let two = revives.revived mid (sent.fell (ap Err failed)) in
     let joined = moment_join child m xs ys in
-    let first : Course child (IsWritten m.talk.written asked bytes) m xs =
+    let first : CourseOfCalls child (IsWritten m.talk.written asked bytes) m xs =
     course_so child _ (IsWritten m.talk.written asked bytes) m xs (λ at holds. (holds.0, inl holds.1)) sent.course in
     let at_mid = course_end child _ m xs sent.course in
-    let second : Course child (IsWritten m.talk.written asked bytes) mid ys =
+    let second : CourseOfCalls child (IsWritten m.talk.written asked bytes) mid ys =
     course_so child _ (IsWritten m.talk.written asked bytes) mid ys
     (λ at holds. elim holds [
       | inl same ↦ (at_mid.0, inl (same ∙ at_mid.1))
@@ -219,12 +219,12 @@ fetches_missed child asked old new held fault xs ys alive due down hears ending 
     let fails = hears.failed fault refl in
     let last : Event = heard child fails.1.0 (Err fault) in
     let whole : xs ≡ hears.reads ++ last ∷ [] = hears.cut ∙ ap (λ zs. hears.reads ++ zs) fails.1.1 in
-    let front : Course child P m hears.reads = course_so child _ P m hears.reads (λ at same. inl same) reads.0 in
+    let front : CourseOfCalls child P m hears.reads = course_so child _ P m hears.reads (λ at same. inl same) reads.0 in
     let at : Moment = moment_by child m hears.reads in
     let may : length (lines_of at.talk.heard) < length (lines_of at.talk.written) =
     subst (λ (x : Moment). length (lines_of x.talk.heard) < length (lines_of x.talk.written)) (sym reads.1)
     (may_read before asked hears.bytes old m has (fits.up alive) fails.0) in
-    let first : Course child P m (hears.reads ++ last ∷ []) =
+    let first : CourseOfCalls child P m (hears.reads ++ last ∷ []) =
     course_join child P m hears.reads (last ∷ []) front (course_end child P m hears.reads front, may, course_end child P m hears.reads front) in
     let end = ended child P (moment_by child m (hears.reads ++ last ∷ [])) ys ending (course_end child P m (hears.reads ++ last ∷ []) first) in
     subst (λ zs. Fetched child before asked new (Err fault) m (zs ++ ys)) (sym whole) (record {
@@ -238,7 +238,7 @@ fetches_missed child asked old new held fault xs ys alive due down hears ending 
     })
 
 fetched_join : (child : ℕ) (before asked : List ℕ) (life : Life) (result : Result (Unit {0}) HostFault) (m : Moment)
-    (xs ys : List Event) → Course child (IsRewritten m.talk.written asked) m xs
+    (xs ys : List Event) → CourseOfCalls child (IsRewritten m.talk.written asked) m xs
     → Fetched child before asked life result (moment_by child m xs) ys → Fetched child before asked life result m (xs ++ ys)
 fetched_join child before asked life result m xs ys first rest =
     let joined = moment_join child m xs ys in

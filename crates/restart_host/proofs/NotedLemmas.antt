@@ -1,13 +1,16 @@
 -- Calls that are noted.
-use Rattle.std.proofs.Common.{◌≡◌, ◌≢◌, ℕ, Bool, true, false, List, [], ◌∷◌, ◌++◌, take, Some, None, Result, Ok, Err, MatchResult, refl, sym, ap, ◌∙◌, inl, inr, if◌then◌else◌, ◌==◌}
+use Rattle.std.proofs.Common.{◌≡◌, ◌≢◌, ℕ, ◌+◌, ◌<◌, ◌≤◌, arith, Bool, true, false, cond, List, [], ◌∷◌, ◌++◌, length, take, Some, None, Result, Ok, Err, IfOk, MatchResult, refl, sym, ap, ◌∙◌, inl, inr, if◌then◌else◌, ◌==◌}
 use Rattle.std.proofs.lemmas.Bool.{eq-eqb}
+use Rattle.std.proofs.lemmas.List.{length-take-le}
 use Rattle.std.proofs.lemmas.Bool.Decides.{eqb_tells}
+use Rattle.lemmas.proofs.Counts.{count_last}
 use Rattle.io_world.specs.Leads.{wants_memory}
 use Rattle.io_world.specs.Logs.{Calls, Notes, said_of, told_of}
 use Rattle.io_world.specs.Talks.{Event, Talk, started, wrote, heard, stopped, given, silence, said_after, spelled, LogGrows, Logs, Same, Empties, Writes, Hears}
 use Rattle.io_world.specs.declared.host.HostFault.{HostFault}
-use Rattle.io_world.specs.declared.host.HostFault.TheVariants.{Memory}
+use Rattle.io_world.specs.declared.host.HostFault.TheVariants.{Failed, Memory}
 use Rattle.restart_host.specs.Noted.{IsCallNoted, Lost}
+use Rattle.restart_host.specs.Tries.{failures, has_failed, is_failed, refusals}
 
 told_more : (was now : Bool) (old new : List Event) (event : Event) → now ≡ was → new ≡ old ++ event ∷ []
     → LogGrows (if was then Some old else None) (if now then Some new else None) (event ∷ [])
@@ -19,6 +22,10 @@ told_lost : (was now : Bool) (old new : List Event) (event : Event) → now ≡ 
     → LogGrows (if was then Some old else None) (if now then Some new else None) (event ∷ [])
 told_lost was false old new event lost = tt
 told_lost was true old new event lost = absurd (cc (lost))
+
+-- a log that is whole is told
+pub told_whole : (calls : Calls) → calls.whole ≡ true → told_of calls ≡ Some calls.events
+told_whole calls whole = rw whole refl
 
 -- the log that is told has the call more
 pub noted_log : {T : Type 0} (old new : Calls) (event : Event) (result : Result T HostFault) → IsCallNoted old new event result
@@ -113,6 +120,33 @@ noted_lost old new event result is whole = elim is.noted [
   | inl noted ↦ sym noted.whole ∙ whole
   | inr lost ↦ absurd (cc (lost.1.whole, whole))
 ]
+
+-- ---- how many of the calls failed
+
+-- one more, where the call that came failed
+pub failures_noted : (old new : Calls) (event : Event) → Notes old new event
+    → failures new.events ≡ failures old.events + cond (has_failed event) 1 0
+failures_noted old new event noted = ap failures noted.events ∙ count_last has_failed old.events event
+
+pub noted_failures : {T : Type 0} (old new : Calls) (event : Event) (result : Result T HostFault)
+    → IsCallNoted old new event result → has_failed event ≡ is_failed result → wants_memory result ≡ false
+    → failures new.events ≡ failures old.events + refusals result
+noted_failures old new event result is fails quiet = elim is.noted [
+  | inl noted ↦ failures_noted old new event noted ∙ ap (λ b. failures old.events + cond b 1 0) fails
+  | inr lost ↦ absurd (cc (lost.0, quiet))
+]
+
+-- a read failed where it answers so
+pub given_failed : (result : Result ℕ HostFault) (room : List ℕ) → is_failed (given result room) ≡ is_failed result
+given_failed (Ok n) room = refl
+given_failed (Err Failed) room = refl
+given_failed (Err Memory) room = refl
+
+-- a read gives some bytes
+pub given_some : (result : Result ℕ HostFault) (room : List ℕ) → IfOk result (λ n. (0 < n) × (n ≤ length room))
+    → IfOk (given result room) (λ bytes. 0 < length bytes)
+given_some (Ok n) room count = let size = length-take-le n room count.1 in omega (arith, size, count.0)
+given_some (Err fault) room count = tt
 
 -- ---- what calls make of the log
 

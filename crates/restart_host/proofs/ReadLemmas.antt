@@ -30,6 +30,7 @@ tried_given child words last left now a b value (Ok other) D E quiet so tried = 
   count = tried.count;
   called = called_as child words last a b tried.count D E so tried.called;
   left = tried.left;
+  most = λ quiet. tried.most refl;
   fewer = tried.fewer;
   spent = λ is. absurd (cc (is));
 }
@@ -38,6 +39,7 @@ tried_given child words last left now a b value (Err Memory) D E quiet so tried 
   count = tried.count;
   called = called_as child words last a b tried.count D E so tried.called;
   left = tried.left;
+  most = λ wanted. absurd (cc (wanted));
   fewer = tried.fewer;
   spent = λ is. absurd (cc (is));
 }

@@ -8,7 +8,7 @@ use Rattle.io_world.specs.declared.host.HostFault.{HostFault}
 use Rattle.io_world.specs.declared.host.HostFault.TheVariants.{Failed, Memory}
 use Rattle.restart_host.proofs.CourseLemmas.{course_end, course_join, course_so, moment_join, takes_from, takes_these}
 use Rattle.restart_host.proofs.TriesLemmas.{TakesPart}
-use Rattle.restart_host.specs.Lives.{Course, IsNoRead, IsRewritten, Moment, moment_after, moment_by}
+use Rattle.restart_host.specs.Lives.{CourseOfCalls, IsNoRead, IsRewritten, Moment, moment_after, moment_by}
 use Rattle.restart_host.specs.Steps.{IsReviving, IsSending, Sent}
 use Rattle.restart_host.specs.Uses.{IsEnding}
 
@@ -20,7 +20,7 @@ on_ok m at to (Err fault) same is = tt
 -- ---- stops
 
 pub record Ended (child : ℕ) (P : Moment → Type 0) (m : Moment) (events : List Event) : Type 0 where
-  pub course : Course child P m events
+  pub course : CourseOfCalls child P m events
   pub same : moment_by child m events ≡ m
   pub unread : All IsNoRead events
 
@@ -68,7 +68,7 @@ sends_all child bytes events takes = record {
       let these = takes_these child bytes m events takes in
       record {
         unread = these.0.unread;
-        course = subst (λ bs. Course child (λ at. (n : ℕ) × (at.talk.written ≡ m.talk.written ++ take n bs)) m events) these.1
+        course = subst (λ bs. CourseOfCalls child (λ at. (n : ℕ) × (at.talk.written ≡ m.talk.written ++ take n bs)) m events) these.1
             these.0.course;
         done = these.0.done ∙ ap (λ bs. let at : Moment = record { talk = wrote_more bs m.talk; fallen = m.fallen } in at) these.1;
         fell = λ is. absurd (cc (is));
@@ -96,14 +96,14 @@ sends_part child bytes fault xs ys some part ending = record {
       let these = takes_these child (take part.1 bytes) m part.0 part.2 in
       let refused : Event = wrote child (drop part.1 bytes) (Err fault) in
       let P : Moment → Type 0 = λ at. (n : ℕ) × (at.talk.written ≡ m.talk.written ++ take n bytes) in
-      let taken : Course child P m part.0 =
+      let taken : CourseOfCalls child P m part.0 =
       course_so child _ P m part.0
       (λ at holds.
       let twice = take_twice holds.0 part.1 bytes in
       (twice.0, holds.1 ∙ ap (λ bs. m.talk.written ++ bs) (ap (take holds.0) these.1 ∙ twice.1)))
       these.0.course in
       let mid : Moment = moment_by child m part.0 in
-      let first : Course child P m (part.0 ++ refused ∷ []) =
+      let first : CourseOfCalls child P m (part.0 ++ refused ∷ []) =
       course_join child P m part.0 (refused ∷ []) taken (course_end child P m part.0 taken, tt, course_end child P m part.0 taken) in
       let end = ended child P (moment_by child m (part.0 ++ refused ∷ [])) ys ending
       (course_end child P m (part.0 ++ refused ∷ []) first) in
@@ -124,9 +124,9 @@ sends_part child bytes fault xs ys some part ending = record {
 
 -- what was rewritten since a later moment
 pub rewritten_join : (child : ℕ) (asked : List ℕ) (m : Moment) (xs ys : List Event)
-    → Course child (IsRewritten m.talk.written asked) m xs
-    → Course child (IsRewritten (moment_by child m xs).talk.written asked) (moment_by child m xs) ys
-    → Course child (IsRewritten m.talk.written asked) m (xs ++ ys)
+    → CourseOfCalls child (IsRewritten m.talk.written asked) m xs
+    → CourseOfCalls child (IsRewritten (moment_by child m xs).talk.written asked) (moment_by child m xs) ys
+    → CourseOfCalls child (IsRewritten m.talk.written asked) m (xs ++ ys)
 rewritten_join child asked m xs ys first second =
     course_join child (IsRewritten m.talk.written asked) m xs ys first
     (course_so child _ (IsRewritten m.talk.written asked) (moment_by child m xs) ys
@@ -171,7 +171,7 @@ revives_once child words asked result xs ys is sends =
             course = (
               inl refl,
               fallen,
-              subst (λ (at : Moment). Course child (IsRewritten m.talk.written asked) at ys) (sym start)
+              subst (λ (at : Moment). CourseOfCalls child (IsRewritten m.talk.written asked) at ys) (sym start)
                   (course_so child _ (IsRewritten m.talk.written asked) new ys to sent.course),
             );
             done = on_ok _ _ _ result (ap (λ (at : Moment). moment_by child at ys) start) sent.done;

@@ -206,8 +206,10 @@ module _ (children : List Kept) (i : ℕ) (was now : Kept) (calls : List Event) 
             (subst (λ part. Fits part asked was.life (moment_of i past)) none fits))),
       )
 
-  pub wrote_done : (past : List Event) → below_old ≡ Some past → IsDone calls past (wrote i bytes result) events
-  wrote_done past below = (
+  pub wrote_done : 0 < length bytes → (past : List Event) → below_old ≡ Some past
+      → IsDone calls past (wrote i bytes result) events
+  wrote_done some past below = (
+    some,
     all,
     subst (λ ws. All (IsOn i ws) events) (tied.words i was at runs) on,
     λ asked waits line.
@@ -284,9 +286,11 @@ module _ (children : List Kept) (i room : ℕ) (was now : Kept) (calls : List Ev
       (reads (moment_of i past) (part_of i calls) (rest_line (spelled i silence calls).heard) (subst HasLine (sym kept.0) has)
       (subst (λ bs. Fits (part_of i calls) bs was.life (moment_of i past)) (sym kept.0) kept.1))
 
-  pub read_done : (past : List Event) → below_old ≡ Some past → IsDone calls past (heard i room answer) events
-  read_done past below =
+  pub read_done : IfOk answer (λ bytes. 0 < length bytes) → (past : List Event) → below_old ≡ Some past
+      → IsDone calls past (heard i room answer) events
+  read_done some past below =
       let each = subst (λ ws. All (IsOn i ws) events) (tied.words i was at runs) on in (
+        some,
         each,
         λ asked waits has.
             let from = read_from past asked below waits has in

@@ -16,6 +16,7 @@ tried_again child words last left mid now a b c Failed result D E F join first s
   count = 1 + rest.count;
   called = called_more child words last a b c 1 rest.count D E F join first rest.called;
   left = omega (arith, spends.1, rest.left);
+  most = λ quiet. omega (arith, spends.1, rest.most quiet);
   fewer = omega (arith, spends.1, rest.fewer);
   spent = rest.spent;
 }
@@ -29,6 +30,7 @@ tried_done child words last left a b value D called = record {
   count = 0;
   called = called;
   left = omega arith;
+  most = λ quiet. omega arith;
   fewer = omega arith;
   spent = λ is. absurd (cc (is));
 }
@@ -42,6 +44,7 @@ tried_refused child words last left a b Failed D called none = record {
   count = 1;
   called = called;
   left = omega arith;
+  most = λ quiet. omega arith;
   fewer = omega arith;
   spent = λ is. none refl;
 }
@@ -49,6 +52,7 @@ tried_refused child words last left a b Memory D called none = record {
   count = 0;
   called = called;
   left = omega arith;
+  most = λ quiet. omega arith;
   fewer = omega arith;
   spent = λ is. absurd (cc (is));
 }
@@ -62,6 +66,7 @@ tried_behind child words last left now a b c result D E F join first rest = reco
   count = rest.count;
   called = called_then child words last a b c rest.count D E F join first rest.called;
   left = rest.left;
+  most = rest.most;
   fewer = rest.fewer;
   spent = rest.spent;
 }
@@ -75,6 +80,7 @@ tried_before child words last left now a b c result D E F join first rest = reco
   count = first.count;
   called = called_quiet child words last a b c first.count D E F join first.called rest;
   left = first.left;
+  most = first.most;
   fewer = first.fewer;
   spent = first.spent;
 }
@@ -89,6 +95,7 @@ tried_joined child words last left mid now a b c value result D E F join first r
   count = first.count + rest.count;
   called = called_more child words last a b c first.count rest.count D E F join first.called rest.called;
   left = omega (arith, first.left, rest.left);
+  most = λ quiet. omega (arith, first.most refl, rest.most quiet);
   fewer = omega (arith, first.fewer, rest.fewer);
   spent = rest.spent;
 }
@@ -102,6 +109,7 @@ tried_unheard child words last left now a b result D E weaker tried = record {
   count = tried.count;
   called = called_as child words last a b tried.count D E weaker tried.called;
   left = omega (arith, tried.left);
+  most = λ quiet. absurd (cc (quiet));
   fewer = tried.fewer;
   spent = λ is. absurd (cc (is));
 }
@@ -115,6 +123,7 @@ tried_as child words last left now a b Failed D E weaker tried = record {
   count = tried.count;
   called = called_as child words last a b tried.count D E weaker tried.called;
   left = tried.left;
+  most = λ quiet. tried.most refl;
   fewer = tried.fewer;
   spent = λ is. tried.spent refl;
 }
@@ -129,6 +138,7 @@ tried_so child words last left now a b result D E weaker tried = record {
   count = tried.count;
   called = called_as child words last a b tried.count D E weaker tried.called;
   left = tried.left;
+  most = tried.most;
   fewer = tried.fewer;
   spent = tried.spent;
 }

@@ -141,7 +141,7 @@ taken_on child words (wrote k bytes (Err fault)) taken = absurd taken
 taken_on child words (heard k room answer) taken = absurd taken
 taken_on child words (stopped k answer) taken = absurd taken
 
-taken_done : (child : ℕ) (event : Event) → IsTaken child event → has_failed event ≡ false
+pub taken_done : (child : ℕ) (event : Event) → IsTaken child event → has_failed event ≡ false
 taken_done child (started k argv answer) taken = absurd taken
 taken_done child (wrote k bytes (Ok n)) taken = refl
 taken_done child (wrote k bytes (Err fault)) taken = absurd taken
@@ -155,7 +155,7 @@ given_on child words (heard k room (Ok bytes)) given = given
 given_on child words (heard k room (Err fault)) given = absurd given
 given_on child words (stopped k answer) given = absurd given
 
-given_done : (child : ℕ) (event : Event) → IsGiven child event → has_failed event ≡ false
+pub given_done : (child : ℕ) (event : Event) → IsGiven child event → has_failed event ≡ false
 given_done child (started k argv answer) given = absurd given
 given_done child (wrote k bytes answer) given = absurd given
 given_done child (heard k room (Ok bytes)) given = refl
@@ -163,7 +163,7 @@ given_done child (heard k room (Err fault)) given = absurd given
 given_done child (stopped k answer) given = absurd given
 
 -- calls that were all done
-none_failed : (P : Event → Type 0) → ((event : Event) → P event → has_failed event ≡ false) → (events : List Event)
+pub none_failed : (P : Event → Type 0) → ((event : Event) → P event → has_failed event ≡ false) → (events : List Event)
     → All P events
     → failures events ≡ 0
 none_failed P done [] each = refl

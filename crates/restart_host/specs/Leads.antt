@@ -20,12 +20,19 @@ pub record Parts : Type 0 where
 abbrev pub IsDoneBy : (old new past events : List Event) → Type 0
 IsDoneBy old new past events = (more : List Event) × (new ≡ old ++ more) × AreDone old past more events
 
--- So many starts, writes and reads of the host below failed: those that were made good and those that were refused. Its
--- count rose by as much, up to its last value. The log stays whole unless memory was wanting; and where it is, and the
--- host below tells its own, the calls that came were done by those that came there.
+-- where the host below tells its log, the calls that came were done by those that came there
+abbrev pub AreDoneBelow : (old new : List Event) → (was now : Option (List Event)) → List Event → Type 0
+AreDoneBelow old new was now events =
+    (past after : List Event) → was ≡ Some past → now ≡ Some after → IsDoneBy old new past events
+
+-- So many starts, writes and reads of the host below failed: those that were made good and those that were refused, and
+-- no others, unless memory was wanting (`most`). Its count rose by as much, up to its last value. The log stays whole
+-- unless memory was wanting; and where it is, and the host below tells its own, the calls that came were done by those
+-- that came there.
 pub record Carries (last : ℕ) (old new : Parts) (memory : Bool) : Type 0 where
   pub count : ℕ
   pub left : old.left + new.faults ≤ new.left + old.faults + count
+  pub most : memory ≡ false → new.left + failures old.log.events + count ≤ old.left + failures new.log.events
   pub later : old.below.faults ≤ new.below.faults
   pub rose : new.below.faults < last → old.below.faults + count ≤ new.below.faults
   pub whole : memory ≡ false → new.log.whole ≡ old.log.whole
@@ -33,8 +40,7 @@ pub record Carries (last : ℕ) (old new : Parts) (memory : Bool) : Type 0 where
   pub events : List Event
   pub failed : failures events ≡ count
   pub log : LogGrows old.below.log new.below.log events
-  pub done : (past after : List Event) → old.below.log ≡ Some past → new.below.log ≡ Some after → new.log.whole ≡ true
-      → IsDoneBy old.log.events new.log.events past events
+  pub done : new.log.whole ≡ true → AreDoneBelow old.log.events new.log.events old.below.log new.below.log events
 
 -- The count rose by so many, or stands at its last value.
 abbrev pub RoseBy : (count last before now : ℕ) → Type 0
@@ -67,6 +73,7 @@ pub carries_none : (last : ℕ) (parts : Parts) → Carries last parts parts fal
 carries_none last parts = record {
   count = 0;
   left = omega arith;
+  most = λ is. omega arith;
   later = omega arith;
   rose = λ below. omega arith;
   whole = λ is. refl;
@@ -74,7 +81,7 @@ carries_none last parts = record {
   events = [];
   failed = refl;
   log = extends_none parts.below.log;
-  done = λ past after was now whole. ([], sym (append-nil parts.log.events), refl);
+  done = λ whole past after was now. ([], sym (append-nil parts.log.events), refl);
 }
 
 -- what a log was that is told in the end
@@ -113,37 +120,38 @@ by_joined old mid new past after events later is first second = (
       (subst (λ calls. AreDone mid calls second.0 later) is second.2)),
 )
 
-carries_joined : (last : ℕ) (a b c : Parts) (m n o : Bool) → (o ≡ false → c.log.whole ≡ a.log.whole)
+carries_joined : (last : ℕ) (a b c : Parts) (m n o : Bool) → (o ≡ false → (m ≡ false) × (n ≡ false))
     → Carries last a b m → Carries last b c n → Carries last a c o
-carries_joined last a b c m n o whole first second = record {
+carries_joined last a b c m n o none first second = record {
   count = first.count + second.count;
   left = omega (arith, first.left, second.left);
+  most = λ is. omega (arith, first.most (none is).0, second.most (none is).1);
   later = omega (arith, first.later, second.later);
   rose = λ below.
       let late : c.below.faults < last = below in
       let before : b.below.faults < last = omega (arith, late, second.later) in
       omega (arith, first.rose before, second.rose late);
-  whole = whole;
+  whole = λ is. second.whole (none is).1 ∙ first.whole (none is).0;
   lost = λ is. first.lost (second.lost is);
   events = first.events ++ second.events;
   failed = count_joined has_failed first.events second.events ∙ ap (λ n. n + failures second.events) first.failed
       ∙ ap (λ n. first.count + n) second.failed;
   log = extends_more a.below.log b.below.log c.below.log first.events second.events first.log second.log;
-  done = λ past after was now whole_now.
+  done = λ whole_now past after was now.
       let mid = told_before b.below.log c.below.log second.events after second.log now in
       let start = told_before a.below.log b.below.log first.events mid.0 first.log mid.1 in
       let same : start.0 ≡ past = cc (start.1, was) in
       let is : mid.0 ≡ past ++ first.events = start.2 ∙ ap (λ calls. calls ++ first.events) same in
       by_joined a.log.events b.log.events c.log.events past mid.0 first.events second.events is
-      (first.done past mid.0 was mid.1 (second.lost whole_now)) (second.done mid.0 after mid.1 now whole_now);
+      (first.done (second.lost whole_now) past mid.0 was mid.1) (second.done whole_now mid.0 after mid.1 now);
 }
 
 pub carries_chain : (last : ℕ) (a b c : Parts) (m : Bool) → Carries last a b false → Carries last b c m
     → Carries last a c m
 carries_chain last a b c m first second =
-    carries_joined last a b c false m m (λ is. second.whole is ∙ first.whole refl) first second
+    carries_joined last a b c false m m (λ is. (refl, is)) first second
 
 pub carries_end : (last : ℕ) (a b c : Parts) (m : Bool) → Carries last a b m → Carries last b c false
     → Carries last a c m
 carries_end last a b c m first second =
-    carries_joined last a b c m false m (λ is. second.whole refl ∙ first.whole is) first second
+    carries_joined last a b c m false m (λ is. (is, refl)) first second

@@ -53,10 +53,10 @@ MayTry m (stopped k answer) = Unit {0}
 
 -- Calls from a moment on, each of which may be tried at its own, while this holds of the child at each moment, from the
 -- first to the last.
-abbrev pub Course : ℕ → (Moment → Type 0) → Moment → List Event → Type 0
-Course child Holds m [] = Holds m
-Course child Holds m (event ∷ events) =
-    Holds m × MayTry m event × Course child Holds (moment_after child m event) events
+abbrev pub CourseOfCalls : ℕ → (Moment → Type 0) → Moment → List Event → Type 0
+CourseOfCalls child Holds m [] = Holds m
+CourseOfCalls child Holds m (event ∷ events) =
+    Holds m × MayTry m event × CourseOfCalls child Holds (moment_after child m event) events
 
 -- Since its start the child was written what it had been before, and then the first of these bytes; or the first of
 -- what waits for an answer and of these bytes.
@@ -70,7 +70,7 @@ pub record AreBringing (child : ℕ) (words : List (List ℕ)) (waiting bytes : 
     : Type 0 where
   pub on : All (IsOn child words) tries
   pub unread : All IsNoRead tries
-  pub course : Course child (IsWritten m.talk.written waiting bytes) m tries
+  pub course : CourseOfCalls child (IsWritten m.talk.written waiting bytes) m tries
 
 -- Bytes are brought: in the end they are written whole.
 pub record Brings (child : ℕ) (words : List (List ℕ)) (waiting bytes : List ℕ) (m : Moment) (tries : List Event)
@@ -88,7 +88,7 @@ IsRewritten was text m = (m.talk.written ≡ was) ⊎ ((n : ℕ) × (m.talk.writ
 pub record AreFetching (child : ℕ) (words : List (List ℕ)) (text : List ℕ) (m : Moment) (tries : List Event)
     : Type 0 where
   pub on : All (IsOn child words) tries
-  pub course : Course child (IsRewritten m.talk.written text) m tries
+  pub course : CourseOfCalls child (IsRewritten m.talk.written text) m tries
 
 -- The line of this text stands at a place of those that were written to the child since its start.
 pub record IsAskedAt (text : List ℕ) (place : ℕ) (m : Moment) : Type 0 where

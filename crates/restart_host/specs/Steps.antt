@@ -8,7 +8,7 @@ use Rattle.io_world.specs.Talks.{Event, Gives, heard, wrote_more}
 use Rattle.io_world.specs.declared.host.HostFault.{HostFault}
 use Rattle.io_world.specs.declared.host.HostFault.TheVariants.{Failed}
 use Rattle.restart_host.specs.Fits.{Fits}
-use Rattle.restart_host.specs.Lives.{Course, IsNoRead, IsRewritten, IsWritten, Moment, moment_by}
+use Rattle.restart_host.specs.Lives.{CourseOfCalls, IsNoRead, IsRewritten, IsWritten, Moment, moment_by}
 use Rattle.restart_host.specs.Uses.{AreOfLine, AreStarts, Completes, IsRequest}
 use Rattle.restart_host.specs.declared.kept.Kept.{Kept}
 use Rattle.restart_host.specs.declared.kept.Life.{Life}
@@ -17,7 +17,7 @@ use Rattle.restart_host.specs.declared.kept.Life.{Life}
 pub record Sent (child : ℕ) (bytes : List ℕ) (result : Result (Unit {0}) HostFault) (m : Moment) (events : List Event)
     : Type 0 where
   pub unread : All IsNoRead events
-  pub course : Course child (λ at. (n : ℕ) × (at.talk.written ≡ m.talk.written ++ take n bytes)) m events
+  pub course : CourseOfCalls child (λ at. (n : ℕ) × (at.talk.written ≡ m.talk.written ++ take n bytes)) m events
   pub done : OnOk result (moment_by child m events ≡ record { talk = wrote_more bytes m.talk; fallen = m.fallen })
   pub fell : IsErrOf result Failed → (moment_by child m events).fallen ≡ true
 
@@ -30,7 +30,7 @@ pub record IsSending (child : ℕ) (bytes : List ℕ) (result : Result (Unit {0}
 pub record Revived (child : ℕ) (asked : List ℕ) (result : Result (Unit {0}) HostFault) (m : Moment) (events : List Event)
     : Type 0 where
   pub unread : All IsNoRead events
-  pub course : Course child (IsRewritten m.talk.written asked) m events
+  pub course : CourseOfCalls child (IsRewritten m.talk.written asked) m events
   pub done : OnOk result (moment_by child m events
       ≡ record { talk = record { written = asked; heard = [] }; fallen = false })
   pub fell : IsErrOf result Failed → (moment_by child m events).fallen ≡ true
@@ -58,7 +58,7 @@ pub record IsHearing (child : ℕ) (old new : List ℕ) (result : Result (Unit {
 -- What waits for an answer is fetched, and what is kept agrees with it, unless memory was wanting.
 pub record Fetched (child : ℕ) (before asked : List ℕ) (life : Life) (result : Result (Unit {0}) HostFault) (m : Moment)
     (events : List Event) : Type 0 where
-  pub course : Course child (IsRewritten m.talk.written asked) m events
+  pub course : CourseOfCalls child (IsRewritten m.talk.written asked) m events
   pub done : OnOk result (Fits before asked life (moment_by child m events))
   pub fell : IsErrOf result Failed → Fits before asked life (moment_by child m events)
 
@@ -72,7 +72,7 @@ IsFetching child asked old new result events =
 pub record Brought {T : Type 0} (child : ℕ) (asked bytes : List ℕ) (life : Life) (result : Result T HostFault) (m : Moment)
     (events : List Event) : Type 0 where
   pub unread : All IsNoRead events
-  pub course : Course child (IsWritten m.talk.written asked bytes) m events
+  pub course : CourseOfCalls child (IsWritten m.talk.written asked bytes) m events
   pub whole : OnOk result (((moment_by child m events).talk.written ≡ m.talk.written ++ bytes)
       ⊎ ((moment_by child m events).talk.written ≡ asked ++ bytes))
   pub done : OnOk result (Fits [] (asked ++ bytes) life (moment_by child m events))
@@ -102,7 +102,7 @@ pub record HandsOut (count : ℕ) (old new : Kept) (given : List ℕ) : Type 0 w
 -- Bytes of a line are read, and what is kept agrees with it, unless memory was wanting.
 pub record Reads (child : ℕ) (before asked : List ℕ) (kept : Kept) (answer : Result (List ℕ) HostFault) (m : Moment)
     (events : List Event) : Type 0 where
-  pub course : Course child (IsRewritten m.talk.written asked) m events
+  pub course : CourseOfCalls child (IsRewritten m.talk.written asked) m events
   pub gives : IfOk answer (λ bytes. AreOfLine bytes
       × (length before < 1025 → IsRequest asked → Completes asked before bytes (moment_by child m events))
       × Fits (unfinished (before ++ bytes)) kept.asked.items kept.life (moment_by child m events)

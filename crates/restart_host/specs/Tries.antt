@@ -1,6 +1,7 @@
 -- Calls on one child of the host below, and how many of them failed.
 use Rattle.std.specs.Prelude.{◌≡◌, ◌≢◌, ℕ, ◌+◌, ◌<◌, ◌≤◌, Bool, true, false, cond, List, count_by, Option, Result, Ok, Err, IsErrOf}
 use Rattle.std.specs.List.{All}
+use Rattle.io_world.specs.Leads.{wants_memory}
 use Rattle.io_world.specs.Talks.{Event, started, wrote, heard, stopped, LogGrows}
 use Rattle.io_world.specs.declared.host.HostFault.{HostFault}
 use Rattle.io_world.specs.declared.host.HostFault.TheVariants.{Failed, Memory}
@@ -57,12 +58,13 @@ pub record CalledInner (child : ℕ) (words : List (List ℕ)) (last : ℕ) (old
   pub does : Does events
 
 -- Calls that are done again where they fail: each failure but the last one is made good, and takes one from those that
--- still are.
+-- still are. Unless memory was wanting, so many were made good, and no more.
 pub record Tried {T : Type 0} (child : ℕ) (words : List (List ℕ)) (last left_old left_new : ℕ) (old new : Seen)
     (result : Result T HostFault) (Does : List Event → Type 0) : Type 0 where
   pub count : ℕ
   pub called : CalledInner child words last old new count Does
   pub left : left_old + refusals result ≤ left_new + count
+  pub most : wants_memory result ≡ false → left_new + count ≤ left_old + refusals result
   pub fewer : left_new ≤ left_old
   pub spent : IsErrOf result Failed → left_new ≡ 0
 

@@ -109,16 +109,17 @@ pub record IsReading (child : ℕ) (words : List (List ℕ)) (text before : List
       → Completes text before bytes (moment_by child m events))
 
 -- A call, behind these calls on the host and those on the host below, is done by these. A start is done by starts; a
--- stop is Ok, and done by one stop at most. A write takes all of its bytes, and brings them where no whole request
--- waits; a read fetches the answer to the one that waits. In other use these are calls on the child, with its words.
+-- stop is Ok, and done by one stop at most. A write has bytes, takes all of them, and brings them where no whole request
+-- waits; a read gives some, and fetches the answer to the one that waits. In other use these are calls on the child, with
+-- its words.
 abbrev pub IsDone : (calls past : List Event) → Event → List Event → Type 0
 IsDone calls past (started child words answer) events = AreStarts child words answer events
 IsDone calls past (wrote child bytes answer) events =
-    IfOk answer (λ n. n ≡ length bytes) × All (IsOn child (words_of child calls)) events
+    (0 < length bytes) × IfOk answer (λ n. n ≡ length bytes) × All (IsOn child (words_of child calls)) events
     × ((asked : List ℕ) → waiting child calls ≡ Some asked → IsLine asked
     → IsWriting child (words_of child calls) asked bytes answer (moment_of child past) events)
 IsDone calls past (heard child room answer) events =
-    All (IsOn child (words_of child calls)) events
+    IfOk answer (λ bytes. 0 < length bytes) × All (IsOn child (words_of child calls)) events
     × ((asked : List ℕ) → waiting child calls ≡ Some asked → HasLine asked
     → IsReading child (words_of child calls) asked (part_of child calls) answer (moment_of child past) events)
 IsDone calls past (stopped child answer) events = (answer ≡ Ok tt) × IsEnding child events

@@ -3,16 +3,16 @@ use Rattle.std.proofs.Common.{◌≡◌, ℕ, zero, suc, ◌+◌, ◌<◌, List,
 use Rattle.std.specs.List.{find, flat_map}
 use Rattle.std.proofs.lemmas.Bool.{cases_lt}
 use Rattle.std.proofs.lemmas.List.Elements.{All-nil, All-head, All-tail, All-append, All-cons}
-use Rattle.gen_lines.specs.Lines.{lines_of}
+use Rattle.gen_lines.specs.Lines.{lines_of, unfinished}
 use Rattle.io_world.proofs.LogsLemmas.{spelled-more}
 use Rattle.io_world.specs.Talks.{Event, Talk, started, wrote, heard, stopped, silence, spelled}
 use Rattle.io_world.specs.declared.host.HostFault.TheVariants.{Failed}
 use Rattle.lemmas.specs.Lists.{numbers_from}
-use Rattle.restart_host.proofs.UsesLemmas.{said_started, waiting_started, words_started}
+use Rattle.restart_host.proofs.UsesLemmas.{part_started, said_started, waiting_started, words_started}
 use Rattle.restart_host.specs.Uses.{AreDone, IsEnding, child_in}
 use Rattle.restart_runs.proofs.CallsLemmas.{AreSame, others_same}
 use Rattle.restart_runs.proofs.StandsLemmas.{Stands}
-use Rattle.restart_runs.specs.Again.{AreBegun, words_for}
+use Rattle.restart_runs.specs.Again.{AreBegunAtLast, words_for}
 use Rattle.restart_runs.proofs.WorkersLemmas.{IsWorkerIn}
 use Rattle.round_run.proofs.StartsLemmas.{starts_more, starts_whole}
 use Rattle.round_run.specs.Calls.{IsStop, has_child, start_at, start_in, starts_of}
@@ -41,7 +41,7 @@ all_ok pools (n ∷ numbers) =
 pub starts_ok : (pools : List Pool) → All IsOkStart (starts_of pools)
 starts_ok pools = subst (All IsOkStart) (starts_whole pools 17 refl) (all_ok pools (numbers_from 0 17))
 
-pub starts_begun : (starts calls past is : List Event) → All IsOkStart starts → AreDone calls past starts is → AreBegun starts is
+pub starts_begun : (starts calls past is : List Event) → All IsOkStart starts → AreDone calls past starts is → AreBegunAtLast starts is
 starts_begun [] calls past is each done = done
 starts_begun (started k words (Ok u) ∷ starts) calls past is each done =
     let n = done.3.0 in
@@ -71,6 +71,7 @@ module _ (task : Task) (head : Head) (calls : List Event) where
         named = words_started c words before ∙ (let named : words ≡ words_for head.pools c = rw found refl in named);
         lines = ap (λ (t : Talk). length (lines_of t.heard))
             (spelled-more c silence before (started c words (Ok tt)) ∙ said_started c words (spelled c silence before));
+        part = part_started c words before;
         waits = inl (waiting_started c words before, refl);
       })
 
@@ -79,6 +80,7 @@ module _ (task : Task) (head : Head) (calls : List Event) where
   still_started c before later same stands = record {
     named = same.words ∙ stands.named;
     lines = ap (λ (t : Talk). length (lines_of t.heard)) same.said ∙ stands.lines;
+    part = ap (λ (t : Talk). unfinished t.heard) same.said ∙ stands.part;
     waits = elim stands.waits [
       | inl idle ↦ inl (same.waits ∙ idle.0, idle.1)
       | inr due ↦ absurd (cc (due.at))

@@ -1,30 +1,31 @@
 -- The calls of a run are brought and fetched below, entry by entry.
 use Rattle.std.proofs.Common.{◌≡◌, ℕ, ◌+◌, ◌<◌, ◌≤◌, true, cond, List, [], ◌∷◌, ◌++◌, length, take, slice_get, Some, refl, sym, ap, subst, ◌∙◌, arith, append_assoc, append-nil, length-append, All, inl, inr}
 use Rattle.std.proofs.Math.Seq.{take-append_seam}
-use Rattle.std.proofs.lemmas.Bool.{cases_lt, eq-eqb}
+use Rattle.std.proofs.lemmas.Bool.{eq-eqb}
 use Rattle.std.proofs.lemmas.Bool.Decides.{eqb_tells}
 use Rattle.std.proofs.lemmas.List.{take-append-le}
 use Rattle.std.proofs.lemmas.List.Elements.{All-append, All-weaker}
 use Rattle.std.proofs.lemmas.List.Sums.{length-filter}
 use Rattle.std.proofs.lemmas.Option.{slice_get_within}
-use Rattle.gen_lines.specs.Lines.{lines_of}
+use Rattle.gen_lines.specs.Lines.{lines_of, unfinished}
 use Rattle.gen_lines.specs.Reply.{reply_of}
 use Rattle.io_world.specs.Talks.{Event, Talk, silence, spelled}
-use Rattle.lemmas.proofs.Counts.{count_joined, count_one, count_passes, count_whole}
+use Rattle.lemmas.proofs.Counts.{count_joined, count_one, count_passes}
 use Rattle.lemmas.proofs.Members.{get_append, get_at_length, next_taken}
 use Rattle.pools.specs.Pools.{Workers, child_for}
 use Rattle.restart_host.specs.Uses.{AreDone, child_in, waiting}
 use Rattle.restart_runs.proofs.CallsLemmas.{AreSame, IsNoStart, done_cut, given_in, given_no, heard_grows, line_stays, others_same, short_before, spelled_cut, taken_heard, taken_in, taken_no, words_behind}
 use Rattle.restart_runs.proofs.FetchedLemmas.{AreReads, reads_done, request_line}
+use Rattle.restart_runs.proofs.NextLemmas.{SayAnswers, waits_next}
 use Rattle.restart_runs.proofs.PiecesLemmas.{ArePieces, pieces_done}
-use Rattle.restart_runs.proofs.StandsLemmas.{IsDue, Stands, follows_no, more_of, not_counted, stands_still}
+use Rattle.restart_runs.proofs.StandsLemmas.{Stands, follows_no, more_of, not_counted, stands_still}
 use Rattle.restart_runs.specs.Again.{AreCallsAgain, Answered, FollowsAgain, words_for}
 use Rattle.restart_runs.proofs.WorkersLemmas.{GoToWorkers, IsWorkerIn}
 use Rattle.table_runs.specs.Asking.{AreAskedInTurn}
 use Rattle.round_run.proofs.DialogueLemmas.{count_own}
 use Rattle.round_run.proofs.DialogueRequestLemmas.{replies_join, requests_counted, requests_join}
 use Rattle.round_run.specs.Calls.{AreCallsOf, Follows, Hearing, answers_by, next_request}
-use Rattle.round_run.specs.Dialogue.{Dialogue, IsSaid, IsShortAt, Request, called_stream, count_to, is_to, last_round, replies_of, requests_after, requests_of, text_of_request, wanted_by, workers_in}
+use Rattle.round_run.specs.Dialogue.{IsShortAt, Request, called_stream, count_to, is_to, last_round, replies_of, requests_after, requests_of, text_of_request, wanted_by, workers_in}
 use Rattle.session_core.specs.Slots.{replied_entry}
 use Rattle.table_runs.proofs.AgreeLemmas.{reads}
 use Rattle.table_runs.proofs.AnswersLemmas.{answers_few}
@@ -48,9 +49,11 @@ module _ (task : Task) (head : Head) where
 
   module _ (entries : List Entry) (fit : IsFit task) (legal : IsLegal head.version task entries) (few : asks_of entries ≤ MOST_CALLS)
       (workers : GoToWorkers task head entries) (alone : AreAskedInTurn task pools entries) (final : List Event)
-      (talks : Dialogue task head.version pools entries (λ child. Some (spelled child silence final))) where
+      (said_all : (c : ℕ) → IsWorkerIn head c → 0 < asks_of entries
+      → SayAnswers task head.version (rs entries) (replies_of entries) c (spelled c silence final).heard)
+      (Begun : Type 0) (begun : 0 < asks_of entries → Begun) where
     abbrev Inv : List Entry → List Event → Type 0
-    Inv before calls = (c : ℕ) → IsWorkerIn head c → 0 < asks_of entries → Stands task head before calls c
+    Inv before calls = (c : ℕ) → IsWorkerIn head c → Begun → Stands task head before calls c
 
     some_asked : (k : ℕ) (r : Request) → slice_get (rs entries) k ≡ Some r → 0 < asks_of entries
     some_asked k r at =
@@ -128,7 +131,7 @@ module _ (task : Task) (head : Head) where
           ∙ (reads head.version task pools entries fit legal few (length (rs before)) r at_end).line []
 
       own : Stands task head before calls c
-      own = stands c worker (some_asked (length (rs before)) r at_end)
+      own = stands c worker (begun (some_asked (length (rs before)) r at_end))
 
       idle : waiting c calls ≡ Some []
       idle = elim own.waits [
@@ -138,8 +141,8 @@ module _ (task : Task) (head : Head) where
 
       pieces : ArePieces c (words_for head.pools c) [] (text_of_request r) calls past now is
       pieces =
-          pieces_done c (words_for head.pools c) (line_of_request r) now calls past is [] (text_of_request r)
-          (request_line (line_of_request r) one_line) refl own.named idle takes.each (ap (λ (t : Talk). t.written) takes.spells) done
+          pieces_done c (words_for head.pools c) (line_of_request r) [] now calls past is [] (text_of_request r)
+          (request_line (line_of_request r) one_line) (append-nil (text_of_request r)) own.named idle takes.each (ap (λ (t : Talk). t.written) takes.spells) done
 
       answers_same : (k : ℕ) → answers_by task pools (before ++ e ∷ []) k ≡ answers_by task pools before k
       answers_same k =
@@ -152,6 +155,7 @@ module _ (task : Task) (head : Head) where
         | inl same ↦ subst (Stands task head (before ++ e ∷ []) (calls ++ now)) (sym same.1) (record {
           named = words_behind c calls now (All-weaker _ IsNoStart (taken_no c) now takes.each) ∙ own.named;
           lines = ap (λ bs. length (lines_of bs)) (taken_heard c calls now takes.each) ∙ own.lines ∙ sym (answers_same c);
+          part = ap unfinished (taken_heard c calls now takes.each) ∙ own.part;
           waits = inr (record {
             place = length (rs before);
             request = r;
@@ -201,36 +205,10 @@ module _ (task : Task) (head : Head) where
       to_own = eq-eqb d d refl
 
       q_stands : Stands task head before calls d
-      q_stands = stands d q_worker (some_asked j q q_end)
-
-      open_one : most + 1 ≤ count_to d (rs before)
-      open_one = count_whole (is_to d) (rs before) j q hearing.next to_own
-
-      due_here : (due : IsDue task head before calls d) → due.request ≡ q
-      due_here due = elim (cases_lt due.place j) [
-        | inl less ↦ absurd (omega (
-          arith,
-          count_passes (is_to d) (rs before) due.place j due.request less due.at (eq-eqb due.request.child d due.own),
-          due.earlier,
-        ))
-        | inr most_is ↦ elim (cases_lt j due.place) [
-          | inl less ↦ absurd (omega (
-            arith,
-            count_passes (is_to d) (rs before) j due.place q less hearing.next to_own,
-            due.earlier,
-          ))
-          | inr least ↦
-              let same : due.place ≡ j = omega (arith, most_is, least) in
-              let both : Some due.request ≡ Some q = sym due.at ∙ ap (slice_get (rs before)) same ∙ hearing.next in
-              cc
-        ]
-      ]
+      q_stands = stands d q_worker (begun (some_asked j q q_end))
 
       q_waits : (waiting d calls ≡ Some (text_of_request q)) × (count_to d (rs before) ≡ most + 1)
-      q_waits = elim q_stands.waits [
-        | inl free ↦ absurd (omega (arith, free.1, open_one))
-        | inr due ↦ (due.waits ∙ ap (λ (x : Request). Some (text_of_request x)) (due_here due), due.count)
-      ]
+      q_waits = waits_next task head before calls q hearing.next q_stands
 
       q_line : lines_of (text_of_request q) ≡ line_of_request q ∷ []
       q_line =
@@ -238,8 +216,8 @@ module _ (task : Task) (head : Head) where
           ∙ (reads head.version task pools entries fit legal few j q q_end).line []
 
       -- what was said with the child in the end
-      said : IsSaid task head.version (rs entries) (replies_of entries) [] d (spelled d silence final)
-      said = talks d q_worker.one (let within = slice_get_within (rs entries) j q q_end in omega (arith, within))
+      said : SayAnswers task head.version (rs entries) (replies_of entries) d (spelled d silence final).heard
+      said = said_all d q_worker (some_asked j q q_end)
 
       more_said : (more : List ℕ) × ((spelled d silence final).heard ≡ (spelled d silence (calls ++ now)).heard ++ more)
       more_said =
@@ -319,6 +297,7 @@ module _ (task : Task) (head : Head) where
             record {
               named = words_behind d calls now (All-weaker _ IsNoStart (given_no d) now hearing.reads.each) ∙ q_stands.named;
               lines = fetched.count ∙ sym count;
+              part = fetched.part;
               waits = inl (fetched.waits, ap (count_to d) still ∙ q_waits.1 ∙ sym count);
             })
         | inr other ↦
@@ -377,24 +356,34 @@ module _ (task : Task) (head : Head) where
       after = plain before e calls now none refl refl stands;
     }
 
-    pub follows_again : (before es : List Entry) (calls past events is rest : List Event) → entries ≡ before ++ es
+    -- The calls of these entries are brought and fetched, and each child stands behind them as it should.
+    pub record Followed (before es : List Entry) (calls past events is : List Event) : Type 0 where
+      pub again : FollowsAgain task head past before es is
+      pub after : Inv (before ++ es) (calls ++ events)
+
+    pub followed : (before es : List Entry) (calls past events is rest : List Event) → entries ≡ before ++ es
         → final ≡ (calls ++ events) ++ rest → All IsNoStart rest → Inv before calls
         → Follows task pools calls before es events → AreDone calls past events is
-        → FollowsAgain task head past before es is
-    follows_again before [] calls past events is rest whole ends later stands follows done =
-        nothing_done calls past events is follows done
-    follows_again before (e ∷ es) calls past events is rest whole ends later stands follows done =
+        → Followed before es calls past events is
+    followed before [] calls past events is rest whole ends later stands follows done = record {
+      again = nothing_done calls past events is follows done;
+      after = λ c worker some.
+          subst (λ es. Stands task head es (calls ++ events) c) (sym (append-nil before))
+          (subst (λ zs. Stands task head before zs c) (sym (ap (λ zs. calls ++ zs) follows ∙ append-nil calls)) (stands c worker some));
+    }
+    followed before (e ∷ es) calls past events is rest whole ends later stands follows done =
         let cut = done_cut calls past follows.0 follows.1 is (subst (λ zs. AreDone calls past zs is) follows.2 done) in
         let joined : calls ++ events ≡ (calls ++ follows.0) ++ follows.1 =
         ap (λ zs. calls ++ zs) follows.2 ∙ sym (append_assoc calls follows.0 follows.1) in
         let one = step before es e calls past follows.0 (follows.1 ++ rest) cut.now whole
         (ends ∙ ap (λ zs. zs ++ rest) joined ∙ append_assoc (calls ++ follows.0) follows.1 rest)
         (All-append IsNoStart follows.1 rest (follows_no task pools (calls ++ follows.0) (before ++ e ∷ []) es follows.1 follows.4) later)
-        stands follows.3 cut.first in (
-          cut.now,
-          cut.later,
-          cut.cut,
-          one.brought,
-          follows_again (before ++ e ∷ []) es (calls ++ follows.0) (past ++ cut.now) follows.1 cut.later rest
-              (whole ∙ sym (append_assoc before (e ∷ []) es)) (ends ∙ ap (λ zs. zs ++ rest) joined) later one.after follows.4 cut.second,
-        )
+        stands follows.3 cut.first in
+        let others = followed (before ++ e ∷ []) es (calls ++ follows.0) (past ++ cut.now) follows.1 cut.later rest
+        (whole ∙ sym (append_assoc before (e ∷ []) es)) (ends ∙ ap (λ zs. zs ++ rest) joined) later one.after follows.4 cut.second in
+        record {
+          again = (cut.now, cut.later, cut.cut, one.brought, others.again);
+          after = λ c worker some.
+              subst (λ zs. Stands task head zs (calls ++ events) c) (append_assoc before (e ∷ []) es)
+              (subst (λ zs. Stands task head ((before ++ e ∷ []) ++ es) zs c) (sym joined) (others.after c worker some));
+        }

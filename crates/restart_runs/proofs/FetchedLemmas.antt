@@ -58,6 +58,24 @@ pub record AreReads (child : ℕ) (words : List (List ℕ)) (text : List ℕ) (m
   pub count : lines_read child (calls ++ events) ≡ most + 1
   pub said : slice_get (lines_of (spelled child silence (calls ++ events)).heard) most ≡ Some line
 
+-- tries behind tries
+pub fetching_join : (child : ℕ) (words : List (List ℕ)) (text : List ℕ) (m : Moment) (xs ys : List Event)
+    → AreFetching child words text m xs → AreFetching child words text (moment_by child m xs) ys
+    → AreFetching child words text m (xs ++ ys)
+fetching_join child words text m xs ys first second = record {
+  on = All-append (IsOn child words) xs ys first.on second.on;
+  course = rewritten_join child text m xs ys first.course second.course;
+}
+
+-- what was heard, with one more read
+pub heard_now : (child k room : ℕ) (calls : List Event) (bytes : List ℕ) → k ≡ child
+    → (spelled child silence (calls ++ heard k room (Ok bytes) ∷ [])).heard ≡ (spelled child silence calls).heard ++ bytes
+heard_now child k room calls bytes own =
+    subst (λ j. (spelled child silence (calls ++ heard j room (Ok bytes) ∷ [])).heard ≡ (spelled child silence calls).heard ++ bytes)
+    (sym own)
+    (ap (λ (t : Talk). t.heard)
+    (spelled-more child silence calls (heard child room (Ok bytes)) ∙ said_heard child room bytes (spelled child silence calls)))
+
 module _ (child : ℕ) (words : List (List ℕ)) (request : List ℕ) (quiet_request : IsLine request)
     (reads_one : lines_of (request ++ 10 ∷ []) ≡ request ∷ []) (most : ℕ) where
   abbrev text : List ℕ
@@ -73,20 +91,9 @@ module _ (child : ℕ) (words : List (List ℕ)) (request : List ℕ) (quiet_req
   later_fetched : (line : List ℕ) (m : Moment) (xs ys : List Event) → AreFetching child words text m xs
       → Fetches child words text line (moment_by child m xs) ys → Fetches child words text line m (xs ++ ys)
   later_fetched line m xs ys first second = record {
-    fetching = record {
-      on = All-append (IsOn child words) xs ys first.on second.fetching.on;
-      course = rewritten_join child text m xs ys first.course second.fetching.course;
-    };
+    fetching = fetching_join child words text m xs ys first second.fetching;
     fetched = subst (λ (at : Moment). IsFetched text line at) (sym (moment_join child m xs ys)) second.fetched;
   }
-
-  heard_now : (k room : ℕ) (calls : List Event) (bytes : List ℕ) → k ≡ child
-      → (spelled child silence (calls ++ heard k room (Ok bytes) ∷ [])).heard ≡ (spelled child silence calls).heard ++ bytes
-  heard_now k room calls bytes own =
-      subst (λ j. (spelled child silence (calls ++ heard j room (Ok bytes) ∷ [])).heard ≡ (spelled child silence calls).heard ++ bytes)
-      (sym own)
-      (ap (λ (t : Talk). t.heard)
-      (spelled-more child silence calls (heard child room (Ok bytes)) ∙ said_heard child room bytes (spelled child silence calls)))
 
   -- the line that one read completes, which is the last
   last_read : (k room : ℕ) (calls past now : List Event) (bytes line : List ℕ) → k ≡ child → IsLine line → bytes ≡ line ++ 10 ∷ []
@@ -98,7 +105,7 @@ module _ (child : ℕ) (words : List (List ℕ)) (request : List ℕ) (quiet_req
   last_read k room calls past now bytes line own quiet is waits count short reading =
       let h : List ℕ = (spelled child silence calls).heard in
       let part : List ℕ = unfinished h in
-      let all = heard_now k room calls bytes own ∙ ap (λ bs. h ++ bs) is in
+      let all = heard_now child k room calls bytes own ∙ ap (λ bs. h ++ bs) is in
       let raws : ended (slice_split is_feed (h ++ (line ++ 10 ∷ []))) ≡ ended (slice_split is_feed h) ++ (part ++ line) ∷ [] =
       raw_one h line quiet in
       let place : length (ended (slice_split is_feed h)) ≡ most =
@@ -164,7 +171,7 @@ module _ (child : ℕ) (words : List (List ℕ)) (request : List ℕ) (quiet_req
   ending k room calls past is bytes (x ∷ events) line own quiet as_line waits count early short now later cut reading done =
       let h : List ℕ = (spelled child silence calls).heard in
       let lines : lines_read child (calls ++ heard k room (Ok bytes) ∷ []) ≡ most + 1 =
-      ap (λ bs. length (lines_of bs)) (heard_now k room calls bytes own ∙ ap (λ bs. h ++ bs) as_line)
+      ap (λ bs. length (lines_of bs)) (heard_now child k room calls bytes own ∙ ap (λ bs. h ++ bs) as_line)
       ∙ ap length (lines_one h line quiet) ∙ length-append (lines_of h) (strip_last 13 (unfinished h ++ line) ∷ [])
       ∙ ap (λ n. n + 1) count in
       let soon : lines_read child (calls ++ heard k room (Ok bytes) ∷ []) ≤ most = early 1 (omega arith) in
@@ -190,11 +197,11 @@ module _ (child : ℕ) (words : List (List ℕ)) (request : List ℕ) (quiet_req
       let reading : IsReading child words text (part_of child calls) (Ok bytes) (moment_of child past) done.0 =
       subst (λ ws. IsReading child ws text (part_of child calls) (Ok bytes) (moment_of child past) done.0) named
       (subst (λ j. IsReading j (words_of j calls) text (part_of j calls) (Ok bytes) (moment_of j past) done.0) own
-      (done.3.1 text (ap (λ j. waiting j calls) own ∙ waits) has)) in
+      (done.3.2 text (ap (λ j. waiting j calls) own ∙ waits) has)) in
       elim reading.one [
         | inl quiet ↦
             let same : lines_read child (calls ++ e ∷ []) ≡ most =
-            ap (λ bs. length (lines_of bs)) (heard_now k room calls bytes own) ∙ ap length (lines_same h bytes quiet) ∙ count in
+            ap (λ bs. length (lines_of bs)) (heard_now child k room calls bytes own) ∙ ap length (lines_same h bytes quiet) ∙ count in
             let next : waiting child (calls ++ e ∷ []) ≡ Some text =
             waiting_own child calls e own ∙ ap (λ w. waiting_then w e) waits ∙ rw (has, ends_not bytes quiet) refl in
             let whole : (xs : List Event) → (calls ++ e ∷ []) ++ xs ≡ calls ++ e ∷ xs = λ xs. append_assoc calls (e ∷ []) xs in

@@ -1,11 +1,15 @@
 pub mod AgainLemmas
 pub mod BegunLemmas
+pub mod BrokenLemmas
 pub mod BroughtLemmas
 pub mod CallsLemmas
 pub mod FetchedLemmas
+pub mod NextLemmas
+pub mod OneMoreLemmas
 pub mod OuterLemmas
 pub mod PiecesLemmas
 pub mod SameLemmas
 pub mod StandsLemmas
 pub mod TabledAgainLemmas
+pub mod UnfinishedLemmas
 pub mod WorkersLemmas

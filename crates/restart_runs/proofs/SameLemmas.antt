@@ -3,10 +3,10 @@ use Rattle.std.proofs.Common.{◌≡◌, ℕ, ◌+◌, ◌<◌, Bool, true, fals
 use Rattle.std.proofs.lemmas.List.{length-append}
 use Rattle.std.proofs.lemmas.List.Elements.{Contains-append_left, Contains-append_right}
 use Rattle.lemmas.proofs.Ascending.{contains_here, contains_later}
-use Rattle.plain_runs.proofs.BatchLemmas.{levels_more}
-use Rattle.plain_runs.proofs.OneLemmas.{as_one}
-use Rattle.plain_runs.proofs.TurnsLemmas.{as_plain}
-use Rattle.plain_runs.specs.Answered.{IsAnsweredRun}
+use Rattle.turn_laws.proofs.PlainBatchLemmas.{levels_more}
+use Rattle.turn_laws.proofs.PlainOneLemmas.{as_one}
+use Rattle.turn_laws.proofs.PlainTurnsLemmas.{as_plain}
+use Rattle.turn_laws.specs.Answered.{IsAnsweredRun}
 use Rattle.task_model.proofs.StreamsLemmas.{due_once}
 use Rattle.task_model.specs.Fit.{IsFit}
 use Rattle.task_model.specs.Streams.{yields_of}

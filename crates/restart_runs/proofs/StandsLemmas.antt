@@ -3,13 +3,13 @@ use Rattle.std.proofs.Common.{◌≡◌, ◌≢◌, ◌⊎◌, ℕ, ◌+◌, con
 use Rattle.std.proofs.lemmas.List.{take-append-le}
 use Rattle.std.proofs.lemmas.List.Elements.{All-nil, All-append, All-weaker}
 use Rattle.std.proofs.lemmas.Option.{slice_get_within}
-use Rattle.gen_lines.specs.Lines.{lines_of}
+use Rattle.gen_lines.specs.Lines.{lines_of, unfinished}
 use Rattle.io_world.specs.Talks.{Event, Talk}
 use Rattle.lemmas.proofs.Counts.{count_joined, count_one}
 use Rattle.lemmas.proofs.Members.{get_append}
 use Rattle.pools.specs.Pools.{Workers, child_for}
 use Rattle.restart_host.proofs.NotedLemmas.{not_equal}
-use Rattle.restart_host.specs.Uses.{waiting, words_of}
+use Rattle.restart_host.specs.Uses.{part_of, waiting, words_of}
 use Rattle.restart_runs.proofs.CallsLemmas.{AreSame, IsNoStart, given_no, taken_no}
 use Rattle.restart_runs.specs.Again.{words_for}
 use Rattle.round_run.proofs.DialogueRequestLemmas.{replies_join, requests_join}
@@ -66,6 +66,7 @@ module _ (task : Task) (head : Head) where
   pub record Stands (before : List Entry) (calls : List Event) (c : ℕ) : Type 0 where
     pub named : words_of c calls ≡ words_for head.pools c
     pub lines : lines_read c calls ≡ answers_by task pools before c
+    pub part : part_of c calls ≡ []
     pub waits : ((waiting c calls ≡ Some []) × (count_to c (rs before) ≡ answers_by task pools before c)) ⊎ IsDue before calls c
 
   -- the requests that stand there after one more entry
@@ -87,6 +88,7 @@ module _ (task : Task) (head : Head) where
   stands_still before now calls later c same more grew none answers stands = record {
     named = same.words ∙ stands.named;
     lines = ap (λ (t : Talk). length (lines_of t.heard)) same.said ∙ stands.lines ∙ sym answers;
+    part = ap (λ (t : Talk). unfinished t.heard) same.said ∙ stands.part;
     waits = elim stands.waits [
       | inl idle ↦ inl (same.waits ∙ idle.0, count ∙ idle.1 ∙ sym answers)
       | inr due ↦ inr (record {

@@ -2,15 +2,15 @@
 use Rattle.std.proofs.Common.{◌≡◌, ◌≤◌, List, [], ◌++◌, Option, Some, None, arith, ap, subst, sym, ◌∙◌, append_assoc}
 use Rattle.std.proofs.lemmas.List.{append_cancel_left}
 use Rattle.io_world.specs.Talks.{Event, silence, spelled}
-use Rattle.mode_turns.proofs.CountsLemmas.{turn_keeps, turns_keep}
-use Rattle.mode_turns.proofs.ModesLemmas.{as_family}
-use Rattle.mode_turns.specs.Modes.{TurnOf, nothing_kept}
-use Rattle.plain_runs.proofs.OneLemmas.{as_one}
-use Rattle.plain_runs.proofs.OwnLemmas.{own_agrees}
-use Rattle.plain_runs.proofs.SettledLemmas.{settled}
-use Rattle.plain_runs.proofs.TurnsLemmas.{as_plain}
-use Rattle.plain_runs.specs.Answered.{IsAnsweredRun}
-use Rattle.plain_runs.specs.Own.{own_rows}
+use Rattle.turn_laws.proofs.ModeCountsLemmas.{turn_keeps, turns_keep}
+use Rattle.turn_laws.proofs.ModesLemmas.{as_family}
+use Rattle.turn_laws.specs.Modes.{TurnOf, nothing_kept}
+use Rattle.turn_laws.proofs.PlainOneLemmas.{as_one}
+use Rattle.turn_laws.proofs.OwnLemmas.{own_agrees}
+use Rattle.turn_laws.proofs.PlainSettledLemmas.{settled}
+use Rattle.turn_laws.proofs.PlainTurnsLemmas.{as_plain}
+use Rattle.turn_laws.specs.Answered.{IsAnsweredRun}
+use Rattle.turn_laws.specs.Own.{own_rows}
 use Rattle.restart_runs.specs.Again.{LogRanAgain}
 use Rattle.restart_runs.proofs.AgainLemmas.{again_agrees}
 use Rattle.restart_runs.proofs.SameLemmas.{same_runs}

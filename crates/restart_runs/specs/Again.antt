@@ -17,13 +17,13 @@ use Rattle.transcript_model.specs.declared.head.Head.{Head}
 use Rattle.transcript_model.specs.declared.head.Pool.{Pool}
 
 -- the words of a pool
-abbrev pub words_in : Option Pool → List (List ℕ)
-words_in None = []
-words_in (Some pool) = map string_bytes pool.argv
+abbrev pub pool_words : Option Pool → List (List ℕ)
+pool_words None = []
+pool_words (Some pool) = map string_bytes pool.argv
 
 -- the words of the pool that has the child
 abbrev pub words_for : List Pool → ℕ → List (List ℕ)
-words_for pools child = words_in (find (has_child child) pools)
+words_for pools child = pool_words (find (has_child child) pools)
 
 -- The answer that comes next is what a line says that was fetched by these tries: it stands at the place of its request
 -- in one life of the child.
@@ -64,18 +64,18 @@ refused_start (started child words answer) = started child words (Err Failed)
 refused_start event = event
 
 -- each of these starts, behind any number of the same that failed
-abbrev pub AreBegun : List Event → List Event → Type 0
-AreBegun [] events = events ≡ []
-AreBegun (start ∷ more) events =
+abbrev pub AreBegunAtLast : List Event → List Event → Type 0
+AreBegunAtLast [] events = events ≡ []
+AreBegunAtLast (start ∷ more) events =
     (n : ℕ) × (later : List Event) × (events ≡ replicate n (refused_start start) ++ start ∷ later)
-    × AreBegun more later
+    × AreBegunAtLast more later
 
 -- The calls of a whole run: the starts of all workers, if it has a request; the calls of its entries; and stops.
 abbrev pub LogRanAgain : Task → Head → List Entry → Option (List Event) → Option (List Event) → Type 0
 LogRanAgain task head entries old None = ⊤
 LogRanAgain task head entries old (Some after) =
     (past : List Event) × (starts : List Event) × (events : List Event) × (stops : List Event) × (old ≡ Some past)
-    × AreBegun (starts_before head.pools 0 (asks_of entries)) starts
+    × AreBegunAtLast (starts_before head.pools 0 (asks_of entries)) starts
     × (after ≡ (past ++ starts) ++ events ++ stops)
     × FollowsAgain task head (past ++ starts) [] entries events
     × All IsStop stops

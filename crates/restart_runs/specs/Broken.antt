@@ -4,8 +4,7 @@ use Rattle.std.specs.List.{All}
 use Rattle.gen_lines.specs.declared.answer.Why.{Why}
 use Rattle.io_world.specs.Talks.{Event}
 use Rattle.restart_host.specs.Lives.{AreBringing, AreFetching, IsAskedAt, moment_of}
-use Rattle.restart_host.specs.Tries.{failures}
-use Rattle.restart_runs.specs.Again.{AreBegun, FollowsAgain, refused_start, words_for}
+use Rattle.restart_runs.specs.Again.{AreBegunAtLast, FollowsAgain, refused_start, words_for}
 use Rattle.round_run.specs.Calls.{IsStop, starts_of}
 use Rattle.round_run.specs.Dialogue.{IsBadLine, Request, replies_of, requests_of, text_of_request, wanted_by, workers_in}
 use Rattle.round_run.specs.declared.fault.RunFault.{RunFault}
@@ -21,7 +20,7 @@ pub record AreRefused (starts events : List Event) : Type 0 where
   pub next : Event
   pub at : slice_get starts place ≡ Some next
   pub done : List Event
-  pub begun : AreBegun (take place starts) done
+  pub begun : AreBegunAtLast (take place starts) done
   pub more : ℕ
   pub is : events ≡ done ++ replicate (suc more) (refused_start next)
 
@@ -65,7 +64,7 @@ module _ (task : Task) (head : Head) (past : List Event) (before : List Entry) (
 pub record UnderwayAgain (task : Task) (head : Head) (past : List Event) (entries : List Entry) (fault : RunFault)
     (events : List Event) (Front : List Entry → Type 0) : Type 0 where
   pub starts : List Event
-  pub begun : AreBegun (starts_of head.pools) starts
+  pub begun : AreBegunAtLast (starts_of head.pools) starts
   pub done : List Event
   pub calls : List Event
   pub cut : events ≡ starts ++ done ++ calls
@@ -78,12 +77,12 @@ pub record UnstartedAgain (head : Head) (entries : List Entry) (fault : RunFault
   pub none : asks_of entries ≡ 0
   pub were : (events ≡ []) ⊎ ((fault ≡ Generator) × AreRefused (starts_of head.pools) events)
 
--- The calls that came to the log, where it is told, are those of the run up to where it broke off, and then stops. A
--- generator is at fault only where more calls failed than are made good. Where memory was wanting nothing is said.
-abbrev pub LogBrokenAgain : (restarts : ℕ) → Task → Head → (List Entry → Type 0) → List Entry → RunFault
-    → Option (List Event) → Option (List Event) → Type 0
-LogBrokenAgain restarts task head Front entries fault old None = ⊤
-LogBrokenAgain restarts task head Front entries fault old (Some after) =
+-- The calls that came to the log, where it is told, are those of the run up to where it broke off, and then stops. Where
+-- memory was wanting nothing is said.
+abbrev pub LogBrokenAgain : Task → Head → (List Entry → Type 0) → List Entry → RunFault → Option (List Event)
+    → Option (List Event) → Type 0
+LogBrokenAgain task head Front entries fault old None = ⊤
+LogBrokenAgain task head Front entries fault old (Some after) =
     ¬ (fault ≡ Memory) → (past : List Event) × (events : List Event) × (stops : List Event) × (old ≡ Some past)
-    × (after ≡ past ++ events ++ stops) × All IsStop stops × (fault ≡ Generator → restarts < failures events)
+    × (after ≡ past ++ events ++ stops) × All IsStop stops
     × (UnstartedAgain head entries fault events ⊎ UnderwayAgain task head past entries fault events Front)

@@ -1,15 +1,19 @@
 -- Laws of runs whose children are started again. Each is the contract of a public function of `laws.rt`, and so is
 -- proved.
-use Rattle.std.specs.Prelude.{◌≡◌, ℕ, ◌≤◌, Bool, true, List, [], ◌++◌, Option, Some}
-use Rattle.io_world.specs.Logs.{said_of, told_of}
-use Rattle.io_world.specs.Talks.{Event, Talk, silence, spelled}
+use Rattle.std.specs.Prelude.{◌≡◌, ℕ, ◌≤◌, true, List, [], ◌++◌, All, Contains, Option, Some}
+use Rattle.io_world.specs.Logs.{Calls, said_of, told_of}
+use Rattle.io_world.specs.Talks.{Event, LogGrows, Talk, silence, spelled}
 use Rattle.pools.specs.Pools.{AreFitPools}
-use Rattle.restart_host.specs.Leads.{Carries, Parts}
+use Rattle.restart_host.specs.Leads.{AreDoneBelow}
 use Rattle.restart_host.specs.Uses.{AreDone}
 use Rattle.restart_runs.specs.Again.{FollowsAgain, LogRanAgain}
-use Rattle.restart_runs.specs.Tabled.{AnsweredAgain, IsAgainRun, IsTabledAgain, SpeakAgain}
+use Rattle.restart_runs.specs.Broken.{LogBrokenAgain}
+use Rattle.restart_runs.specs.Tabled.{AnsweredAgain, IsAgainRun, IsRanAgain, IsTabledAgain, SpeakAgain}
+use Rattle.round_run.specs.Breaking.{LogBroken}
 use Rattle.round_run.specs.Calls.{LogRan}
-use Rattle.round_run.specs.Dialogue.{Dialogue, workers_in}
+use Rattle.round_run.specs.Dialogue.{BrokenOff, Dialogue, workers_in}
+use Rattle.round_run.specs.Rolling.{Blames}
+use Rattle.round_run.specs.declared.fault.RunFault.{RunFault}
 use Rattle.table_runs.specs.Asking.{AnsweredBy, AreAskedInTurn, GoToPools}
 use Rattle.table_runs.specs.Tabled.{IsTabled, IsTalkedRun}
 use Rattle.task_model.specs.Fit.{IsFit}
@@ -48,16 +52,38 @@ OuterCallsAreBrought =
     → Dialogue task head.version (workers_in head) entries (λ child. Some (spelled child silence (calls ++ os)))
     → AreDone calls past os events → LogRanAgain task head entries (Some past) (Some (past ++ events))
 
--- So a run over such a host, whose log is whole, comes to what runs do whose children are started again: by what calls made
--- of the host, which the host below tells.
+-- Few requests, each of which goes to a child of the pools, and stands behind the answers to all earlier ones of its
+-- child.
+pub record AreWellAsked (task : Task) (head : Head) (entries : List Entry) : Type 0 where
+  pub few : asks_of entries ≤ MOST_CALLS
+  pub served : GoToPools task (workers_in head) entries
+  pub in_turn : AreAskedInTurn task (workers_in head) entries
+
+-- So does a run over such a host that stops before it has an outcome, whose transcript is one of these, as the one with
+-- the next request is, if one was begun: each has such requests. Where its dialogue was broken off, the log below has the
+-- calls of such a run, up to where it broke off.
+abbrev pub BrokenCallsAreBrought : Type 0
+BrokenCallsAreBrought =
+    (task : Task) (head : Head) (fronts : List (List Entry)) (entries : List Entry) (fault : RunFault)
+    (calls past os events : List Event) → IsFit task → AreFitPools task (workers_in head)
+    → IsLegal head.version task entries → Contains fronts entries → All (AreWellAsked task head) fronts
+    → LogBroken task head (Contains fronts) entries fault (Some calls) (Some (calls ++ os))
+    → BrokenOff task head.version (workers_in head) (Contains fronts) fault entries
+    (λ child. Some (spelled child silence (calls ++ os)))
+    → Blames head.version task (workers_in head) (λ child. Some (spelled child silence (calls ++ os))) fault entries
+    → AreDone calls past os events
+    → LogBrokenAgain task head (Contains fronts) entries fault (Some past) (Some (past ++ events))
+
+-- So a run over such a host, whose log is whole, is one whose children are started again, and comes to what such runs do,
+-- where its calls were done by those that came to the log of the host below, which is told or isn't.
 abbrev pub OuterRunsAreTabled : Type 0
 OuterRunsAreTabled =
-    (task : Task) (head : Head) (entries : List Entry) (stage : Stage) (o : Outcome) (last : ℕ) (old new : Parts)
-    (memory : Bool) (past after : List Event) → IsFit task → AreFitPools task (workers_in head)
-    → head.calls ≤ MOST_CALLS → IsTalkedRun task head entries stage o (said_of new.log)
-    → LogRan task head entries (told_of old.log) (told_of new.log) → Carries last old new memory → new.log.whole ≡ true
-    → old.below.log ≡ Some past → new.below.log ≡ Some after
-    → IsTabledAgain task head entries (Some past) (Some after) o
+    (task : Task) (head : Head) (entries : List Entry) (stage : Stage) (o : Outcome) (old new : Calls)
+    (was now : Option (List Event)) (events : List Event) → IsFit task → AreFitPools task (workers_in head)
+    → head.calls ≤ MOST_CALLS → IsTalkedRun task head entries stage o (said_of new)
+    → LogRan task head entries (told_of old) (told_of new) → old.whole ≡ true → new.whole ≡ true
+    → LogGrows was now events → AreDoneBelow old.events new.events was now events
+    → IsRanAgain task head entries was now o
 
 -- A run whose children are started again is as the plain run over the answers by which they speak in each of their
 -- lives, and ends with a plan or with none where all transcripts that agree with them stay within its limits.

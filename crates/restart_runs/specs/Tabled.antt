@@ -1,9 +1,9 @@
 -- What a run comes to whose generators are started again where they fail, and answer by a table.
 use Rattle.std.specs.Prelude.{◌≡◌, ℕ, List, ◌++◌, Option, Some}
 use Rattle.io_world.specs.Talks.{Event, silence, spelled}
-use Rattle.mode_turns.specs.Lazy.{IsFewDue, IsLazy, IsLazyEnd}
-use Rattle.plain_runs.specs.Laws.{IsSettledOutcome}
-use Rattle.plain_runs.specs.Own.{own_rows}
+use Rattle.turn_laws.specs.Lazy.{IsFewDue, IsLazy, IsLazyEnd}
+use Rattle.turn_laws.specs.PlainLaws.{IsSettledOutcome}
+use Rattle.turn_laws.specs.Own.{own_rows}
 use Rattle.restart_runs.specs.Again.{LogRanAgain}
 use Rattle.table_runs.specs.Asking.{SpeaksBy}
 use Rattle.task_model.specs.declared.task.Task.{Task}
@@ -59,3 +59,10 @@ pub record IsTabledAgain (task : Task) (head : Head) (entries : List Entry) (old
       → IsBounded head.version task answers head.calls head.states → IsSettledOutcome o
   pub own : head.mode ≡ Incremental → ¬ (o ≡ outcome.Limit States)
       → IsAsPlain task (reply_in (own_rows entries)) head.calls entries o
+
+-- The log of the host has the calls of a run, whose children may have several lives, and the run comes to what they say
+-- in them.
+pub record IsRanAgain (task : Task) (head : Head) (entries : List Entry) (old new : Option (List Event)) (o : Outcome)
+    : Type 0 where
+  pub calls : LogRanAgain task head entries old new
+  pub tabled : IsTabledAgain task head entries old new o

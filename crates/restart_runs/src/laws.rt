@@ -1,6 +1,6 @@
 //! Laws of runs whose children are started again, each the contract of a function that does
 //! nothing.
-ghost use Rattle.restart_runs.specs.Laws.{AgainDialoguesAgree, AgainRunsAreTabled, OuterCallsAreBrought, OuterRunsAreTabled, RestartsChangeNothing, RestartsDoNotMatter};
+ghost use Rattle.restart_runs.specs.Laws.{AgainDialoguesAgree, AgainRunsAreTabled, BrokenCallsAreBrought, OuterCallsAreBrought, OuterRunsAreTabled, RestartsChangeNothing, RestartsDoNotMatter};
 
 /// Where each child answers by a table in each of its lives, the answers of the transcript are the
 /// table's, in any mode.
@@ -12,6 +12,13 @@ pub fn again_dialogues_agree()
 /// brought whole, and each answer's line is fetched, at the place of its request in one life of its child.
 pub fn outer_calls_are_brought()
     ensures { OuterCallsAreBrought }
+{}
+
+/// A run over such a host that stops before it has an outcome leaves there the calls of such a run,
+/// up to where it broke off: tries of one entry more, for a fault of a generator; and for a line
+/// that is no answer, that line at the place of its request in one life of its child.
+pub fn broken_calls_are_brought()
+    ensures { BrokenCallsAreBrought }
 {}
 
 /// So it comes to what runs do whose children are started again.

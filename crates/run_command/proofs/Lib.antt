@@ -1,5 +1,6 @@
-pub mod BrokenLemmas
 pub mod CausesLemmas
+pub mod CountedLemmas
+pub mod FailedLemmas
 pub mod HeadsLemmas
 pub mod MakingLemmas
 pub mod PoolsLemmas

@@ -8,11 +8,13 @@ use Rattle.command_files.specs.declared.stop.Stop.TheVariants as stop
 use Rattle.command_line.specs.Words.{SolveWords}
 use Rattle.io_world.specs.Talks.{Event, LogGrows, Talk}
 use Rattle.round_run.proofs.StoppedLemmas.{handed_err, same_err}
+use Rattle.round_run.specs.Told.{Course}
 use Rattle.round_run.specs.declared.fault.RunFault.{RunFault}
 use Rattle.round_run.specs.declared.fault.RunFault.TheVariants as fault
 use Rattle.turn_run.specs.declared.whole_run.Ran.{Ran}
+use Rattle.run_command.proofs.CountedLemmas.{counted_as}
 use Rattle.run_command.proofs.RestartsLemmas.{heard_plain, heard_silent, silent, silent_stops}
-use Rattle.run_command.specs.Heard.{Heard, IsHeard, hearing, heard_in}
+use Rattle.run_command.specs.Heard.{AreCounted, CountFailures, Heard, IsHeard, hearing, heard_in}
 use Rattle.run_command.specs.Solving.{HasNoReport, IsReportedBy, IsSolved, Lacks}
 use Rattle.run_command.specs.Works.{made_words}
 
@@ -50,6 +52,16 @@ lacks_handed f is = ap (λ e. Err (stop.Run e)) (same_err is)
 -- the fault of a run is the run's
 pub handed_run : {T : Type 0} (f bad : RunFault) → (let r : Result T Stop = Err (stop.Run f) in IsErrOf r (stop.Run bad)) → f ≡ bad
 handed_run f bad is = let same = same_err is in cc
+
+-- as many calls failed
+pub counted_handed : {T U : Type 0} (f : RunFault) (restarts : ℕ) (c : Course)
+    → CountFailures fault.Generator fault.Memory restarts c (let r : Result T RunFault = Err f in r)
+    → AreCounted restarts c (let r : Result U Stop = Err (stop.Run f) in r)
+counted_handed {T} {U} f restarts c x =
+    counted_as fault.Generator fault.Memory (stop.Run fault.Generator) (stop.Run fault.Memory) restarts c
+    (let r : Result T RunFault = Err f in r) (let r : Result U Stop = Err (stop.Run f) in r)
+    (λ is. ap Err (handed_run f fault.Generator is)) (λ is. ap (λ e. Err (stop.Run e)) (same_err is))
+    (λ is. ap (λ e. Err (stop.Run e)) (same_err is)) x
 
 -- ---- the task of a number
 

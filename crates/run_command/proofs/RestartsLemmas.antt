@@ -1,11 +1,8 @@
 -- What was heard of children that are started again where they fail.
-use Rattle.std.proofs.Common.{◌≡◌, ℕ, ◌<◌, ◌+◌, ◌≤◌, arith, zero, suc, Bool, true, false, List, [], Option, Some, Result, Ok, Err, refl, sym, subst, ap, ◌∙◌, IfErr, IfOk, IsErrOf}
+use Rattle.std.proofs.Common.{◌≡◌, ℕ, ◌<◌, arith, zero, suc, true, false, List, [], Option, Some, Result, Ok, Err, refl, sym, subst, ap, ◌∙◌, IfOk, IsErrOf}
 use Rattle.io_world.proofs.TalksLemmas.{extends_none}
-use Rattle.io_world.specs.Faults.{HasCause, last_count}
 use Rattle.io_world.specs.Logs.{no_calls, said_of}
 use Rattle.io_world.specs.Talks.{Event, Talk}
-use Rattle.restart_host.proofs.RisesLemmas.{refused_more, refused_rose}
-use Rattle.restart_host.specs.Leads.{Carries, Parts, RoseBy}
 use Rattle.restart_host.specs.Tries.{failures}
 use Rattle.round_run.specs.Led.{stops_for_memory}
 use Rattle.round_run.specs.declared.fault.RunFault.{RunFault}
@@ -13,12 +10,12 @@ use Rattle.round_run.specs.declared.fault.RunFault.TheVariants.{Answer, Generato
 use Rattle.round_run.proofs.CallsRunLemmas.{stops_none}
 use Rattle.round_run.specs.Calls.{LogStops}
 use Rattle.round_run.specs.Told.{Stretch}
-use Rattle.run_command.proofs.BrokenLemmas.{broken_failed}
+use Rattle.run_command.proofs.CountedLemmas.{failed_none}
+use Rattle.run_command.proofs.FailedLemmas.{HasFailed, failures_in, run_failed}
 use Rattle.run_command.specs.Heard.{EndsHeard, Heard, IsHeard, IsHeardAgain, heard_over}
 use Rattle.task_model.specs.declared.task.Task.{Task}
 use Rattle.transcript_model.specs.declared.head.Head.{Head}
 use Rattle.turn_run.specs.Reporting.{EndsRun}
-use Rattle.turn_run.specs.Reports.{IsBroken}
 use Rattle.turn_run.specs.declared.whole_run.Ran.{Ran}
 
 -- what holds of a value holds of one that is the same
@@ -68,7 +65,7 @@ heard_silent (suc more) Lacked spoken log = record {
   whole = λ not. refl;
   events = [];
   log = extends_none log;
-  done = λ past after was now whole. ([], refl, refl);
+  done = λ whole past after was now. ([], refl, refl);
 }
 
 silent_same : (restarts : ℕ) (spoken : ℕ → Option Talk) (log : Option (List Event))
@@ -87,36 +84,6 @@ pub heard_plain : (restarts : ℕ) (Lacked : Type 0) (below heard : Heard) → r
     → IsHeard restarts Lacked below heard → heard ≡ below
 heard_plain zero Lacked below heard none h = h
 heard_plain (suc more) Lacked below heard none h = absurd (omega (arith, none))
-
--- ---- failures
-
-module _ (last : ℕ) (old new : Parts) (wanted : Bool) (carries : Carries last old new wanted) (none : old.faults ≡ 0)
-    (spent : 0 < new.faults → new.left ≡ 0) {T E : Type 0} (r : Result T E) (bad : E)
-    (has : HasCause bad last_count old.faults new.faults r) where
-  -- a call was refused
-  refused : IsErrOf r bad → 0 < new.faults
-  refused is = let rose = has.cause is in omega (arith, rose, none)
-
-  -- the count below rose by more than are made good
-  pub rose_more : IsErrOf r bad → RoseBy (suc old.left) last old.below.faults new.below.faults
-  rose_more is =
-      let some = refused is in
-      let rose = refused_rose last old new wanted carries none some (spent some) in
-      omega (arith, rose)
-
-  -- more calls failed than are made good
-  pub failed_more : IsErrOf r bad → old.left < failures carries.events
-  failed_more is =
-      let some = refused is in
-      let more = refused_more last old new wanted carries none some (spent some) in
-      omega (arith, more, carries.failed)
-
-  -- so the count below rose
-  pub caused_below : HasCause bad last old.below.faults new.below.faults r
-  caused_below = record {
-    later = carries.later;
-    cause = λ is. let rose = rose_more is in omega (arith, rose);
-  }
 
 -- no memory was wanting
 pub none_wanted : {T : Type 0} (r : Result T RunFault) → ¬ (IsErrOf r Memory) → stops_for_memory r ≡ false
@@ -142,10 +109,22 @@ plain_run restarts none task head c r log e = subst (λ n. EndsHeard n task head
   unneeded = ok_with _ _ r (λ ran still asked. (log (still asked), still asked)) e.unneeded;
   idle = e.idle;
   host = e.host;
-  many = λ is.
-      let failed = broken_failed task head c.now.host.spoken c.was.host.log c.now.host.log c.was.taken c.now.taken
-      (subst (λ (x : Result Ran RunFault). IfErr x (IsBroken task head c.now.host.spoken c.was.host.log c.now.host.log c.was.taken
-      c.now.taken)) is e.broken) in
-      record { rose = e.host.cause is; events = failed.events; log = failed.log; failed = failed.some };
+  failed = record {
+    many = λ is.
+        let has = failed_plain (λ other. absurd (cc (is, other))) in
+        record {
+          rose = e.host.cause is;
+          events = has.events;
+          log = has.log;
+          failed = has.failed ∙ ap failures_in is;
+        };
+    few = λ other some.
+        let has = failed_plain some in
+        let count : failures has.events ≡ 0 = has.failed ∙ failed_none r other in
+        record { events = has.events; log = has.log; failed = omega (arith, count) };
+  };
   sink = e.sink;
-})
+}) where
+  failed_plain : ¬ (IsErrOf r Memory) → HasFailed c.was.host.log c.now.host.log (failures_in r)
+  failed_plain some =
+      run_failed task head c.now.host.spoken c.was.host.log c.now.host.log c.was.taken c.now.taken r some e.reported e.broken

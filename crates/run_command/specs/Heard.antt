@@ -1,11 +1,13 @@
 -- What a run hears of its children, who may be started again where they fail.
-use Rattle.std.specs.Prelude.{◌≡◌, ◌<◌, ℕ, zero, suc, List, [], Option, Some, Result, IfErr, IfOk, IsErrOf, true, false}
+use Rattle.std.specs.Prelude.{◌≡◌, ◌≤◌, ℕ, zero, suc, List, [], Option, Some, Result, IfErr, IfOk, IsErrOf, true, false}
 use Rattle.io_world.specs.Faults.{HasCause, last_count}
 use Rattle.io_world.specs.Logs.{Calls, said_of, told_of}
 use Rattle.io_world.specs.Talks.{Event, LogGrows, Talk}
 use Rattle.command_files.specs.Outside.{FilesSeen, Outside}
+use Rattle.command_files.specs.declared.stop.Stop.{Stop}
+use Rattle.command_files.specs.declared.stop.Stop.TheVariants.{Run}
 use Rattle.command_line.specs.Words.{Command, command_of, solve}
-use Rattle.restart_host.specs.Leads.{IsDoneBy, RoseBy}
+use Rattle.restart_host.specs.Leads.{AreDoneBelow, RoseBy}
 use Rattle.restart_host.specs.Tries.{failures}
 use Rattle.round_run.specs.Told.{Course, Stretch}
 use Rattle.round_run.specs.declared.fault.RunFault.{RunFault}
@@ -52,21 +54,37 @@ pub record IsHeardAgain (Lacked : Type 0) (below heard : Heard) : Type 0 where
   pub whole : ¬ Lacked → calls.whole ≡ true
   pub events : List Event
   pub log : LogGrows below.was below.now events
-  pub done : (past after : List Event) → below.was ≡ Some past → below.now ≡ Some after → calls.whole ≡ true
-      → IsDoneBy [] calls.events past events
+  pub done : calls.whole ≡ true → AreDoneBelow [] calls.events below.was below.now events
 
 -- What a run heard of its children, and what their host tells: the same, where none is started again.
 abbrev pub IsHeard : (restarts : ℕ) → (Lacked : Type 0) → (below heard : Heard) → Type 0
 IsHeard zero Lacked below heard = heard ≡ below
 IsHeard (suc more) Lacked below heard = IsHeardAgain Lacked below heard
 
--- More calls on children failed than are made good: the count of faults rose by more, up to its last value, and a log
--- that is told has more starts, writes and reads that failed.
+-- One call more on children failed than is made good: the count of faults rose by as many, up to its last value, and so
+-- many of the starts, writes and reads failed that came to a log that is told.
 pub record AreTooMany (restarts : ℕ) (c : Course) : Type 0 where
   pub rose : RoseBy (suc restarts) c.last c.was.faults c.now.faults
   pub events : List Event
   pub log : LogGrows c.was.log c.now.log events
-  pub failed : restarts < failures events
+  pub failed : failures events ≡ suc restarts
+
+-- No more calls on children failed than are made good: of the starts, writes and reads that came to a log that is told.
+pub record AreMadeGood (restarts : ℕ) (c : Course) : Type 0 where
+  pub events : List Event
+  pub log : LogGrows c.was.log c.now.log events
+  pub failed : failures events ≤ restarts
+
+-- How many calls on children failed, by how a part of a run ends: one more than is made good where a generator is at
+-- fault, and else no more, unless memory was wanting.
+pub record CountFailures {T E : Type 0} (generator memory : E) (restarts : ℕ) (c : Course) (result : Result T E)
+    : Type 0 where
+  pub many : IsErrOf result generator → AreTooMany restarts c
+  pub few : ¬ (IsErrOf result generator) → ¬ (IsErrOf result memory) → AreMadeGood restarts c
+
+-- the same, by why it stops
+abbrev pub AreCounted : {T : Type 0} → ℕ → Course → Result T Stop → Type 0
+AreCounted = CountFailures (Run fault.Generator) (Run fault.Memory)
 
 -- ---- a run over a task
 
@@ -80,8 +98,8 @@ course_of c = record { last = c.last; was = c.was.host; now = c.now.host; host =
 
 -- What a run over a task has done, by what it heard of its children, of whose failures so many were made good: a whole
 -- report was written, or a part of one; where nothing was asked no call was made, and the host itself is as it was; no
--- child runs; a fault of a generator is answered only where more calls failed than are made good, and one of the sink
--- only where its count rose.
+-- child runs; a fault of a generator is answered only where one call more failed than is made good, and else no more
+-- did, unless memory was wanting; and one of the sink is answered only where its count rose.
 pub record EndsHeard (restarts : ℕ) (task : Task) (head : Head) (c : Stretch) (result : Result Ran RunFault)
     : Type 0 where
   pub heard : Heard
@@ -91,5 +109,5 @@ pub record EndsHeard (restarts : ℕ) (task : Task) (head : Head) (c : Stretch) 
   pub unneeded : IfOk result (λ ran. ran.asks ≡ 0 → (heard.now ≡ heard.was) × c.host.same)
   pub idle : (k : ℕ) → c.now.host.running k ≡ false
   pub host : HasCause fault.Generator c.last c.was.host.faults c.now.host.faults result
-  pub many : IsErrOf result fault.Generator → AreTooMany restarts (course_of c)
+  pub failed : CountFailures fault.Generator fault.Memory restarts (course_of c) result
   pub sink : HasCause fault.Write last_count c.was.lost c.now.lost result

@@ -27,7 +27,7 @@ use Rattle.command_files.specs.declared.status.Status.TheVariants.{Plan, NoPlan,
 use Rattle.round_run.specs.declared.fault.RunFault.{RunFault}
 use Rattle.round_run.specs.declared.fault.RunFault.TheVariants as fault
 use Rattle.run_command.specs.Heads.{IsHeadOf}
-use Rattle.run_command.specs.Works.{Work, command_for, files_of, made_line, making, solving, words_of}
+use Rattle.run_command.specs.Works.{Work, command_for, files_of, made_line, making, solving, words_of_work}
 
 -- ---- a run
 
@@ -38,10 +38,10 @@ pub record ProgramRun (words : List (List ℕ)) (told : Option FileMap) : Type 0
   pub work : Work
   pub meant : command_of words ≡ Some (command_for work)
   pub task : Task
-  pub spelled : IsTaskOf (files_of told work) (words_of work).files task
+  pub spelled : IsTaskOf (files_of told work) (words_of_work work).files task
   pub fit : IsFit task
   pub head : Head
-  pub headed : IsHeadOf (files_of told work) (words_of work) task head
+  pub headed : IsHeadOf (files_of told work) (words_of_work work) task head
   pub entries : List Entry
   pub legal : IsLegal head.version task entries
 

@@ -56,9 +56,9 @@ abbrev pub seen_made : ℕ → FilesSeen
 seen_made number = unread (Some (made_files number)) 0 None
 
 -- the words of the work
-abbrev pub words_of : Work → SolveWords
-words_of (solving w) = w
-words_of (making n) = made_words
+abbrev pub words_of_work : Work → SolveWords
+words_of_work (solving w) = w
+words_of_work (making n) = made_words
 
 -- the files that it reads: those that are told, or those that are made
 abbrev pub files_of : Option FileMap → Work → Option FileMap

@@ -1,9 +1,9 @@
 //! The commands that ask children: `solve`, and `generate`, which solves a task that it makes.
 #![tactic(auto)]
 
+mod dispatch;
 mod head;
 mod maker;
-mod modes;
 mod restarts;
 mod solver;
 

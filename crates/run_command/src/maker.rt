@@ -1,5 +1,5 @@
 //! The grid's task of a number, made and solved.
-ghost use Rattle.std.specs.Prelude.{◌≡◌, ℕ, false, string_bytes, IfOk, IfErr, IsErrOf};
+ghost use Rattle.std.specs.Prelude.{◌≡◌, ℕ, false, string_bytes, IfOk, IfErr};
 ghost use Rattle.command_line.specs.Held.{held_solve};
 ghost use Rattle.command_line.specs.Ranges.{IsFromOne};
 ghost use Rattle.grid_text.specs.Tasks as texts;
@@ -7,7 +7,7 @@ ghost use Rattle.io_world.specs.Faults.{last_count, HasCause};
 ghost use Rattle.io_world.specs.FileMap.{stored};
 ghost use Rattle.command_files.specs.Outside.{outside_of, written_of};
 ghost use Rattle.round_run.specs.Told.{course};
-ghost use Rattle.run_command.specs.Heard.{AreTooMany};
+ghost use Rattle.run_command.specs.Heard.{AreCounted};
 ghost use Rattle.run_command.specs.Solving.{IsAtText};
 ghost use Rattle.run_command.specs.Making.{IsLined, MakesRun};
 ghost use Rattle.run_command.specs.Runs.{outcome_status};
@@ -20,7 +20,7 @@ use command_files::{Status, Stop};
 use command_line::{DEFAULT_CALLS, DEFAULT_DEPTH, DEFAULT_STATES, SolveConfig};
 use grid_text::grid_task;
 use io_world::{Host, Sink, SureFiles, SureSink, write_all};
-use mode_run::{Ran, RunFault};
+use solve_run::{Ran, RunFault};
 use std::alloc::{AllocError, Global};
 use task_model::Seq;
 use transcript_model::{LimitKind, Mode, Outcome};
@@ -131,8 +131,7 @@ pub fn make<H: Host, O: Sink>(
     ensures leaves { IfErr result (λ why. IsAtText why → host.new ≡ host.old) }
     ensures host { HasCause (Run fault.Generator) H.last (H.faults host.old) (H.faults host.new)
         result }
-    ensures many { IsErrOf result (Run fault.Generator) → AreTooMany 0
-        (course H.Host host.old host.new) }
+    ensures failed { AreCounted 0 (course H.Host host.old host.new) result }
     ensures sink { HasCause (Run fault.Write) last_count (O.faults out.old) (O.faults out.new)
         result }
 {

@@ -5,10 +5,10 @@ ghost use Rattle.round_run.specs.Told.{stretch};
 ghost use Rattle.run_command.specs.Heard.{EndsHeard};
 ghost use Rattle.turn_run.specs.Reporting.{MayRun};
 
-use crate::modes::run_in_mode;
+use crate::dispatch::run_in_mode;
 use io_world::{Host, Sink};
-use mode_run::{Ran, RunFault};
 use restart_host::{IdleChildren, RestartHost};
+use solve_run::{Ran, RunFault};
 use std::alloc::Global;
 use task_model::Task;
 use transcript_model::Head;

@@ -1,10 +1,10 @@
 //! Solving a task.
-ghost use Rattle.std.specs.Prelude.{◌≡◌, ℕ, false, IfErr, IsErrOf};
+ghost use Rattle.std.specs.Prelude.{◌≡◌, ℕ, false, IfErr};
 ghost use Rattle.io_world.specs.Faults.{last_count, HasCause};
 ghost use Rattle.command_files.specs.Outside.{outside_of, seen_of, written_of};
 ghost use Rattle.command_files.specs.Paths.{held_files};
 ghost use Rattle.round_run.specs.Told.{course};
-ghost use Rattle.run_command.specs.Heard.{AreTooMany};
+ghost use Rattle.run_command.specs.Heard.{AreCounted};
 ghost use Rattle.run_command.specs.Solving.{IsAtText, IsReportedBy, SolvesBy};
 ghost use Rattle.run_command.specs.Runs.{outcome_status};
 ghost use Rattle.command_line.specs.Held.{held_solve};
@@ -17,7 +17,7 @@ use crate::restarts::run_with_restarts;
 use command_files::{Status, Stop, TaskPaths, meant_pools, place_grid, read_task};
 use command_line::SolveConfig;
 use io_world::{Files, Host, Sink};
-use mode_run::Ran;
+use solve_run::Ran;
 use std::alloc::Global;
 use transcript_model::Outcome;
 
@@ -60,8 +60,7 @@ pub(crate) fn report<F: Files, H: Host, O: Sink>(
     ensures leaves { IfErr result (λ why. IsAtText why → host.new ≡ host.old) }
     ensures host { HasCause (Run fault.Generator) H.last (H.faults host.old) (H.faults host.new)
         result }
-    ensures many { IsErrOf result (Run fault.Generator) → AreTooMany words.now.restarts
-        (course H.Host host.old host.new) }
+    ensures failed { AreCounted words.now.restarts (course H.Host host.old host.new) result }
     ensures sink { HasCause (Run fault.Write) last_count (O.faults out.old) (O.faults out.new)
         result }
 {
@@ -97,8 +96,7 @@ pub fn solve<F: Files, H: Host, O: Sink>(
     ensures leaves { IfErr result (λ why. IsAtText why → host.new ≡ host.old) }
     ensures host { HasCause (Run fault.Generator) H.last (H.faults host.old) (H.faults host.new)
         result }
-    ensures many { IsErrOf result (Run fault.Generator) → AreTooMany words.now.restarts
-        (course H.Host host.old host.new) }
+    ensures failed { AreCounted words.now.restarts (course H.Host host.old host.new) result }
     ensures sink { HasCause (Run fault.Write) last_count (O.faults out.old) (O.faults out.new)
         result }
 {

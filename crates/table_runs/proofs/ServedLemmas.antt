@@ -4,8 +4,8 @@ use Rattle.std.proofs.Math.Seq.{take-append-add}
 use Rattle.std.proofs.lemmas.List.{append-nil, length-take-le, take-append-le}
 use Rattle.std.proofs.lemmas.Option.{slice_get_within}
 use Rattle.lemmas.proofs.Members.{append_cases, from_take, get_at_length, take_next}
-use Rattle.mode_turns.proofs.ModesLemmas.{as_family}
-use Rattle.mode_turns.specs.Modes.{TurnOf, nothing_kept}
+use Rattle.turn_laws.proofs.ModesLemmas.{as_family}
+use Rattle.turn_laws.specs.Modes.{TurnOf, nothing_kept}
 use Rattle.pools.specs.Pools.{AreFitPools, Workers, child_for, shares_of, workers_of}
 use Rattle.round_run.proofs.DialogueRequestLemmas.{AreAsks, AreReplies, all_replies, closed_by, no_replies, replies_join, requests_front, requests_long, last_join, no_requests, requests_join}
 use Rattle.round_run.specs.Calls.{answers_by}

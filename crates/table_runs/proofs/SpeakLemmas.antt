@@ -17,8 +17,8 @@ use Rattle.lemmas.proofs.Members.{member_at, place_of}
 use Rattle.lemmas.proofs.Options.{same_some}
 use Rattle.lemmas.proofs.Pigeonhole.{pigeons}
 use Rattle.lemmas.specs.Lists.{AreDistinct}
-use Rattle.plain_runs.proofs.LevelLemmas.{in_filter}
-use Rattle.plain_runs.specs.Own.{reply_by}
+use Rattle.turn_laws.proofs.PlainLevelLemmas.{in_filter}
+use Rattle.turn_laws.specs.Own.{reply_by}
 use Rattle.pools.specs.Pools.{Workers}
 use Rattle.round_run.proofs.RollingPrintLemmas.{answers_number}
 use Rattle.round_run.specs.Dialogue.{Dialogue, IsOneOf, IsSaid, Request, bytes_to, called_stream, count_to, is_to, replies_of, requests_of, wanted_by}

@@ -1,14 +1,14 @@
 -- What a run comes to where its children speak by some answers, as those of a table.
 use Rattle.std.proofs.Common.{◌≡◌, ℕ, ◌≤◌, List, [], Option, arith, subst, sym}
 use Rattle.io_world.specs.Talks.{Talk}
-use Rattle.mode_turns.proofs.CountsLemmas.{turn_keeps, turns_keep}
-use Rattle.mode_turns.proofs.ModesLemmas.{as_family}
-use Rattle.mode_turns.specs.Modes.{TurnOf, nothing_kept}
-use Rattle.plain_runs.proofs.OneLemmas.{as_one}
-use Rattle.plain_runs.proofs.OwnLemmas.{own_agrees}
-use Rattle.plain_runs.proofs.SettledLemmas.{settled}
-use Rattle.plain_runs.proofs.TurnsLemmas.{as_plain}
-use Rattle.plain_runs.specs.Own.{own_rows}
+use Rattle.turn_laws.proofs.ModeCountsLemmas.{turn_keeps, turns_keep}
+use Rattle.turn_laws.proofs.ModesLemmas.{as_family}
+use Rattle.turn_laws.specs.Modes.{TurnOf, nothing_kept}
+use Rattle.turn_laws.proofs.PlainOneLemmas.{as_one}
+use Rattle.turn_laws.proofs.OwnLemmas.{own_agrees}
+use Rattle.turn_laws.proofs.PlainSettledLemmas.{settled}
+use Rattle.turn_laws.proofs.PlainTurnsLemmas.{as_plain}
+use Rattle.turn_laws.specs.Own.{own_rows}
 use Rattle.round_run.specs.Dialogue.{workers_in}
 use Rattle.table_runs.proofs.AgreeLemmas.{dialogue_agrees}
 use Rattle.table_runs.specs.Asking.{AnsweredBy}

@@ -1,9 +1,9 @@
 -- What a run comes to where its generators answer by a table.
 use Rattle.std.specs.Prelude.{◌≡◌, ℕ, List, Option}
 use Rattle.io_world.specs.Talks.{Talk}
-use Rattle.mode_turns.specs.Lazy.{IsFewDue, IsLazy, IsLazyEnd}
-use Rattle.plain_runs.specs.Laws.{IsSettledOutcome}
-use Rattle.plain_runs.specs.Own.{own_rows}
+use Rattle.turn_laws.specs.Lazy.{IsFewDue, IsLazy, IsLazyEnd}
+use Rattle.turn_laws.specs.PlainLaws.{IsSettledOutcome}
+use Rattle.turn_laws.specs.Own.{own_rows}
 use Rattle.round_run.specs.Dialogue.{Dialogue, workers_in}
 use Rattle.table_runs.specs.Asking.{AnsweredBy, GoToPools}
 use Rattle.task_model.specs.declared.task.Task.{Task}

@@ -7,5 +7,6 @@ pub mod TurnsLevelLemmas
 pub mod TurnsOutcomeLemmas
 pub mod AskingLemmas
 pub mod TabledLemmas
+pub mod ShortDreamLemmas
 pub mod LoopLemmas
 pub mod ReportingLemmas

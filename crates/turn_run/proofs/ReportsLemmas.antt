@@ -14,9 +14,9 @@ use Rattle.transcript_model.specs.declared.head.Head.{Head}
 use Rattle.transcript_model.specs.declared.outcome.Outcome.{Outcome}
 use Rattle.turn_run.proofs.TurnsFrontLemmas.{run_between}
 use Rattle.turn_run.proofs.TurnsLemmas.{standing_first}
-use Rattle.mode_turns.proofs.CountsLemmas.{turn_keeps, turns_keep}
-use Rattle.mode_turns.proofs.ModesLemmas.{as_family}
-use Rattle.mode_turns.specs.Modes.{TurnOf, nothing_kept}
+use Rattle.turn_laws.proofs.ModeCountsLemmas.{turn_keeps, turns_keep}
+use Rattle.turn_laws.proofs.ModesLemmas.{as_family}
+use Rattle.turn_laws.specs.Modes.{TurnOf, nothing_kept}
 use Rattle.transcript_model.specs.Rounds.{limits_of}
 use Rattle.report_text.proofs.PrintsLemmas.{appends_none, appends_then}
 use Rattle.round_run.proofs.StoppedLemmas.{lines_of_one, off_none}

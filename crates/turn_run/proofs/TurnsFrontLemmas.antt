@@ -9,11 +9,11 @@ use Rattle.transcript_model.specs.declared.head.Head.{Head}
 use Rattle.turn_run.proofs.TurnsLemmas.{Standing}
 use Rattle.turn_run.specs.Advancing.{IsFrontOfTurn}
 use Rattle.turn_run.specs.Turns.{IsFrontOfRun}
-use Rattle.mode_turns.proofs.LazyLemmas.{lazy_front}
-use Rattle.mode_turns.proofs.LazyTurnsLemmas.{turn_lazy}
-use Rattle.mode_turns.proofs.ModesLemmas.{lead_then, leads_between, of_mode}
-use Rattle.mode_turns.specs.Lazy.{IsLazy, IsTurnNeeded}
-use Rattle.mode_turns.specs.Modes.{nothing_kept}
+use Rattle.turn_laws.proofs.LazyLemmas.{lazy_front}
+use Rattle.turn_laws.proofs.LazyTurnsLemmas.{turn_lazy}
+use Rattle.turn_laws.proofs.ModesLemmas.{lead_then, leads_between, of_mode}
+use Rattle.turn_laws.specs.Lazy.{IsLazy, IsTurnNeeded}
+use Rattle.turn_laws.specs.Modes.{nothing_kept}
 
 -- ---- runs
 

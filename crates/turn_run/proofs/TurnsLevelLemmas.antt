@@ -16,7 +16,7 @@ use Rattle.transcript_model.specs.Turns.{MayBegin, is_cut}
 use Rattle.transcript_model.specs.declared.entry.Entry.{Entry}
 use Rattle.transcript_model.specs.declared.head.Head.{Head}
 use Rattle.turn_run.specs.Turns.{IsTurn, cut_by}
-use Rattle.mode_turns.specs.Lazy.{IsTurnNeeded}
+use Rattle.turn_laws.specs.Lazy.{IsTurnNeeded}
 use Rattle.instance_queue.specs.Level.{AreDueInTurn}
 use Rattle.task_model.specs.Plans.{IsFar, IsSolvable}
 use Rattle.round_run.specs.Batches.{EndsBatch}

@@ -33,7 +33,7 @@ use Rattle.transcript_model.specs.declared.outcome.Outcome.TheVariants as outcom
 use Rattle.turn_run.specs.Turns.{HasFewSteps, IsCostInRange, IsDecided, IsLeastOutcome, IsPast, IsSettledEnd, IsSure, IsTurn}
 use Rattle.optimal_search.specs.Answer.{IsCheapest}
 use Rattle.round_run.specs.Batches.{EndsBatch}
-use Rattle.mode_turns.specs.Lazy.{IsLazyEnd, IsTurnNeeded}
+use Rattle.turn_laws.specs.Lazy.{IsLazyEnd, IsTurnNeeded}
 use Rattle.transcript_model.specs.Turns.{between}
 use Rattle.turn_run.specs.declared.decide.Decision.{Decision}
 use Rattle.turn_run.specs.declared.decide.Decision.TheVariants.{Ends, Asks}

@@ -1,7 +1,7 @@
 -- What a mode does in a turn, and what turns have done to the session, to the report and to the log.
 use Rattle.std.specs.Prelude.{◌≡◌, ◌⊎◌, ℕ, ◌+◌, ◌*◌, ◌<◌, ◌≤◌, List, ◌++◌, length, count_by, Bool, true, false, Option, Result}
 use Rattle.io_world.specs.Talks.{Event, Talk}
-use Rattle.mode_turns.specs.Modes.{TurnOf, nothing_kept}
+use Rattle.turn_laws.specs.Modes.{TurnOf, nothing_kept}
 use Rattle.session_core.specs.State.{State}
 use Rattle.task_model.specs.declared.task.Task.{Task}
 use Rattle.transcript_model.specs.Legal.{asks_of, is_level}
@@ -17,7 +17,7 @@ use Rattle.round_run.specs.Desk.{AtDesk, OnTurn}
 use Rattle.round_run.specs.Told.{Stretch}
 use Rattle.round_run.specs.TurnLines.{HasTurnLine}
 use Rattle.round_run.specs.declared.fault.RunFault.{RunFault}
-use Rattle.turn_run.specs.Turns.{IsFrontOfRun, IsSettledEnd, IsSure}
+use Rattle.turn_run.specs.Turns.{HasShortDreams, IsFrontOfRun, IsSettledEnd, IsSure}
 use Rattle.turn_run.specs.declared.turns.Turned.{Turned}
 use Rattle.turn_run.specs.declared.turns.Turned.TheVariants.{Done, Spent, Known}
 use Rattle.round_run.specs.Dialogue.{Dialogue, workers_in}
@@ -29,22 +29,22 @@ use Rattle.round_run.specs.Rolling.{IsFrontPart}
 abbrev pub Falls : (asked idle asked_now idle_now : ℕ) → Type 0
 Falls asked idle asked_now idle_now = (asked < asked_now) ⊎ ((asked_now ≡ asked) × (idle_now < idle))
 
--- The entries that came are a whole turn of the mode; or one whose last batch was cut, and the limit of calls is sure;
--- or none came, and this outcome is sure.
+-- The entries that came are a whole turn of the mode; or one whose last batch was cut, and the limit of calls is sure.
+-- Its dream has no more steps than a search may have states. Or none came, and this outcome is sure.
 abbrev pub HasTurned : Task → Head → Kept → Kept → State → State → Turned → Type 0
 HasTurned task head kept next old new Done =
     (now : List Entry) × (new.entries ≡ old.entries ++ now)
-    × TurnOf head.mode (limits_of head) task kept old.entries now next false
+    × TurnOf head.mode (limits_of head) task kept old.entries now next false × HasShortDreams head.states now
 HasTurned task head kept next old new Spent =
     (now : List Entry) × (last : Kept) × (new.entries ≡ old.entries ++ now)
     × TurnOf head.mode (limits_of head) task kept old.entries now last true
-    × IsSure head task new.entries (outcome.Limit Calls)
+    × IsSure head task new.entries (outcome.Limit Calls) × HasShortDreams head.states now
 HasTurned task head kept next old new (Known o) =
     (new.entries ≡ old.entries) × (next ≡ kept) × IsSettledEnd head task old.entries o
 
 -- Between two turns of a mode: what it holds by itself of how much was asked, only so many turns may still ask nothing,
 -- and no more levels stand than requests.
-pub record Fits (Holds : ℕ → Type 0) (idle : ℕ) (s : State) : Type 0 where
+pub record StandsBetween (Holds : ℕ → Type 0) (idle : ℕ) (s : State) : Type 0 where
   pub holds : Holds (length s.asked)
   pub room : idle ≤ 2 * length s.asked + 1
   pub levels : count_by is_level s.entries ≤ length s.asked
@@ -54,7 +54,7 @@ pub record RanTurn (task : Task) (head : Head) (kept next : Kept) (idle idle_now
     (Holds : ℕ → Type 0) (old new : State) (t : Turned) : Type 0 where
   pub turned : HasTurned task head kept next old new t
   pub falls : t ≡ Done → Falls (length old.asked) idle (length new.asked) idle_now
-  pub fits : Fits Holds idle_now new
+  pub fits : StandsBetween Holds idle_now new
 
 -- Nothing came yet; or these are the entries before and the first of a turn of the mode.
 abbrev pub IsFrontOfTurn : Task → Head → Kept → List Entry → List Entry → Type 0

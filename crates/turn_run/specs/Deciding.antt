@@ -2,7 +2,7 @@
 use Rattle.std.specs.Prelude.{◌≡◌, ◌≤◌, ℕ, Bool, true, false, length, ◌↔◌, Option, MatchOption}
 use Rattle.best_first.specs.Answer.{HasPlan, IsLimit, IsNothing}
 use Rattle.best_first.specs.declared.found.Found.{Found}
-use Rattle.turn_run.specs.Turns.{IsPast}
+use Rattle.turn_laws.specs.Lazy.{IsTurnNeeded}
 use Rattle.optimal_search.specs.Answer.{IsCheapest}
 use Rattle.round_run.specs.Desk.{AtDesk}
 use Rattle.round_run.specs.Batches.{IsRunnable}
@@ -10,10 +10,17 @@ use Rattle.session_core.specs.Session.{IsLearnt, IsOf, IsSession}
 use Rattle.session_core.specs.State.{State}
 use Rattle.task_model.specs.Known.{Known}
 use Rattle.task_model.specs.Plans.{IsReached, IsSolvable, MoreThan}
+use Rattle.task_model.specs.Streams.{NothingIsDue}
 use Rattle.task_model.specs.declared.task.Task.{Task}
+use Rattle.transcript_model.specs.Rounds.{limits_of}
+use Rattle.transcript_model.specs.Transcript.{known_of, notes_of}
 use Rattle.transcript_model.specs.declared.head.Head.{Head}
 use Rattle.transcript_model.specs.declared.head.Mode.{Mode}
 use Rattle.transcript_model.specs.declared.head.Mode.TheVariants.{Incremental}
+use Rattle.transcript_model.specs.declared.outcome.Outcome.{Outcome}
+use Rattle.turn_run.specs.Turns.{IsDecided, IsPast, IsSettledEnd}
+use Rattle.turn_run.specs.declared.decide.Decision.{Decision}
+use Rattle.turn_run.specs.declared.situation.Situation.{Situation}
 
 -- The session is one of the task and of the head and works, all that was answered is learnt, and no more was asked than
 -- the head's calls.
@@ -52,7 +59,46 @@ pub record FindsPlan (cheapest : Bool) (task : Task) (known : Known) (limit : �
   pub nothing : IsNothing found ↔ ((¬ (IsSolvable task known)) × (¬ (MoreThan limit (IsReached task known))))
   pub past : IsLimit found → IsPast cheapest task known limit
 
--- That there is none by itself, or what a search answers.
-abbrev pub MayFindPlan : (cheapest : Bool) → Task → Known → ℕ → Option Found → Type 0
-MayFindPlan cheapest task known limit found =
-    MatchOption found (¬ (IsSolvable task known)) (FindsPlan cheapest task known limit)
+-- ---- what lies on a desk
+
+-- these lie on it
+pub record LiesOn (desk : AtDesk) (x : Situation) : Type 0 where
+  pub task : x.task.now ≡ desk.task
+  pub head : x.head.now ≡ desk.head
+  pub session : x.session.now ≡ desk.state
+
+-- so that it can be decided what comes next
+abbrev pub MayDecideIn : Situation → Type 0
+MayDecideIn x = MayDecide x.task.now x.head.now x.session.now
+
+-- what is known
+abbrev pub known_in : Situation → Known
+known_in x = known_of x.task.now x.session.now.entries
+
+-- no instance is due
+abbrev pub NothingIsDueIn : Situation → Type 0
+NothingIsDueIn x = NothingIsDue x.task.now (known_in x) (notes_of x.task.now x.session.now.entries)
+
+-- a turn is needed
+abbrev pub IsNeededIn : Situation → Type 0
+IsNeededIn x = IsTurnNeeded (limits_of x.head.now) x.task.now x.session.now.entries
+
+-- the run may end with this outcome
+abbrev pub MayEndIn : Situation → Outcome → Type 0
+MayEndIn x o = IsSettledEnd x.head.now x.task.now x.session.now.entries o
+
+-- this may come next
+abbrev pub IsDecidedIn : Situation → Decision → Type 0
+IsDecidedIn x = IsDecided x.head.now x.task.now x.session.now.entries (length x.session.now.asked)
+
+-- what a search answers
+abbrev pub FindsIn : (cheapest : Bool) → Situation → Found → Type 0
+FindsIn cheapest x = FindsPlan cheapest x.task.now (known_in x) x.head.now.states
+
+-- that there is none by itself, or what a search answers
+abbrev pub MayFindIn : (cheapest : Bool) → Situation → Option Found → Type 0
+MayFindIn cheapest x found = MatchOption found (¬ (IsSolvable x.task.now (known_in x))) (FindsIn cheapest x)
+
+-- the search that the head asks for was past the limit of states
+abbrev pub IsPastIn : Situation → Type 0
+IsPastIn x = IsPast x.head.now.optimal x.task.now (known_in x) x.head.now.states

@@ -3,7 +3,7 @@ use Rattle.std.specs.Prelude.{◌≡◌, ◌⊎◌, ℕ, ◌<◌, ◌≤◌, Lis
 use Rattle.std.proofs.Common.{inl, inr}
 use Rattle.std.specs.Io.KnownBytes.{Appends}
 use Rattle.std.specs.List.{flat_map}
-use Rattle.mode_turns.specs.Lazy.{IsFewDue, IsLazy, IsLazyEnd}
+use Rattle.turn_laws.specs.Lazy.{IsFewDue, IsLazy, IsLazyEnd}
 use Rattle.task_model.specs.declared.task.Task.{Task}
 use Rattle.transcript_model.specs.Legal.{HasNoneOpen, IsLegal, asks_of, is_level}
 use Rattle.transcript_model.specs.Outcomes.{MayStand}
@@ -22,7 +22,7 @@ use Rattle.round_run.specs.Dialogue.{BrokenOff, Dialogue, workers_in}
 use Rattle.round_run.specs.Rolling.{Blames}
 use Rattle.table_runs.specs.Tabled.{IsTabled}
 use Rattle.round_run.specs.TurnLines.{HasTurnLine}
-use Rattle.turn_run.specs.Turns.{IsFrontOfRun, IsSure}
+use Rattle.turn_run.specs.Turns.{HasShortDreams, IsFrontOfRun, IsSure}
 use Rattle.round_run.specs.declared.fault.RunFault.{RunFault}
 use Rattle.round_run.specs.declared.fault.RunFault.TheVariants.{Answer, Generator, Write, Memory}
 use Rattle.turn_run.specs.declared.whole_run.Ran.{Ran}
@@ -63,13 +63,14 @@ report_of task head entries o =
 -- ---- what was written
 
 -- A legal transcript that is a list of whole turns of the head's mode, or one after a batch that was cut, each of which
--- begins where one is needed; no request is open; an outcome that may stand there and is true of it, and a limit only
--- where a further turn is needed.
+-- begins where one is needed; no dream has more steps than a search may have states; no request is open; an outcome that
+-- may stand there and is true of it, and a limit only where a further turn is needed.
 pub record IsRun (task : Task) (head : Head) (entries : List Entry) (o : Outcome) : Type 0 where
   pub stage : Stage
   pub legal : IsLegal head.version task entries
   pub turns : AreTurnsOf head.mode (limits_of head) task entries stage
   pub lazy : IsLazy (limits_of head) task entries
+  pub short : HasShortDreams head.states entries
   pub end : IsLazyEnd (limits_of head) task entries stage o
   pub few : IsFewDue task entries stage o
   pub stands : MayStand stage o

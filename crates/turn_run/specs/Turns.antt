@@ -1,10 +1,9 @@
 -- How turns begin, and how they end.
-use Rattle.std.specs.Prelude.{◌≡◌, ℕ, ◌^◌, ◌<◌, ◌≤◌, List, length, Bool, true, false}
+use Rattle.std.specs.Prelude.{◌≡◌, ℕ, ◌^◌, ◌<◌, ◌≤◌, All, List, length, Bool, true, false}
 use Rattle.instance_queue.specs.Level.{AreDueInTurn}
 use Rattle.instance_queue.specs.declared.due.Due.{Due}
 use Rattle.session_core.specs.Ready.{AreReady}
-use Rattle.session_core.specs.State.{State}
-use Rattle.mode_turns.specs.Lazy.{IsFewDue, IsLazy, IsLazyEnd, IsTurnNeeded}
+use Rattle.turn_laws.specs.Lazy.{IsFewDue, IsLazy, IsLazyEnd, IsTurnNeeded}
 use Rattle.task_model.specs.Known.{Known}
 use Rattle.task_model.specs.Plans.{IsFar, IsLeastCost, IsReached, MoreThan}
 use Rattle.task_model.specs.declared.task.Task.{Task}
@@ -13,6 +12,7 @@ use Rattle.transcript_model.specs.Rounds.{limits_of}
 use Rattle.transcript_model.specs.Transcript.{known_of, notes_of}
 use Rattle.transcript_model.specs.Turns.{IsModeLegal, Stage, between}
 use Rattle.transcript_model.specs.declared.entry.Entry.{Entry}
+use Rattle.transcript_model.specs.declared.entry.Entry.TheVariants as entry
 use Rattle.transcript_model.specs.declared.head.Head.{Head}
 use Rattle.transcript_model.specs.declared.outcome.LimitKind.TheVariants.{States}
 use Rattle.transcript_model.specs.declared.outcome.Outcome.{Outcome}
@@ -36,6 +36,15 @@ abbrev pub HasFewSteps : Head → Outcome → Type 0
 HasFewSteps head (outcome.Plan steps cost from) = length steps ≤ head.states
 HasFewSteps head outcome.NoPlan = Unit {0}
 HasFewSteps head (outcome.Limit kind) = Unit {0}
+
+-- a dream's plan has at most so many steps
+abbrev pub IsShortDream : ℕ → Entry → Type 0
+IsShortDream most (entry.Dream uses steps) = length steps ≤ most
+IsShortDream most e = Unit {0}
+
+-- so has the plan of each dream among these
+abbrev pub HasShortDreams : ℕ → List Entry → Type 0
+HasShortDreams most entries = All (IsShortDream most) entries
 
 -- More states are reached than the limit; and where any plan is looked for, and not the cheapest, so many also within
 -- the steps of each plan.
@@ -84,9 +93,9 @@ abbrev pub IsDecided : Head → Task → List Entry → ℕ → Decision → Typ
 IsDecided head task entries asks (Ends o) = IsSettledEnd head task entries o
 IsDecided head task entries asks (Asks dues) = IsTurn head task entries asks dues.items
 
--- the same of a session
-abbrev pub IsDecidedOf : Head → Task → State → Decision → Type 0
-IsDecidedOf head task s = IsDecided head task s.entries (length s.asked)
+-- the same of a desk
+abbrev pub IsDecidedAt : AtDesk → Decision → Type 0
+IsDecidedAt desk = IsDecided desk.head desk.task desk.state.entries (length desk.state.asked)
 
 -- A transcript of the head's mode: whole turns, the last of which may stop at any entry; each begins where one is
 -- needed.

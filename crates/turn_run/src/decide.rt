@@ -1,23 +1,19 @@
 //! What a turn does: it ends the run, or asks a level.
-ghost use Rattle.std.specs.Prelude.{◌≡◌, IfOk, IfErr, MatchOption};
-ghost use Rattle.turn_run.specs.Deciding.{FindsPlan, MayDecide, MayDecideAt, SeeksPlan};
-ghost use Rattle.turn_run.specs.Turns.{IsDecidedOf, IsPast, IsSettledEnd};
-ghost use Rattle.mode_turns.specs.Lazy.{IsTurnNeeded};
-ghost use Rattle.round_run.specs.declared.fault.RunFault.TheVariants.{Memory};
+ghost use Rattle.std.specs.Prelude.{IfOk, MatchOption};
+ghost use Rattle.turn_run.specs.Deciding.{FindsIn, IsDecidedIn, IsNeededIn, IsPastIn};
+ghost use Rattle.turn_run.specs.Deciding.{MayDecideAt, MayDecideIn, MayEndIn, NothingIsDueIn};
+ghost use Rattle.turn_run.specs.Deciding.{SeeksPlan, known_in};
+ghost use Rattle.turn_run.specs.Turns.{IsDecidedAt};
 ghost use Rattle.task_model.specs.Plans.{IsSolvable};
-ghost use Rattle.task_model.specs.Streams.{NothingIsDue};
-ghost use Rattle.transcript_model.specs.Rounds.{limits_of};
-ghost use Rattle.transcript_model.specs.Transcript.{known_of, notes_of};
 
 use crate::plans::known_plan;
 use crate::search::PlanSearch;
+use crate::situation::{Situation, situation_on};
 use best_first::{Found, exceeds};
 use instance_queue::{Due, QueueFault};
-use round_run::{Desk, RunFault};
-use session_core::Session;
-use std::alloc::{AllocError, Global};
-use task_model::Task;
-use transcript_model::{Head, LimitKind, Mode, Outcome};
+use round_run::Desk;
+use std::alloc::AllocError;
+use transcript_model::{LimitKind, Mode, Outcome};
 
 /// What is to be done next.
 #[derive(Drop)]
@@ -29,96 +25,71 @@ pub enum Decision {
 }
 
 /// What is to be done next: a plan, a limit or that there is no plan ends the run; else what is due
-/// is asked.
-pub(crate) fn decide<S: PlanSearch>(desk: &Desk<'_>, mode: &S) -> Result<Decision, RunFault>
+/// is asked. Fails only where memory is wanting.
+pub(crate) fn decide<S: PlanSearch>(desk: &Desk<'_>, mode: &S) -> Result<Decision, AllocError>
     requires may { MayDecideAt desk.now }
     requires seeks { SeeksPlan S.cheapest desk.now.head }
-    ensures decided { IfOk result (IsDecidedOf desk.now.head desk.now.task desk.now.state) }
-    ensures only { IfErr result (λ fault. fault ≡ Memory) }
+    ensures { IfOk result (IsDecidedAt desk.now) }
 {
-    choose(desk.alloc(), desk.task(), desk.head(), desk.session(), mode)
+    choose(&situation_on(desk), mode)
 }
 
-/// The same over the parts.
-fn choose<S: PlanSearch>(
-    alloc: Global,
-    task: &Task,
-    head: &Head,
-    session: &Session,
-    mode: &S,
-) -> Result<Decision, RunFault>
-    requires may { MayDecide task.now head.now session.now }
-    requires seeks { SeeksPlan S.cheapest head.now }
-    ensures decided { IfOk result (IsDecidedOf head.now task.now session.now) }
-    ensures only { IfErr result (λ fault. fault ≡ Memory) }
+/// The same of what lies on the desk.
+fn choose<S: PlanSearch>(situation: &Situation<'_>, mode: &S) -> Result<Decision, AllocError>
+    requires may { MayDecideIn situation.now }
+    requires seeks { SeeksPlan S.cheapest situation.now.head.now }
+    ensures { IfOk result (IsDecidedIn situation.now) }
 {
-    let facts = session.facts();
-    match mode.find(alloc, task, head, facts)? {
-        Some(found) => decide_found(alloc, task, head, session, found),
-        None => decide_hopeless(alloc, task, head, session),
+    match mode.find(situation)? {
+        Some(found) => decide_found(situation, found),
+        None => decide_hopeless(situation),
     }
 }
 
 /// What is to be done where a search came to this.
-fn decide_found(
-    alloc: Global,
-    task: &Task,
-    head: &Head,
-    session: &Session,
-    found: Found,
-) -> Result<Decision, RunFault>
-    requires may { MayDecide task.now head.now session.now }
-    requires seeks { SeeksPlan head.now.optimal head.now }
-    requires finds { FindsPlan head.now.optimal task.now
-        (known_of task.now session.now.entries) head.now.states found }
-    ensures decided { IfOk result (IsDecidedOf head.now task.now session.now) }
-    ensures only { IfErr result (λ fault. fault ≡ Memory) }
+fn decide_found(situation: &Situation<'_>, found: Found) -> Result<Decision, AllocError>
+    requires may { MayDecideIn situation.now }
+    requires seeks { SeeksPlan situation.now.head.now.optimal situation.now.head.now }
+    requires finds { FindsIn situation.now.head.now.optimal situation.now found }
+    ensures { IfOk result (IsDecidedIn situation.now) }
 {
     match found {
         Found::Plan(plan, cost) => {
-            let shown = known_plan(alloc, task, head, session, &plan, cost)?;
+            let shown = known_plan(situation, &plan, cost)?;
             Ok(Decision::Ends(shown))
         }
-        Found::Limit => decide_far(task, head, session),
-        Found::Nothing => decide_dues(task, head, session, Outcome::NoPlan),
+        Found::Limit => decide_far(situation),
+        Found::Nothing => decide_dues(situation, Outcome::NoPlan),
     }
 }
 
 /// What is to be done where the goal is out of reach: only where nothing is due it counts how many
 /// states are reached.
-fn decide_hopeless(
-    alloc: Global,
-    task: &Task,
-    head: &Head,
-    session: &Session,
-) -> Result<Decision, RunFault>
-    requires may { MayDecide task.now head.now session.now }
-    requires none { ¬ (IsSolvable task.now (known_of task.now session.now.entries)) }
-    ensures decided { IfOk result (IsDecidedOf head.now task.now session.now) }
-    ensures only { IfErr result (λ fault. fault ≡ Memory) }
+fn decide_hopeless(situation: &Situation<'_>) -> Result<Decision, AllocError>
+    requires may { MayDecideIn situation.now }
+    requires none { ¬ (IsSolvable situation.now.task.now (known_in situation.now)) }
+    ensures { IfOk result (IsDecidedIn situation.now) }
 {
-    match decide_asks(task, head, session)? {
+    match decide_asks(situation)? {
         Some(decision) => Ok(decision),
-        None => Ok(Decision::Ends(end_of_hopeless(alloc, task, head, session)?)),
+        None => Ok(Decision::Ends(end_of_hopeless(situation)?)),
     }
 }
 
-/// What a run ends with where the goal is out of reach and nothing is due. Fails only where memory is
-/// wanting.
-fn end_of_hopeless(
-    alloc: Global,
-    task: &Task,
-    head: &Head,
-    session: &Session,
-) -> Result<Outcome, AllocError>
-    requires may { MayDecide task.now head.now session.now }
-    requires none { ¬ (IsSolvable task.now (known_of task.now session.now.entries)) }
-    requires settled { NothingIsDue task.now (known_of task.now session.now.entries)
-        (notes_of task.now session.now.entries) }
-    ensures { IfOk result (IsSettledEnd head.now task.now session.now.entries) }
+/// What a run ends with where the goal is out of reach and nothing is due.
+fn end_of_hopeless(situation: &Situation<'_>) -> Result<Outcome, AllocError>
+    requires may { MayDecideIn situation.now }
+    requires none { ¬ (IsSolvable situation.now.task.now (known_in situation.now)) }
+    requires settled { NothingIsDueIn situation.now }
+    ensures { IfOk result (MayEndIn situation.now) }
 {
-    let facts = session.facts();
-    if exceeds(alloc, task, facts, head.states)? {
+    let facts = situation.session.facts();
+    if exceeds(
+        situation.alloc,
+        situation.task,
+        facts,
+        situation.head.states,
+    )? {
         Ok(Outcome::Limit(LimitKind::States))
     } else {
         Ok(Outcome::NoPlan)
@@ -127,58 +98,47 @@ fn end_of_hopeless(
 
 /// What is to be done where the search was past the limit of states: in incremental mode the run
 /// ends.
-fn decide_far(task: &Task, head: &Head, session: &Session) -> Result<Decision, RunFault>
-    requires may { MayDecide task.now head.now session.now }
-    requires seeks { SeeksPlan head.now.optimal head.now }
-    requires past { IsPast head.now.optimal task.now (known_of task.now session.now.entries)
-        head.now.states }
-    ensures decided { IfOk result (IsDecidedOf head.now task.now session.now) }
-    ensures only { IfErr result (λ fault. fault ≡ Memory) }
+fn decide_far(situation: &Situation<'_>) -> Result<Decision, AllocError>
+    requires may { MayDecideIn situation.now }
+    requires seeks { SeeksPlan situation.now.head.now.optimal situation.now.head.now }
+    requires past { IsPastIn situation.now }
+    ensures { IfOk result (IsDecidedIn situation.now) }
 {
     let states = Outcome::Limit(LimitKind::States);
-    match head.mode {
+    match situation.head.mode {
         Mode::Incremental => Ok(Decision::Ends(states)),
-        Mode::Focused | Mode::Binding | Mode::Adaptive => decide_dues(task, head, session, states),
+        Mode::Focused | Mode::Binding | Mode::Adaptive => decide_dues(situation, states),
     }
 }
 
 /// What is to be done where a turn is needed: the run ends with `last` where nothing is due.
-fn decide_dues(
-    task: &Task,
-    head: &Head,
-    session: &Session,
-    last: Outcome,
-) -> Result<Decision, RunFault>
-    requires may { MayDecide task.now head.now session.now }
-    requires needed { IsTurnNeeded (limits_of head.now) task.now session.now.entries }
-    requires last { NothingIsDue task.now (known_of task.now session.now.entries)
-        (notes_of task.now session.now.entries)
-        → IsSettledEnd head.now task.now session.now.entries last }
-    ensures decided { IfOk result (IsDecidedOf head.now task.now session.now) }
-    ensures only { IfErr result (λ fault. fault ≡ Memory) }
+fn decide_dues(situation: &Situation<'_>, last: Outcome) -> Result<Decision, AllocError>
+    requires may { MayDecideIn situation.now }
+    requires needed { IsNeededIn situation.now }
+    requires last { NothingIsDueIn situation.now → MayEndIn situation.now last }
+    ensures { IfOk result (IsDecidedIn situation.now) }
 {
-    match decide_asks(task, head, session)? {
+    match decide_asks(situation)? {
         Some(decision) => Ok(decision),
         None => Ok(Decision::Ends(last)),
     }
 }
 
 /// What is to be done where a turn is needed, or None where nothing is due.
-fn decide_asks(task: &Task, head: &Head, session: &Session) -> Result<Option<Decision>, RunFault>
-    requires may { MayDecide task.now head.now session.now }
-    requires needed { IsTurnNeeded (limits_of head.now) task.now session.now.entries }
-    ensures decided { IfOk result (λ decision. MatchOption decision
-        (NothingIsDue task.now (known_of task.now session.now.entries)
-        (notes_of task.now session.now.entries))
-        (IsDecidedOf head.now task.now session.now)) }
-    ensures only { IfErr result (λ fault. fault ≡ Memory) }
+fn decide_asks(situation: &Situation<'_>) -> Result<Option<Decision>, AllocError>
+    requires may { MayDecideIn situation.now }
+    requires needed { IsNeededIn situation.now }
+    ensures { IfOk result (λ decision. MatchOption decision (NothingIsDueIn situation.now)
+        (IsDecidedIn situation.now)) }
 {
-    let dues = match session.due(task) {
+    let session = situation.session;
+    let head = situation.head;
+    let dues = match session.due(situation.task) {
         Ok(dues) => dues,
         Err(QueueFault::TooManyInstances) => {
             return Ok(Some(Decision::Ends(Outcome::Limit(LimitKind::Instances))));
         }
-        Err(QueueFault::Memory) => return Err(RunFault::Memory),
+        Err(QueueFault::Memory) => return Err(AllocError),
     };
     if dues.as_slice().is_empty() {
         return Ok(None);

@@ -1,6 +1,6 @@
 //! What a mode does in a turn.
 ghost use Rattle.std.specs.Prelude.{ℕ};
-ghost use Rattle.turn_run.specs.Advancing.{Fits, OnModeTurn};
+ghost use Rattle.turn_run.specs.Advancing.{StandsBetween, OnModeTurn};
 ghost use Rattle.turn_run.specs.Deciding.{IsHeadFor};
 ghost use Rattle.round_run.specs.Desk.{RestsAt};
 ghost use Rattle.round_run.specs.Told.{stretch, host_told};
@@ -51,7 +51,7 @@ pub trait Turns: PlanSearch {
         requires mode { IsHeadFor mode Self.cheapest desk.old.head }
         requires rests { RestsAt desk.old (host_told H.Host host.old) }
         requires turn { IsTurnAt desk.old dues.now }
-        requires fits { Fits (holds self.old) (idle self.old) desk.old.state }
+        requires fits { StandsBetween (holds self.old) (idle self.old) desk.old.state }
         ensures goes { OnModeTurn desk.old desk.new (stretch H.Host O.Sink host.old host.new out.old
             out.new) (kept self.old) (kept self.new) (idle self.old) (idle self.new) (holds
             self.new) result };

@@ -5,6 +5,7 @@ use Rattle.std.proofs.lemmas.Bool.{false≢true}
 use Rattle.std.proofs.lemmas.Option.{same_Some}
 use Rattle.std.specs.Option.{option_and_then}
 use Rattle.lemmas.proofs.Ascending.{contains_none}
+use Rattle.task_model.specs.Examples.{call as grip_of}
 use Rattle.task_model.specs.Plans.{Executes}
 use Rattle.task_model.specs.Roles.{role_of}
 use Rattle.task_model.specs.State.{Atoms}
@@ -17,10 +18,10 @@ use Rattle.transcript_model.specs.Transcript.{known_of, names_of}
 use Rattle.transcript_model.specs.declared.entry.Call.{Call}
 use Rattle.transcript_model.specs.declared.entry.Entry.{Entry}
 use Rattle.transcript_model.specs.declared.entry.Entry.TheVariants as entry
-use Rattle.mode_turns.specs.Lazy.{IsTurnNeeded}
+use Rattle.turn_laws.specs.Lazy.{IsTurnNeeded}
 use Rattle.witness_laws.specs.Fetch.{fetch, grip, grip_cup}
 use Rattle.witness_laws.specs.Level.{cup_entries, cup_limits}
-use Rattle.witness_laws.specs.Refusals.{AnswersNeedOpenRequests, DomainFactsAreNeeded, GreaterCostsAreFalse, LevelsAskForAll, OpenRequestsArentRepeated, PlaceholdersMakeNoPlan, RoundsAreFull, TurnsBehindPlansArentLazy, grip_of}
+use Rattle.witness_laws.specs.Refusals.{AnswersNeedOpenRequests, DomainFactsAreNeeded, GreaterCostsAreFalse, LevelsAskForAll, OpenRequestsArentRepeated, PlaceholdersMakeNoPlan, RoundsAreFull, TurnsBehindPlansArentLazy}
 use Rattle.witness_laws.proofs.LevelLemmas.{first_due}
 use Rattle.witness_laws.proofs.PlanLemmas.{cup_valid, plan_step}
 

@@ -1,8 +1,8 @@
 -- What the definitions refuse, at the first worked task. Each is a clause of a public function of `refusals.rt`.
 use Rattle.std.specs.Prelude.{◌≡◌, ℕ, List, [], ◌∷◌, ◌++◌, codes, Bool}
-use Rattle.mode_turns.specs.Lazy.{IsLazy}
+use Rattle.turn_laws.specs.Lazy.{IsLazy}
+use Rattle.task_model.specs.Examples.{call as grip_of}
 use Rattle.task_model.specs.Streams.{IsDue}
-use Rattle.task_model.specs.declared.stream.Instance.{Instance}
 use Rattle.transcript_model.specs.Legal.{IsLegal}
 use Rattle.transcript_model.specs.Outcomes.{IsTruePlan}
 use Rattle.transcript_model.specs.Rounds.{AreRounds}
@@ -14,10 +14,6 @@ use Rattle.transcript_model.specs.declared.entry.Entry.TheVariants as entry
 use Rattle.transcript_model.specs.declared.outcome.Origin.{Origin}
 use Rattle.witness_laws.specs.Fetch.{fetch, grip_cup}
 use Rattle.witness_laws.specs.Level.{cup_entries, cup_limits, cup_plan}
-
--- how this object may be gripped
-abbrev pub grip_of : ℕ → Instance
-grip_of object = record { stream = 0; inputs = object ∷ [] }
 
 -- the level and its request, which isn't answered yet
 abbrev pub cup_asked : List Entry

@@ -1,6 +1,6 @@
 use Rattle.std.proofs.Common.{List, sym, subst, arith}
 use Rattle.optimal_check.proofs.VerdictLemmas.{steps_few}
-use Rattle.optimal_check.specs.Verdicts.{ShowsPlan}
+use Rattle.optimal_check.specs.Verdicts.{ShowsRightPlan}
 use Rattle.replay_check.specs.Heads.{reported_limits}
 use Rattle.transcript_model.specs.Outcomes.{IsTrueOutcome}
 use Rattle.transcript_model.specs.declared.entry.Call.{Call}
@@ -13,7 +13,7 @@ judge_cost-requires-clause-shown c =
     let r = right.report in
     let plan = subst (IsTrueOutcome (reported_limits task r) task r.entries) c.in-Plan.is c.requires.right.true in
     let few = steps_few r c.in-Plan.steps c.in-Plan.cost c.in-Plan.from c.in-Plan.is in
-    subst (λ (ss : List Call). ShowsPlan task right ss c.in-Plan.cost) (sym c.as_slice.ensures) (record {
+    subst (λ (ss : List Call). ShowsRightPlan task right ss c.in-Plan.cost) (sym c.as_slice.ensures) (record {
       known = c.requires.known;
       valid = (plan.steps, plan.valid);
       lines = c.requires.lines;

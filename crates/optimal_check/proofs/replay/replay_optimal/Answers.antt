@@ -1,6 +1,6 @@
 use Rattle.std.proofs.Common.{inl, inr, ◌≡◌, ◌<◌, ◌^◌, length, subst, arith}
 use Rattle.std.proofs.lemmas.Result.{IfOk-weaker}
-use Rattle.replay_check.proofs.LinesLemmas.{report_short}
+use Rattle.legal_report.proofs.LinesLemmas.{report_short}
 use Rattle.replay_check.specs.Judgings.{HasRight, IsRightOf, verdict_of}
 use Rattle.replay_check.specs.Verdicts.{IsVerdict}
 use Rattle.replay_check.specs.declared.verdict.Judged.{Judged}

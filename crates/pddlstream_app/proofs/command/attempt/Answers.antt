@@ -1,16 +1,19 @@
-use Rattle.std.proofs.Common.{rules, ◌∙◌, ap, map, refl, string_bytes, subst, sym, Some}
+use Rattle.std.proofs.Common.{rules, ◌∙◌, ap, map, refl, string_bytes, subst, sym, Err, Some}
 use Rattle.command_line.proofs.RangesLemmas.{in_range}
 use Rattle.command_line.specs.Held.{held_solve}
 use Rattle.command_line.specs.Words.{generate, solve}
 use Rattle.pddlstream_app.proofs.AnswersLemmas.{answer_asked, answer_asked_before, answer_ungenerated}
 use Rattle.pddlstream_app.proofs.LeavesLemmas.{leaves_running, spares_running, spares_same}
 use Rattle.pddlstream_app.specs.Answering.{command_answering}
-use Rattle.command_files.proofs.MapsLemmas.{extends_none}
+use Rattle.io_world.proofs.TalksLemmas.{extends_none}
 use Rattle.command_files.specs.Outside.{outside_of, seen_of, written_of}
 use Rattle.pddlstream_app.proofs.AskedLemmas.{made_asked, made_asked_before, solved_asked, solved_asked_before}
 use Rattle.pddlstream_app.proofs.StandsLemmas.{stands_answered, stands_early, stands_made, stands_solved, stands_unused, ungenerated}
 use Rattle.round_run.specs.Told.{course}
-use Rattle.run_command.specs.Heard.{AreTooMany, restarts_for}
+use Rattle.round_run.specs.declared.fault.RunFault.TheVariants as fault
+use Rattle.command_files.specs.declared.stop.Stop.TheVariants as stop
+use Rattle.run_command.proofs.CountedLemmas.{counted_still}
+use Rattle.run_command.specs.Heard.{AreCounted, restarts_for, restarts_in}
 use Rattle.pddlstream_app.proofs.command.attempt.Goals as goal
 
 -- ---- a task is to be solved
@@ -25,10 +28,10 @@ returns-in-Solve-clause-stands g c =
     stands_solved (map string_bytes c.args.words.now) _ _ _ (held_solve c.in-Solve.words)
     (c.in-Ok.ensures.config ∙ ap Some (sym c.in-Solve.ensures)) c.solve.result c.solve.ensures.ends
 
-pub returns-in-Solve-clause-many : goal.returns-in-Solve-clause-many
-returns-in-Solve-clause-many g c = λ is.
-    subst (λ n. AreTooMany n (course g.H.Host c.args.host.now c.solve.new.host))
-    (sym (ap restarts_for (c.in-Ok.ensures.config ∙ ap Some (sym c.in-Solve.ensures)))) (c.solve.ensures.many is)
+pub returns-in-Solve-clause-failed : goal.returns-in-Solve-clause-failed
+returns-in-Solve-clause-failed g c =
+    subst (λ n. AreCounted n (course g.H.Host c.args.host.now c.solve.new.host) c.solve.result)
+    (sym (ap restarts_for (c.in-Ok.ensures.config ∙ ap Some (sym c.in-Solve.ensures)))) c.solve.ensures.failed
 
 pub returns-in-Solve-clause-answers : goal.returns-in-Solve-clause-answers
 returns-in-Solve-clause-answers g c =
@@ -65,6 +68,16 @@ returns-in-Err-Memory-clause-stands g c =
     (seen_of g.F.Files.told g.F.Files.faults g.F.Files.asked c.args.files.now c.args.files.now) (g.H.Host.spoken c.args.host.now)
     (g.H.Host.log c.args.host.now) _ (g.O.Sink.taken c.args.out.now)
 
+pub returns-in-Err-Usage-clause-failed : goal.returns-in-Err-Usage-clause-failed
+returns-in-Err-Usage-clause-failed g c =
+    counted_still (stop.Run fault.Generator) (stop.Run fault.Memory) (restarts_in (map string_bytes c.args.words.now)) _
+    (Err stop.Usage) (λ is. absurd (cc (is))) (extends_none (g.H.Host.log c.args.host.now))
+
+pub returns-in-Err-Memory-clause-failed : goal.returns-in-Err-Memory-clause-failed
+returns-in-Err-Memory-clause-failed g c =
+    counted_still (stop.Run fault.Generator) (stop.Run fault.Memory) (restarts_in (map string_bytes c.args.words.now)) _
+    (Err (stop.Run fault.Memory)) (λ is. absurd (cc (is))) (extends_none (g.H.Host.log c.args.host.now))
+
 -- ---- the task of a number is to be made and solved
 
 pub make-requires-clause-within : goal.make-requires-clause-within
@@ -79,10 +92,10 @@ returns-in-Make-clause-stands g c =
     (c.in-Ok.ensures.config ∙ ap Some (sym c.in-Make.ensures)) (extends_none (g.F.Files.asked c.args.files.now)) c.make.result
     c.make.ensures.ends
 
-pub returns-in-Make-clause-many : goal.returns-in-Make-clause-many
-returns-in-Make-clause-many g c = λ is.
-    subst (λ n. AreTooMany n (course g.H.Host c.args.host.now c.make.new.host))
-    (sym (ap restarts_for (c.in-Ok.ensures.config ∙ ap Some (sym c.in-Make.ensures)))) (c.make.ensures.many is)
+pub returns-in-Make-clause-failed : goal.returns-in-Make-clause-failed
+returns-in-Make-clause-failed g c =
+    subst (λ n. AreCounted n (course g.H.Host c.args.host.now c.make.new.host) c.make.result)
+    (sym (ap restarts_for (c.in-Ok.ensures.config ∙ ap Some (sym c.in-Make.ensures)))) c.make.ensures.failed
 
 pub returns-in-Make-clause-answers : goal.returns-in-Make-clause-answers
 returns-in-Make-clause-answers g c =
@@ -122,11 +135,14 @@ returns-in-Answer-clause-stands g c =
     (g.H.Host.log c.args.host.now) _ (written_of g.O.Sink.taken c.args.out.now c.answer.new.out) c.in-Answer.words
     (c.in-Ok.ensures.config ∙ ap Some (sym c.in-Answer.ensures)) c.answer.result c.answer.ensures.told
 
-pub returns-in-Answer-clause-many : goal.returns-in-Answer-clause-many
-returns-in-Answer-clause-many g c = λ is.
-    absurd (ungenerated _ _ (answer_ungenerated (command_answering c.in-Answer.words)
+pub returns-in-Answer-clause-failed : goal.returns-in-Answer-clause-failed
+returns-in-Answer-clause-failed g c =
+    counted_still (stop.Run fault.Generator) (stop.Run fault.Memory) (restarts_in (map string_bytes c.args.words.now)) _
+    c.answer.result
+    (ungenerated _ _ (answer_ungenerated (command_answering c.in-Answer.words)
     (seen_of g.F.Files.told g.F.Files.faults g.F.Files.asked c.args.files.now c.answer.new.files)
-    (written_of g.O.Sink.taken c.args.out.now c.answer.new.out) c.answer.result c.answer.ensures.told) is)
+    (written_of g.O.Sink.taken c.args.out.now c.answer.new.out) c.answer.result c.answer.ensures.told))
+    (extends_none (g.H.Host.log c.args.host.now))
 
 pub returns-in-Answer-clause-leaves : goal.returns-in-Answer-clause-leaves
 returns-in-Answer-clause-leaves g c =

@@ -5,7 +5,10 @@ use Rattle.pddlstream_app.proofs.HeadlineLemmas.{no_plan_printed, plan_printed}
 use Rattle.pddlstream_app.proofs.CausesLemmas.{other_stop, write_stop}
 use Rattle.pddlstream_app.proofs.PlayLemmas.{plays_safely}
 use Rattle.pddlstream_app.proofs.RunsLemmas.{before_last}
-use Rattle.pddlstream_app.proofs.StandsLemmas.{closed_generator, completes_by, ends_cut, ends_last, ends_ok, lacked_closed}
+use Rattle.round_run.proofs.StoppedLemmas.{same_err}
+use Rattle.round_run.specs.declared.fault.RunFault.TheVariants as fault
+use Rattle.command_files.specs.declared.stop.Stop.TheVariants as stop
+use Rattle.pddlstream_app.proofs.StandsLemmas.{closed_generator, closed_unhindered, completes_by, completes_lives, ends_cut, ends_last, ends_ok, lacked_closed}
 use Rattle.pddlstream_app.proofs.LeavesLemmas.{leaves_closed, leaves_completed, read_cause}
 use Rattle.pddlstream_app.proofs.CompleteLemmas.{completes_closed, completes_cut, completes_done, sink_whole}
 use Rattle.pddlstream_app.specs.Asked.{AsksFiles}
@@ -75,22 +78,26 @@ pub returns-in-Ok-clause-complete : goal.returns-in-Ok-clause-complete
 returns-in-Ok-clause-complete g c =
     completes_by c.in-Ok.ensures.stands c.in-Ok.status (λ is. absurd (cc (is)))
     (completes_done c.in-Ok.status c.in-Ok.ensures.stands.completed)
+    (completes_lives c.in-Ok.status c.in-Ok.ensures.stands)
 
 pub returns-then-is_write-clause-complete : goal.returns-then-is_write-clause-complete
 returns-then-is_write-clause-complete g c =
-    completes_by c.in-Err.ensures.stands WriteFault (λ is. inr refl)
-    (completes_cut WriteFault
-    (c.attempt.ensures.sink.cause (c.in-Err.is ∙ ap Err (write_stop c.in-Err.stop (sym c.is_write.ensures ∙ c.if-is_write.true)))))
+    let rose = c.attempt.ensures.sink.cause
+    (c.in-Err.is ∙ ap Err (write_stop c.in-Err.stop (sym c.is_write.ensures ∙ c.if-is_write.true))) in
+    completes_by c.in-Err.ensures.stands WriteFault (λ is. inr refl) (completes_cut WriteFault rose)
+    (λ answers well some given. absurd (well.written rose))
 
 pub returns-else-is_write-clause-complete : goal.returns-else-is_write-clause-complete
 returns-else-is_write-clause-complete g c =
     let whole = sym c.is_write.ensures ∙ c.if-is_write.false in
-    completes_by c.in-Err.ensures.stands c.close.result
-    (lacked_closed c.in-Err.stop _ c.close.result c.close.ensures.closed)
-    (completes_closed _ _ c.in-Err.stop c.close.result (before_last _ _ _ c.in-Err.stop c.in-Err.ensures.stands.stopped whole)
-    (λ e. (c.attempt.ensures.many (c.in-Err.is ∙ ap Err e)).rose)
+    let closed = completes_closed _ _ c.in-Err.stop c.close.result
+    (before_last _ _ _ c.in-Err.stop c.in-Err.ensures.stands.stopped whole)
+    (λ e. (c.attempt.ensures.failed.many (c.in-Err.is ∙ ap Err e)).rose)
     (λ e. sink_whole _ (g.O.Sink.faults c.args.out.now) (g.O.Sink.faults c.attempt.new.out) (g.O.Sink.faults c.close.new.out)
-    c.in-Err.stop c.attempt.ensures.sink.later (other_stop c.in-Err.stop whole) (c.close.ensures.cause e)) c.close.ensures.closed)
+    c.in-Err.stop c.attempt.ensures.sink.later (other_stop c.in-Err.stop whole) (c.close.ensures.cause e)) c.close.ensures.closed in
+    completes_by c.in-Err.ensures.stands c.close.result
+    (lacked_closed c.in-Err.stop _ c.close.result c.close.ensures.closed) closed.0
+    (λ answers well some given. closed.1 answers well)
 
 pub returns-in-Ok-clause-many : goal.returns-in-Ok-clause-many
 returns-in-Ok-clause-many g c = λ is.
@@ -102,8 +109,23 @@ returns-then-is_write-clause-many g c = λ is. absurd (cc (is))
 
 pub returns-else-is_write-clause-many : goal.returns-else-is_write-clause-many
 returns-else-is_write-clause-many g c = λ is.
-    c.attempt.ensures.many
+    c.attempt.ensures.failed.many
     (c.in-Err.is ∙ ap Err (closed_generator c.in-Err.stop _ c.close.result c.close.ensures.closed is))
+
+pub returns-in-Ok-clause-made_good : goal.returns-in-Ok-clause-made_good
+returns-in-Ok-clause-made_good g c = λ by.
+    c.attempt.ensures.failed.few (λ is. absurd (cc (is, c.in-Ok.is))) (λ is. absurd (cc (is, c.in-Ok.is)))
+
+pub returns-then-is_write-clause-made_good : goal.returns-then-is_write-clause-made_good
+returns-then-is_write-clause-made_good g c = λ by. absurd by
+
+pub returns-else-is_write-clause-made_good : goal.returns-else-is_write-clause-made_good
+returns-else-is_write-clause-made_good g c = λ by.
+    c.attempt.ensures.failed.few
+    (λ is. closed_unhindered c.in-Err.stop (stop.Run fault.Generator) _ c.close.result c.close.ensures.closed by (λ no. no)
+    (same_err (sym c.in-Err.is ∙ is)))
+    (λ is. closed_unhindered c.in-Err.stop (stop.Run fault.Memory) _ c.close.result c.close.ensures.closed by (λ no. no)
+    (same_err (sym c.in-Err.is ∙ is)))
 
 pub returns-in-Ok-clause-leaves : goal.returns-in-Ok-clause-leaves
 returns-in-Ok-clause-leaves g c =

@@ -1,7 +1,7 @@
 use Rattle.std.proofs.Common.{arith, subst}
 use Rattle.std.proofs.lemmas.Result.{IfOk-weaker}
 use Rattle.pddlstream_app.proofs.PlansLemmas.{says_right}
-use Rattle.replay_check.proofs.LinesLemmas.{report_short}
+use Rattle.legal_report.proofs.LinesLemmas.{report_short}
 use Rattle.replay_check.specs.Judgings.{HasRight, IsRightOf, verdict_of}
 use Rattle.replay_check.specs.Verdicts.{IsVerdict}
 use Rattle.replay_check.specs.declared.verdict.Verdict.TheVariants as verdict

@@ -1,13 +1,17 @@
-use Rattle.std.proofs.Common.{◌≡◌, Err, ap, inl, inr, refl, subst, sym}
+use Rattle.std.proofs.Common.{◌≡◌, Result, Ok, Err, ap, inl, inr, refl, subst, sym}
+use Rattle.io_world.proofs.TalksLemmas.{extends_none}
 use Rattle.command_line.specs.Held.{held_solve}
 use Rattle.round_run.proofs.CallsRunLemmas.{stops_none}
-use Rattle.round_run.proofs.StoppedLemmas.{handed_err, same_err}
+use Rattle.round_run.proofs.StoppedLemmas.{handed_err}
 use Rattle.round_run.specs.declared.fault.RunFault.TheVariants as fault
 use Rattle.command_files.specs.Outside.{outside_of, written_of}
+use Rattle.command_files.specs.declared.stop.Stop.{Stop}
 use Rattle.command_files.specs.declared.stop.Stop.TheVariants as stop
+use Rattle.turn_run.specs.declared.whole_run.Ran.{Ran}
 use Rattle.run_command.proofs.CausesLemmas.{host_of_lined, lined_at_text, lined_spares, spared, unfailed}
 use Rattle.run_command.proofs.ReportsLemmas.{made_failed, made_solved, unread_spares}
-use Rattle.run_command.specs.Heard.{AreTooMany}
+use Rattle.run_command.proofs.CountedLemmas.{counted_behind, counted_still, counted_stopped}
+use Rattle.run_command.specs.Heard.{AreCounted}
 use Rattle.command_line.specs.Words.{SolveWords}
 use Rattle.round_run.specs.Told.{course}
 use Rattle.run_command.proofs.MakingLemmas.{made_in_range, made_seen, makes_run, solved_made, unsolved_made}
@@ -68,18 +72,27 @@ returns-clause-host g c = host_of_lined _ _ _ c.show.result c.show.ensures.shown
 pub returns-clause-leaves : goal.returns-clause-leaves
 returns-clause-leaves g c = lined_at_text _ _ _ _ c.show.result c.show.ensures.shown
 
-pub returns-clause-many : goal.returns-clause-many
-returns-clause-many g c = λ is. absurd (lined_spares _ _ _ c.show.result c.show.ensures.shown is)
+pub returns-clause-failed : goal.returns-clause-failed
+returns-clause-failed g c =
+    counted_behind (stop.Run fault.Generator) (stop.Run fault.Memory) 0 _ c.in-Ok.ran c.show.result
+    (lined_spares _ _ _ c.show.result c.show.ensures.shown)
+    (subst (λ n. AreCounted n (course g.H.Host c.args.host.now c.report.new.host) (let r : Result Ran Stop = Ok c.in-Ok.ran in r))
+    (ap (λ (w : SolveWords). w.restarts) c.in_ok-words.ensures) c.in-Ok.ensures.failed)
 
-pub returns-in-Err-clause-many : goal.returns-in-Err-clause-many
-returns-in-Err-clause-many g c = λ is.
-    subst (λ n. AreTooMany n (course g.H.Host c.args.host.now c.report.new.host))
-    (ap (λ (w : SolveWords). w.restarts) c.in_ok-words.ensures) (c.in-Err.ensures.many (ap Err (same_err is)))
+pub returns-in-Err-clause-failed : goal.returns-in-Err-clause-failed
+returns-in-Err-clause-failed g c =
+    counted_stopped (stop.Run fault.Generator) (stop.Run fault.Memory) 0 _ c.in-Err.stop
+    (subst (λ n. AreCounted n (course g.H.Host c.args.host.now c.report.new.host) (let r : Result Ran Stop = Err c.in-Err.stop in r))
+    (ap (λ (w : SolveWords). w.restarts) c.in_ok-words.ensures) c.in-Err.ensures.failed)
 
-pub returns-in_err-words-clause-many : goal.returns-in_err-words-clause-many
-returns-in_err-words-clause-many g c =
-    unread_spares c.from_residual.result (stop.Run fault.Memory) _ c.from_residual.ensures.1 tt
+pub returns-in_err-words-clause-failed : goal.returns-in_err-words-clause-failed
+returns-in_err-words-clause-failed g c =
+    counted_still (stop.Run fault.Generator) (stop.Run fault.Memory) 0 _ c.from_residual.result
+    (unread_spares c.from_residual.result (stop.Run fault.Memory) _ c.from_residual.ensures.1 tt)
+    (extends_none (g.H.Host.log c.args.host.now))
 
-pub returns-in_err-files-clause-many : goal.returns-in_err-files-clause-many
-returns-in_err-files-clause-many g c =
-    unread_spares c.from_residual-in_err-files.result (stop.Run fault.Memory) _ c.from_residual-in_err-files.ensures.1 tt
+pub returns-in_err-files-clause-failed : goal.returns-in_err-files-clause-failed
+returns-in_err-files-clause-failed g c =
+    counted_still (stop.Run fault.Generator) (stop.Run fault.Memory) 0 _ c.from_residual-in_err-files.result
+    (unread_spares c.from_residual-in_err-files.result (stop.Run fault.Memory) _ c.from_residual-in_err-files.ensures.1 tt)
+    (extends_none (g.H.Host.log c.args.host.now))

@@ -1,10 +1,12 @@
 use Rattle.std.proofs.Common.{◌≡◌, arith, ap, Err, inl, refl, [], Result}
+use Rattle.io_world.proofs.TalksLemmas.{extends_none}
 use Rattle.report_text.proofs.PrintsLemmas.{appends_none}
 use Rattle.round_run.proofs.StoppedLemmas.{handed_err}
 use Rattle.round_run.specs.Told.{stretch}
-use Rattle.round_run.specs.declared.fault.RunFault.TheVariants.{Memory}
+use Rattle.round_run.specs.declared.fault.RunFault.TheVariants.{Generator, Memory}
+use Rattle.run_command.proofs.CountedLemmas.{counted_still}
 use Rattle.run_command.proofs.RestartsLemmas.{heard_silent, moved, plain_run, silent, silent_stops}
-use Rattle.run_command.specs.Heard.{EndsHeard}
+use Rattle.run_command.specs.Heard.{EndsHeard, course_of}
 use Rattle.run_command.proofs.restarts.run_with_restarts.Goals as goal
 
 pub returns-then-restarts-eq0 : goal.returns-then-restarts-eq0
@@ -31,7 +33,9 @@ returns-in_err-children g c = record {
         unneeded = tt;
         idle = c.requires.may.idle;
         host = record { later = omega arith; cause = λ is. absurd (cc (is)) };
-        many = λ is. absurd (cc (is));
+        failed = counted_still Generator Memory c.args.restarts
+            (course_of (stretch g.H.Host g.O.Sink c.args.host.now c.args.host.now c.args.out.now c.args.out.now)) (Err Memory)
+            (λ is. absurd (cc (is))) (extends_none (g.H.Host.log c.args.host.now));
         sink = record { later = omega arith; cause = λ is. absurd (cc (is)) };
       });
 }

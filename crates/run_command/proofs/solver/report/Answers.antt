@@ -1,8 +1,10 @@
-use Rattle.std.proofs.Common.{◌∙◌, Err, ap, inr, refl}
+use Rattle.std.proofs.Common.{◌∙◌, inr, refl}
 use Rattle.run_command.proofs.HeadsLemmas.{head_alone, head_runs}
 use Rattle.command_files.proofs.InputsLemmas.{later_on}
 use Rattle.run_command.proofs.CausesLemmas.{no_cause}
-use Rattle.run_command.proofs.ReportsLemmas.{handed_run, lacks_handed, unread_report, unread_spares}
+use Rattle.io_world.proofs.TalksLemmas.{extends_none}
+use Rattle.run_command.proofs.ReportsLemmas.{counted_handed, lacks_handed, unread_report, unread_spares}
+use Rattle.run_command.proofs.CountedLemmas.{counted_done, counted_still}
 use Rattle.run_command.proofs.RestartsLemmas.{heard_weaker}
 use Rattle.round_run.specs.declared.fault.RunFault.TheVariants as fault
 use Rattle.command_files.specs.declared.stop.Stop.TheVariants as stop
@@ -120,22 +122,33 @@ returns-clause-reported g c =
       });
     }
 
-pub returns-clause-many : goal.returns-clause-many
-returns-clause-many g c = λ is. c.in-Err.ensures.ran.many (ap Err (handed_run c.in-Err.fault fault.Generator is))
+pub returns-in-Ok-clause-failed : goal.returns-in-Ok-clause-failed
+returns-in-Ok-clause-failed g c =
+    counted_done fault.Generator fault.Memory (stop.Run fault.Generator) (stop.Run fault.Memory) c.args.words.now.restarts _ _ _
+    c.in-Ok.ensures.ran.failed
 
-pub returns-in_err-task-clause-many : goal.returns-in_err-task-clause-many
-returns-in_err-task-clause-many g c =
-    unread_spares c.from_residual.result c.in_err-task.field-0.0 _ c.from_residual.ensures.1 c.in_err-task.ensures.input
+pub returns-clause-failed : goal.returns-clause-failed
+returns-clause-failed g c = counted_handed c.in-Err.fault c.args.words.now.restarts _ c.in-Err.ensures.ran.failed
 
-pub returns-in_err-meant-clause-many : goal.returns-in_err-meant-clause-many
-returns-in_err-meant-clause-many g c =
-    unread_spares c.from_residual-in_err-meant.result c.in_err-meant.field-0.0 _ c.from_residual-in_err-meant.ensures.1
-    c.in_err-meant.ensures.input
+pub returns-in_err-task-clause-failed : goal.returns-in_err-task-clause-failed
+returns-in_err-task-clause-failed g c =
+    counted_still (stop.Run fault.Generator) (stop.Run fault.Memory) c.args.words.now.restarts _ c.from_residual.result
+    (unread_spares c.from_residual.result c.in_err-task.field-0.0 _ c.from_residual.ensures.1 c.in_err-task.ensures.input)
+    (extends_none (g.H.Host.log c.args.host.now))
 
-pub returns-in_err-pools-clause-many : goal.returns-in_err-pools-clause-many
-returns-in_err-pools-clause-many g c =
-    unread_spares c.from_residual-in_err-pools.result c.in_err-pools.field-0.0 _ c.from_residual-in_err-pools.ensures.1
-    c.in_err-pools.ensures.input
+pub returns-in_err-meant-clause-failed : goal.returns-in_err-meant-clause-failed
+returns-in_err-meant-clause-failed g c =
+    counted_still (stop.Run fault.Generator) (stop.Run fault.Memory) c.args.words.now.restarts _
+    c.from_residual-in_err-meant.result
+    (unread_spares c.from_residual-in_err-meant.result c.in_err-meant.field-0.0 _ c.from_residual-in_err-meant.ensures.1
+    c.in_err-meant.ensures.input) (extends_none (g.H.Host.log c.args.host.now))
+
+pub returns-in_err-pools-clause-failed : goal.returns-in_err-pools-clause-failed
+returns-in_err-pools-clause-failed g c =
+    counted_still (stop.Run fault.Generator) (stop.Run fault.Memory) c.args.words.now.restarts _
+    c.from_residual-in_err-pools.result
+    (unread_spares c.from_residual-in_err-pools.result c.in_err-pools.field-0.0 _ c.from_residual-in_err-pools.ensures.1
+    c.in_err-pools.ensures.input) (extends_none (g.H.Host.log c.args.host.now))
 
 pub returns-in_err-task-clause-host : goal.returns-in_err-task-clause-host
 returns-in_err-task-clause-host g c =

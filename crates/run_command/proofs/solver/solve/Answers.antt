@@ -1,6 +1,9 @@
 use Rattle.std.proofs.Common.{ap, Err}
 use Rattle.command_line.specs.Held.{held_solve}
 use Rattle.round_run.proofs.StoppedLemmas.{same_err}
+use Rattle.round_run.specs.declared.fault.RunFault.TheVariants as fault
+use Rattle.command_files.specs.declared.stop.Stop.TheVariants.{Run}
+use Rattle.run_command.proofs.CountedLemmas.{counted_done, counted_stopped}
 use Rattle.run_command.proofs.RestartsLemmas.{heard_weaker}
 use Rattle.run_command.proofs.solver.solve.Goals as goal
 
@@ -21,3 +24,12 @@ returns-in-Err-clause-ends g c =
       by = heard_weaker (held_solve c.args.words.now).restarts _ _ _ _ (λ is. ap Err (same_err is)) r.by;
       ends = r.failed;
     }
+
+pub returns-in-Ok-clause-failed : goal.returns-in-Ok-clause-failed
+returns-in-Ok-clause-failed g c =
+    counted_done (Run fault.Generator) (Run fault.Memory) (Run fault.Generator) (Run fault.Memory) c.args.words.now.restarts _ _ _
+    c.in-Ok.ensures.failed
+
+pub returns-in-Err-clause-failed : goal.returns-in-Err-clause-failed
+returns-in-Err-clause-failed g c =
+    counted_stopped (Run fault.Generator) (Run fault.Memory) c.args.words.now.restarts _ c.in-Err.stop c.in-Err.ensures.failed

@@ -7,31 +7,29 @@ use Rattle.turn_run.proofs.plans.known_plan.Goals as goal
 
 pub plan_outcome-requires-clause-steps : goal.plan_outcome-requires-clause-steps
 plan_outcome-requires-clause-steps c =
-    let task = c.args.task.now in
-    let s = c.args.session.now in
+    let task = c.args.situation.now.task.now in
+    let s = c.args.situation.now.session.now in
+    let may = c.requires.may in
     let known = c.facts-facts.result.now.known in
     subst (λ es. AreNamedSteps task (names_of task es) c.as_slice-steps.result.now) (sym c.entries.ensures)
     (subst (λ ss. AreNamedSteps task (names_of task s.entries) ss) (sym c.as_slice-steps.ensures)
-    (steps_named task s c.requires.may.working c.requires.may.learnt c.requires.may.session known c.facts-facts.ensures
-    c.facts-facts.result.now.coherent c.args.plan.now.steps c.args.cost
-    (valid_there task s c.requires.may.working c.requires.may.learnt c.requires.may.session known c.facts-facts.ensures
-    c.args.plan.now.steps
-    c.args.cost c.requires.valid)))
+    (steps_named task s may.working may.learnt may.session known c.facts-facts.ensures c.facts-facts.result.now.coherent
+    c.args.plan.now.steps c.args.cost
+    (valid_there task s may.working may.learnt may.session known c.facts-facts.ensures c.args.plan.now.steps c.args.cost
+    c.requires.valid)))
 
 pub returns : goal.returns
 returns c =
-    let task = c.args.task.now in
-    let s = c.args.session.now in
-    let head = c.args.head.now in
+    let task = c.args.situation.now.task.now in
+    let s = c.args.situation.now.session.now in
+    let head = c.args.situation.now.head.now in
+    let may = c.requires.may in
     let known = c.facts-facts.result.now.known in
     let small : c.args.cost < 2 ^ 64 = search (rules, tests) in
     IfOk-weaker c.plan_outcome.result _ _ (λ o shows.
-    plan_settled task s c.requires.may.working c.requires.may.learnt c.requires.may.session known c.facts-facts.ensures head
-    c.requires.may.head
-    c.args.plan.now.steps c.args.cost o
+    plan_settled task s may.working may.learnt may.session known c.facts-facts.ensures head may.head c.args.plan.now.steps c.args.cost o
     (subst (λ es. ShowsPlan head.version task es c.args.plan.now.steps c.args.cost o) c.entries.ensures
     (subst (λ ss. ShowsPlan head.version task c.entries.result.now ss c.args.cost o) c.as_slice-steps.ensures shows))
-    (valid_there task s c.requires.may.working c.requires.may.learnt c.requires.may.session known c.facts-facts.ensures
-    c.args.plan.now.steps
-    c.args.cost c.requires.valid) c.requires.few c.requires.least small)
+    (valid_there task s may.working may.learnt may.session known c.facts-facts.ensures c.args.plan.now.steps c.args.cost
+    c.requires.valid) c.requires.few c.requires.least small)
     c.plan_outcome.ensures

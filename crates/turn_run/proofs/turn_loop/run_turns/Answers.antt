@@ -1,6 +1,6 @@
-use Rattle.std.proofs.Common.{◌≡◌, length, sym, subst, ap, ◌∙◌, arith, count_by, false, ◌≤◌}
+use Rattle.std.proofs.Common.{◌≡◌, length, refl, sym, subst, ap, ◌∙◌, arith, count_by, false, ◌≤◌}
 use Rattle.std.specs.Prelude.{⊤}
-use Rattle.mode_turns.proofs.CountsLemmas.{turn_keeps}
+use Rattle.turn_laws.proofs.ModeCountsLemmas.{turn_keeps}
 use Rattle.transcript_model.specs.Rounds.{limits_of}
 use Rattle.transcript_model.specs.Legal.{IsLegal, asks_of, is_level}
 use Rattle.transcript_model.specs.declared.outcome.LimitKind.TheVariants.{Calls}
@@ -10,13 +10,15 @@ use Rattle.round_run.proofs.GoingLemmas.{both, on_first, rests_on, turn_handed, 
 use Rattle.turn_run.proofs.LoopLemmas.{turn_behind, turns_none, turns_ran}
 use Rattle.round_run.proofs.LedLemmas.{joined, still_host}
 use Rattle.round_run.proofs.QuietLemmas.{turn_memory}
+use Rattle.round_run.specs.declared.fault.RunFault.TheVariants.{Memory}
+use Rattle.turn_run.proofs.ShortDreamLemmas.{no_dreams, short_after}
 use Rattle.turn_run.proofs.TurnsFrontLemmas.{run_between}
 use Rattle.turn_run.proofs.TurnsLemmas.{Standing, run_at, run_cut, standing_first, standing_next}
 use Rattle.turn_run.proofs.TurnsLevelLemmas.{may_begin}
 use Rattle.turn_run.proofs.TurnsOutcomeLemmas.{decided_dues, decided_outcome}
 use Rattle.turn_run.specs.Advancing.{HasTurned, RanTurn}
 use Rattle.turn_run.specs.Deciding.{IsHeadFor, SeeksPlan}
-use Rattle.turn_run.specs.Turns.{IsFrontOfRun, IsSettledEnd, IsTurn}
+use Rattle.turn_run.specs.Turns.{HasShortDreams, IsFrontOfRun, IsSettledEnd, IsTurn}
 use Rattle.transcript_model.specs.declared.head.Head.{Head}
 use Rattle.turn_run.proofs.turn_loop.run_turns.Goals as goal
 
@@ -31,6 +33,7 @@ turns-init g c =
           (g.O.Sink.faults c.args.out.now) _ e c.requires.rests;
       standing = subst (λ k. Standing desk.head desk.task k s.entries) (sym c.requires.fresh.nothing)
           (subst (Standing desk.head desk.task _) (sym e) (standing_first desk.head desk.task));
+      short = subst (HasShortDreams desk.head.states) (sym e) (no_dreams desk.head.states);
       fits = record {
         holds = subst (g.M.Turns.holds c.args.mode.now) (sym none) c.requires.fresh.holds;
         room = omega (arith, c.requires.fresh.still, none);
@@ -46,15 +49,14 @@ returns-in_err-decision-clause-goes g c =
     let es = desk.state.entries in
     let i = c.turns.invariant in
     let front = IsFrontOfRun old.head old.task in
-    let fault = c.in_err-decision.field-0.0 in
-    turn_handed old desk _ (λ (_ : Unit {0}). ⊤) _ front front fault c.from_residual.result c.from_residual.ensures.1
+    turn_handed old desk _ (λ (_ : Unit {0}). ⊤) _ front front Memory c.from_residual.result c.from_residual.ensures.1
     (turn_then old desk desk g.H.Host.last _ _ _
     (joined g.H.Host g.met.H.Host.chains c.args.host.now c.turns.host c.turns.host) (λ (_ : Unit {0}). ⊤) front (λ t h
     (_ : Unit {0}). ⊤) (λ t h. front)
     (λ (_ : Unit {0}). ⊤) front tt _ i.goes
     (turn_memory desk (still_host g.H.Host g.met.H.Host.stays c.turns.host) (g.O.Sink.taken c.turns.out) (g.O.Sink.faults c.turns.out)
-    (λ (_ : Unit {0}). ⊤) front fault
-    i.goes.holds c.in_err-decision.ensures.only
+    (λ (_ : Unit {0}). ⊤) front Memory
+    i.goes.holds refl
     (λ legal. run_between old.head old.task _ es i.standing
     (on_first (λ t h. IsLegal h.version t es) old desk i.goes.same legal)))
     (λ y some. tt) (λ es legal f. f))
@@ -84,7 +86,7 @@ turn-requires-clause-turn g c =
     let s = desk.state in
     subst (λ ds. IsTurn desk.head desk.task s.entries (length s.asked) ds) (sym c.as_slice.ensures.value)
     (decided_dues desk.head desk.task s.entries (length s.asked) c.in_ok-decision.decision c.in-Asks.dues c.in-Asks.is
-    c.in_ok-decision.ensures.decided)
+    c.in_ok-decision.ensures)
 
 pub returns-in_err-turn-clause-goes : goal.returns-in_err-turn-clause-goes
 returns-in_err-turn-clause-goes g c =
@@ -103,7 +105,7 @@ returns-in_err-turn-clause-goes g c =
     (g.M.Turns.holds c.turn.new.self) c.in-Asks.dues.items _ i.goes i.standing
     (on_first (λ t h. IsTurn h t s.entries (length s.asked) c.in-Asks.dues.items) old desk i.goes.same
     (decided_dues desk.head desk.task s.entries (length s.asked) c.in_ok-decision.decision c.in-Asks.dues c.in-Asks.is
-    c.in_ok-decision.ensures.decided)) c.in_err-turn.ensures.goes)
+    c.in_ok-decision.ensures)) c.in_err-turn.ensures.goes)
     (λ es legal f. f)
 
 pub returns-in-Ends-clause-goes : goal.returns-in-Ends-clause-goes
@@ -117,11 +119,11 @@ returns-in-Ends-clause-goes g c =
     let session = rests.works.listens.session in
     let settled = on_first (λ t h. IsSettledEnd h t s.entries o) old desk i.goes.same
     (decided_outcome desk.head desk.task s.entries (length s.asked) c.in_ok-decision.decision o c.in-Ends.is
-    c.in_ok-decision.ensures.decided) in
+    c.in_ok-decision.ensures) in
     turn_ok old desk _ (λ (_ : Unit {0}). ⊤) _ (IsFrontOfRun old.head old.task) (IsFrontOfRun old.head old.task) tt o i.goes
     (λ some. turns_ran old desk g.H.Host.last _ _ (λ (_ : Unit {0}). ⊤) tt o c.requires.first.entries i.goes i.fits.levels
     (run_at old.head old.task _ s.entries o (subst (λ v. IsLegal v old.task s.entries) rests.works.of.version session.legal)
-    session.none_open settled i.standing))
+    session.none_open i.short settled i.standing))
 
 pub returns-in-Ends-clause-idle : goal.returns-in-Ends-clause-idle
 returns-in-Ends-clause-idle g c = λ none. c.turns.invariant.goes.holds.started.none none
@@ -139,7 +141,7 @@ turns-preserved g c =
     let next = g.M.Turns.kept c.turn.new.self in
     let turn = on_first (λ t h. IsTurn h t s.entries (length s.asked) c.in-Asks.dues.items) old desk i.goes.same
     (decided_dues desk.head desk.task s.entries (length s.asked) c.in_ok-decision.decision c.in-Asks.dues c.in-Asks.is
-    c.in_ok-decision.ensures.decided) in
+    c.in_ok-decision.ensures) in
     let all = turn_behind old desk new g.H.Host.last _ _ _
     (joined g.H.Host g.met.H.Host.chains c.args.host.now c.turns.host c.turn.new.host) kept next (g.M.Turns.idle c.turns.mode)
     (g.M.Turns.idle c.turn.new.self)
@@ -152,6 +154,7 @@ turns-preserved g c =
       standing = standing_next head task kept next s.entries new.state.entries did.0
           (may_begin head task s.entries (length s.asked) c.in-Asks.dues.items before.works.listens.session.counted turn) turn.needed
           did.1 did.2 i.standing;
+      short = short_after head.states s.entries new.state.entries did.0 did.1 i.short did.3;
       fits = all.ran.fits;
       within = omega (
         arith,
@@ -175,7 +178,7 @@ returns-in-Spent-clause-goes g c =
     let next = g.M.Turns.kept c.turn.new.self in
     let turn = on_first (λ t h. IsTurn h t s.entries (length s.asked) c.in-Asks.dues.items) old desk i.goes.same
     (decided_dues desk.head desk.task s.entries (length s.asked) c.in_ok-decision.decision c.in-Asks.dues c.in-Asks.is
-    c.in_ok-decision.ensures.decided) in
+    c.in_ok-decision.ensures) in
     let all = turn_behind old desk new g.H.Host.last _ _ _
     (joined g.H.Host g.met.H.Host.chains c.args.host.now c.turns.host c.turn.new.host) kept next (g.M.Turns.idle c.turns.mode)
     (g.M.Turns.idle c.turn.new.self)
@@ -189,8 +192,8 @@ returns-in-Spent-clause-goes g c =
     (λ ran. turns_ran old new g.H.Host.last _ _ _ _ o c.requires.first.entries all ran.fits.levels
     (run_cut head task kept did.1 s.entries new.state.entries did.0
     (may_begin head task s.entries (length s.asked) c.in-Asks.dues.items before.works.listens.session.counted turn) turn.needed
-    did.2 did.3 (subst (λ v. IsLegal v task new.state.entries) after.works.of.version session.legal) session.none_open did.4
-    i.standing))
+    did.2 did.3 (subst (λ v. IsLegal v task new.state.entries) after.works.of.version session.legal) session.none_open
+    (short_after head.states s.entries new.state.entries did.0 did.2 i.short did.5) did.4 i.standing))
 
 pub returns-in-Spent-clause-idle : goal.returns-in-Spent-clause-idle
 returns-in-Spent-clause-idle g c = λ none. c.in_ok-turn.ensures.goes.holds.started.none none
@@ -209,7 +212,7 @@ returns-in-Known-clause-goes g c =
     let o = c.in-Known.outcome in
     let turn = on_first (λ t h. IsTurn h t s.entries (length s.asked) c.in-Asks.dues.items) old desk i.goes.same
     (decided_dues desk.head desk.task s.entries (length s.asked) c.in_ok-decision.decision c.in-Asks.dues c.in-Asks.is
-    c.in_ok-decision.ensures.decided) in
+    c.in_ok-decision.ensures) in
     let all = turn_behind old desk new g.H.Host.last _ _ _
     (joined g.H.Host g.met.H.Host.chains c.args.host.now c.turns.host c.turn.new.host) kept next (g.M.Turns.idle c.turns.mode)
     (g.M.Turns.idle c.turn.new.self)
@@ -220,8 +223,8 @@ returns-in-Known-clause-goes g c =
     turn_ok old new _ _ _ (IsFrontOfRun head task) (IsFrontOfRun head task) _ o all
     (λ ran. turns_ran old new g.H.Host.last _ _ _ _ o c.requires.first.entries all ran.fits.levels
     (run_at head task kept new.state.entries o (subst (λ v. IsLegal v task new.state.entries) after.works.of.version session.legal)
-    session.none_open (subst (λ es. IsSettledEnd head task es o) (sym did.0) did.2)
-    (subst (Standing head task kept) (sym did.0) i.standing)))
+    session.none_open (subst (HasShortDreams head.states) (sym did.0) i.short)
+    (subst (λ es. IsSettledEnd head task es o) (sym did.0) did.2) (subst (Standing head task kept) (sym did.0) i.standing)))
 
 pub returns-in-Known-clause-idle : goal.returns-in-Known-clause-idle
 returns-in-Known-clause-idle g c = λ none. c.in_ok-turn.ensures.goes.holds.started.none none

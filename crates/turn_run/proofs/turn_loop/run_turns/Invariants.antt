@@ -2,10 +2,10 @@ use Rattle.std.proofs.Common.{◌+◌, ◌-◌, ◌*◌, ◌≤◌, Ok, Result, 
 use Rattle.std.specs.Prelude.{⊤}
 use Rattle.turn_run.proofs.TurnsLemmas.{Standing}
 use Rattle.turn_run.proofs.turn_loop.run_turns.Given as goal
-use Rattle.turn_run.specs.Advancing.{Fits}
+use Rattle.turn_run.specs.Advancing.{StandsBetween}
 use Rattle.round_run.specs.Desk.{OnTurn}
 use Rattle.round_run.specs.Told.{stretch}
-use Rattle.turn_run.specs.Turns.{IsFrontOfRun}
+use Rattle.turn_run.specs.Turns.{HasShortDreams, IsFrontOfRun}
 use Rattle.round_run.specs.declared.fault.RunFault.{RunFault}
 
 -- the run stands between two turns, and its lines were written
@@ -17,7 +17,8 @@ invariant-turns g l = record {
       (λ (_ : Unit {0}). ⊤) (IsFrontOfRun l.initial.desk.head l.initial.desk.task)
       (let r : Result (Unit {0}) RunFault = Ok tt in r);
   standing : Standing l.initial.desk.head l.initial.desk.task (g.M.Turns.kept l.mode) l.desk.state.entries;
-  fits : Fits (g.M.Turns.holds l.mode) (g.M.Turns.idle l.mode) l.desk.state;
+  short : HasShortDreams l.initial.desk.head.states l.desk.state.entries;
+  fits : StandsBetween (g.M.Turns.holds l.mode) (g.M.Turns.idle l.mode) l.desk.state;
   within : length l.desk.state.asked ≤ l.initial.desk.head.calls;
 }
 

@@ -1,5 +1,5 @@
 use Rattle.std.proofs.Common.{[], sym, subst}
-use Rattle.mode_course.specs.Agendas.{ModeAgenda}
+use Rattle.course_check.specs.Agendas.{ModeAgenda}
 use Rattle.replay_check.proofs.StandingsAskLemmas.{stands_first}
 use Rattle.replay_check.specs.Standings.{StandsBehind, limits_by}
 use Rattle.replay_check.proofs.standing.Standing.new.Goals as goal

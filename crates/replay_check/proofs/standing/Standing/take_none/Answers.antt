@@ -1,5 +1,6 @@
 use Rattle.std.proofs.Common.{◌≡◌, ◌∙◌, List, Bool, Option, Some, None, take, true, false, refl, sym, ap, subst}
 use Rattle.std.proofs.lemmas.Bool.{false≢true}
+use Rattle.course_check.specs.Agendas.{ModeAgenda}
 use Rattle.dream_check.specs.Judged.{IsNoneJudged}
 use Rattle.task_model.specs.declared.stream.Instance.{Instance}
 use Rattle.replay_check.proofs.WalksTurnLemmas.{none_false, none_open, none_refused, none_taken}
@@ -36,8 +37,8 @@ returns-in-Some-true c =
     let at = (goal.at.returns-in-Some-true c).In_ok-is_true in
     let there = said at (Some true) (c.in-Some-true.is ∙ ap Some c.in-Some-true.field-0-test) in
     none_taken c.args.bounds.now c.args.entries.now c.args.place c.args.self.now c.requires.can (begins at) c.requires.here
-    (record { knowledge = c.args.self.now.knowledge; course = c.say_none.new.self }) there.0 there.1 refl c.say_none.ensures.batch
-    c.say_none.ensures.phase c.say_none.ensures.kept
+    (record { knowledge = c.args.self.now.knowledge; course = c.say_none.new.self }) there.0 there.1 refl (ap (λ (a : ModeAgenda). a.batch) c.say_none.ensures)
+    (ap (λ (a : ModeAgenda). a.phase) c.say_none.ensures) (ap (λ (a : ModeAgenda). a.kept) c.say_none.ensures)
 
 pub returns-in-Some-false : goal.returns-in-Some-false
 returns-in-Some-false c =

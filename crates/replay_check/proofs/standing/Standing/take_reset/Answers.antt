@@ -1,5 +1,6 @@
 use Rattle.std.proofs.Common.{◌≡◌, ◌∙◌, ◌<◌, [], length, refl, sym, ap, arith}
 use Rattle.std.proofs.lemmas.Bool.{false≢true}
+use Rattle.course_check.specs.Agendas.{ModeAgenda}
 use Rattle.replay_check.proofs.WalksTurnLemmas.{reset_refused, reset_taken, some_in}
 use Rattle.replay_check.proofs.standing.Standing.take_reset.Goals.{then-not-has_nothing-via-then-not-has_nothing, then-not-has_nothing-via-else-not-has_nothing+then-is_empty}
 use Rattle.replay_check.proofs.standing.Standing.take_reset.Goals as goal
@@ -22,4 +23,4 @@ returns c =
     (λ none. false≢true (sym c.if-is_empty.false ∙ c.is_empty.ensures.1 (c.tried.ensures ∙ none))) in
     reset_taken c.args.bounds.now c.args.entries.now c.args.place c.args.self.now c.requires.can c.requires.here
     (record { knowledge = c.args.self.now.knowledge; course = c.reset.new.self }) (c.has_nothing.ensures.0 c.if-not-has_nothing.false) some
-    refl c.reset.ensures.batch c.reset.ensures.phase c.reset.ensures.kept
+    refl (ap (λ (a : ModeAgenda). a.batch) c.reset.ensures) (ap (λ (a : ModeAgenda). a.phase) c.reset.ensures) (ap (λ (a : ModeAgenda). a.kept) c.reset.ensures)

@@ -1,6 +1,7 @@
 use Rattle.std.proofs.Common.{◌≡◌, ◌∙◌, ◌+◌, Some, refl, sym, ap}
 use Rattle.std.proofs.lemmas.Bool.{false≢true}
-use Rattle.mode_course.specs.Places.{unasked}
+use Rattle.course_check.specs.Agendas.{ModeAgenda}
+use Rattle.course_check.specs.Places.{unasked}
 use Rattle.transcript_model.specs.declared.entry.Entry.TheVariants as entry
 use Rattle.replay_check.proofs.WalksPickLemmas.{retire_refused, retire_taken}
 use Rattle.replay_check.proofs.standing.Standing.take_retire.Goals as goal
@@ -11,8 +12,8 @@ returns-in-Some c =
     let due = c.in-Some.ensures.some in
     retire_taken c.args.bounds.now c.args.entries.now c.args.place c.args.self.now c.requires.can c.in-Some.given_up
     (c.requires.here ∙ ap (λ n. Some (entry.Retire n)) number) due.0 due.1
-    (record { knowledge = c.args.self.now.knowledge; course = c.retire.new.self }) refl c.retire.ensures.batch c.retire.ensures.phase
-    c.retire.ensures.kept
+    (record { knowledge = c.args.self.now.knowledge; course = c.retire.new.self }) refl (ap (λ (a : ModeAgenda). a.batch) c.retire.ensures) (ap (λ (a : ModeAgenda). a.phase) c.retire.ensures)
+    (ap (λ (a : ModeAgenda). a.kept) c.retire.ensures)
 
 pub returns-in_default : goal.returns-in_default
 returns-in_default c =

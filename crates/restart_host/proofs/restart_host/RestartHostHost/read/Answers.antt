@@ -2,7 +2,7 @@ use Rattle.std.proofs.Common.{◌<◌, ◌∙◌, arith, length, refl, slice_set
 use Rattle.io_world.specs.Faults.{last_count}
 use Rattle.restart_host.proofs.ChildrenLemmas.{as_many, flags_alive, on_at, same_on}
 use Rattle.restart_host.proofs.HostLemmas.{carries_tried, counts_most, over_after}
-use Rattle.restart_host.proofs.NotedLemmas.{noted_lost, noted_whole}
+use Rattle.restart_host.proofs.NotedLemmas.{given_failed, given_some, noted_lost}
 use Rattle.restart_host.proofs.TiedLemmas.{get_at, noted_so, read_done, tied_read}
 use Rattle.restart_host.specs.Tied.{IsTied}
 use Rattle.restart_host.proofs.restart_host.RestartHostHost.read.Goals as goal
@@ -60,8 +60,7 @@ returns-clause-leads g c =
       c.read_child-answer.ensures.leads,
       carries_tried c.args.child g.H.Host.last _ _ c.read_child-answer.result _ c.read_child-answer.ensures.tried
           (counts_most last_count c.args.self.now.faults c.tally.new.faults c.read_child-answer.result c.tally.ensures.count)
-          (noted_whole _ _ _ c.read_child-answer.result c.read_child-answer.ensures.noted.1)
-          (noted_lost _ _ _ c.read_child-answer.result c.read_child-answer.ensures.noted.1)
+          c.read_child-answer.ensures.noted.1 (given_failed c.read_child-answer.result c.read_child-answer.new.room)
           (λ past was whole. (
             noted_so _ _ _ c.read_child-answer.result c.read_child-answer.ensures.noted.1 whole,
             read_done c.args.self.now.children.items c.args.child (length c.args.room.now) c.index_mut.result.now c.read_child-answer.new.kept
@@ -69,6 +68,7 @@ returns-clause-leads g c =
                 (g.H.Host.log c.read_child-answer.new.host) c.read_child-answer.ensures.tried.called.events within
                 (get_at c.args.self.now.children.items c.args.child c.index_mut.result.now within c.index_mut.ensures.value) runs
                 (c.args.self.now.tied (noted_lost _ _ _ c.read_child-answer.result c.read_child-answer.ensures.noted.1 whole)) c.read_child-answer.ensures.tried.called.log
-                c.read_child-answer.ensures.tried.called.on c.read_child-answer.ensures.words (c.read_child-answer.ensures.tried.called.does whole) past was,
+                c.read_child-answer.ensures.tried.called.on c.read_child-answer.ensures.words (c.read_child-answer.ensures.tried.called.does whole)
+                (given_some c.read_child-answer.result c.read_child-answer.new.room c.read_child-answer.ensures.count) past was,
           )),
     )

@@ -3,7 +3,7 @@ use Rattle.io_world.specs.Faults.{last_count}
 use Rattle.io_world.specs.Logs.{Calls}
 use Rattle.restart_host.proofs.ChildrenLemmas.{flags_alive, kept_at, on_at, one_more, started_on}
 use Rattle.restart_host.proofs.HostLemmas.{carries_lost, carries_tried, counts_most, ok_so, over_after}
-use Rattle.restart_host.proofs.NotedLemmas.{noted_lost, noted_whole}
+use Rattle.restart_host.proofs.NotedLemmas.{noted_lost}
 use Rattle.restart_host.proofs.TiedLemmas.{noted_so, tied_started}
 use Rattle.restart_host.specs.Tied.{IsTied}
 use Rattle.restart_host.proofs.restart_host.RestartHostHost.start.Goals as goal
@@ -56,8 +56,7 @@ returns-clause-leads g c = (
   c.start_child-answer.ensures.leads,
   carries_tried c.args.child g.H.Host.last _ _ c.start_child-answer.result _ c.start_child-answer.ensures.tried
       (counts_most last_count c.args.self.now.faults c.tally.new.faults c.start_child-answer.result c.tally.ensures.count)
-      (noted_whole _ _ _ c.start_child-answer.result c.start_child-answer.ensures.noted)
-      (noted_lost _ _ _ c.start_child-answer.result c.start_child-answer.ensures.noted)
+      c.start_child-answer.ensures.noted refl
       (λ past was whole. (
         noted_so _ _ _ c.start_child-answer.result c.start_child-answer.ensures.noted whole,
         c.start_child-answer.ensures.tried.called.does whole,

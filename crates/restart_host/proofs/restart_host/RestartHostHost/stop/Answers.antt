@@ -58,6 +58,6 @@ returns-clause-leads g c = (
   refl,
   led_by _ c.stop_child.ensures.leads,
   carries_called c.args.child g.H.Host.last _ _ (stopped c.args.child (Ok tt)) (c.stop_child.ensures.called []) refl refl
-      c.stop_child.ensures.noted.1.whole
+      c.stop_child.ensures.noted.1
       (λ past was whole. (c.stop_child.ensures.noted.1.events, (refl, (c.stop_child.ensures.called []).does))),
 )

@@ -2,7 +2,7 @@ use Rattle.std.proofs.Common.{◌<◌, ◌∙◌, arith, length, refl, slice_set
 use Rattle.io_world.specs.Faults.{last_count}
 use Rattle.restart_host.proofs.ChildrenLemmas.{as_many, flags_alive, on_at, same_on}
 use Rattle.restart_host.proofs.HostLemmas.{carries_tried, counts_most, over_after}
-use Rattle.restart_host.proofs.NotedLemmas.{noted_lost, noted_whole}
+use Rattle.restart_host.proofs.NotedLemmas.{noted_lost}
 use Rattle.restart_host.proofs.TiedLemmas.{get_at, noted_so, tied_wrote, wrote_done}
 use Rattle.restart_host.specs.Tied.{IsTied}
 use Rattle.restart_host.proofs.restart_host.RestartHostHost.write.Goals as goal
@@ -60,8 +60,7 @@ returns-clause-leads g c =
       c.write_child-answer.ensures.leads,
       carries_tried c.args.child g.H.Host.last _ _ c.write_child-answer.result _ c.write_child-answer.ensures.tried
           (counts_most last_count c.args.self.now.faults c.tally.new.faults c.write_child-answer.result c.tally.ensures.count)
-          (noted_whole _ _ _ c.write_child-answer.result c.write_child-answer.ensures.noted.1)
-          (noted_lost _ _ _ c.write_child-answer.result c.write_child-answer.ensures.noted.1)
+          c.write_child-answer.ensures.noted.1 refl
           (λ past was whole. (
             noted_so _ _ _ c.write_child-answer.result c.write_child-answer.ensures.noted.1 whole,
             wrote_done c.args.self.now.children.items c.args.child c.index_mut.result.now c.write_child-answer.new.kept
@@ -69,6 +68,6 @@ returns-clause-leads g c =
                 (g.H.Host.log c.write_child-answer.new.host) c.write_child-answer.ensures.tried.called.events within
                 (get_at c.args.self.now.children.items c.args.child c.index_mut.result.now within c.index_mut.ensures.value) runs
                 (c.args.self.now.tied (noted_lost _ _ _ c.write_child-answer.result c.write_child-answer.ensures.noted.1 whole)) c.write_child-answer.ensures.tried.called.log
-                c.write_child-answer.ensures.tried.called.on c.write_child-answer.ensures.words c.write_child-answer.ensures.all c.write_child-answer.ensures.asked (c.write_child-answer.ensures.tried.called.does whole) past was,
+                c.write_child-answer.ensures.tried.called.on c.write_child-answer.ensures.words c.write_child-answer.ensures.all c.write_child-answer.ensures.asked (c.write_child-answer.ensures.tried.called.does whole) c.requires.some past was,
           )),
     )

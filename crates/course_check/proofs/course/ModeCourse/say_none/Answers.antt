@@ -1,0 +1,7 @@
+use Rattle.std.proofs.Common.{ap}
+use Rattle.course_check.specs.Agendas.{ModeAgenda, going_on}
+use Rattle.course_check.specs.Places.{undreamt}
+use Rattle.course_check.proofs.course.ModeCourse.say_none.Goals as goal
+
+pub returns : goal.returns
+returns c = ap (λ (a : ModeAgenda). going_on a undreamt a.kept) c.self.view_is

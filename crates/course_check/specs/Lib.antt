@@ -1,0 +1,7 @@
+pub mod Agendas
+pub mod BatchAgendas
+pub mod Courses
+pub mod Laws
+pub mod Moves
+pub mod Places
+pub mod Running

@@ -1,5 +1,0 @@
-pub mod NamesFreeLemmas
-pub mod SupportLemmas
-pub mod ListLemmas
-pub mod FreshLemmas
-pub mod DreamLemmas

@@ -1,6 +1,0 @@
-use Rattle.dream_laws.proofs.DreamLemmas.{dreams_once}
-use Rattle.dream_laws.proofs.laws.dreams_are_one.Goals as goal
-
-pub returns : goal.returns
-returns c = λ limits task before tried uses steps others xs ys first second.
-    dreams_once limits task before tried uses steps others xs ys first second

@@ -1,0 +1,12 @@
+pub mod Memory
+pub mod Reports
+pub mod RunTables
+pub mod Grid
+pub mod GridLaws
+pub mod GridRuns
+pub mod Migrated
+pub mod Solved
+pub mod Written
+pub mod TextLaws
+pub mod Spelled
+pub mod GridTexts

@@ -1,4 +1,0 @@
-pub mod CoursesLemmas
-pub mod CoursesStepLemmas
-pub mod CoursesTurnLemmas
-pub mod AgendasLemmas

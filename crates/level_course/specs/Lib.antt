@@ -1,3 +1,0 @@
-pub mod Agendas
-pub mod Courses
-pub mod Laws

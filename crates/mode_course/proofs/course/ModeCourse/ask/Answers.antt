@@ -1,9 +1,0 @@
-use Rattle.std.proofs.Common.{◌∙◌, ap}
-use Rattle.level_course.specs.Agendas.{Agenda, with_asked}
-use Rattle.mode_course.specs.Agendas.{ModeAgenda, shown_mode, with_agenda}
-use Rattle.mode_course.proofs.course.ModeCourse.ask.Goals as goal
-
-pub returns : goal.returns
-returns c =
-    ap (λ (b : Agenda). with_agenda (shown_mode c.self.inside) b) c.ask.ensures
-    ∙ ap (λ (a : ModeAgenda). with_agenda a (with_asked a.batch)) c.self.view_is

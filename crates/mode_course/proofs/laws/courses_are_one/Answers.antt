@@ -1,7 +1,0 @@
-use Rattle.std.proofs.Common.{[]}
-use Rattle.mode_course.proofs.StepsLemmas.{leads_on_once}
-use Rattle.mode_course.specs.Places.{at_start}
-use Rattle.mode_course.proofs.laws.courses_are_one.Goals as goal
-
-pub returns : goal.returns
-returns c = λ limits task entries p q first second. leads_on_once limits task at_start [] entries p q first second

@@ -1,4 +1,0 @@
-pub mod Agendas
-pub mod Laws
-pub mod Places
-pub mod Running

@@ -1,7 +1,0 @@
-use Rattle.mode_turns.proofs.BatchesLemmas.{batches_end}
-use Rattle.mode_turns.proofs.laws.batches_exist.Goals as goal
-
-pub returns : goal.returns
-returns c = λ limits task real entries sent before work.
-    let end = batches_end limits task real entries work sent before in
-    (end.now, end.after, end.cut, end.batches)

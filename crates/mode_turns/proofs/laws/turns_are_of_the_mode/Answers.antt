@@ -1,5 +1,0 @@
-use Rattle.mode_turns.proofs.ModesLemmas.{as_family, of_mode}
-use Rattle.mode_turns.proofs.laws.turns_are_of_the_mode.Goals as goal
-
-pub returns : goal.returns
-returns c = λ mode limits task entries stage. (of_mode mode limits task entries stage, as_family mode limits task entries stage)

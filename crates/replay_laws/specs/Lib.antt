@@ -1,3 +1,0 @@
-pub mod Migrated
-pub mod Solved
-pub mod Written

@@ -1,5 +1,0 @@
-mod MadeTalkLemmas
-mod OneLemmas
-mod SpelledLemmas
-mod SpelledRunLemmas
-mod TalkLemmas

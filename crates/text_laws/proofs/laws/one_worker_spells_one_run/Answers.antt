@@ -1,5 +1,0 @@
-use Rattle.text_laws.proofs.SpelledRunLemmas.{one_spelled}
-use Rattle.text_laws.proofs.laws.one_worker_spells_one_run.Goals as goal
-
-pub returns : goal.returns
-returns c = one_spelled
