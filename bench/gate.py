@@ -29,6 +29,9 @@ TICKS = os.sysconf("SC_CLK_TCK")
 ROOT = os.path.dirname(os.path.dirname(os.path.realpath(__file__)))
 KINDS = ("proof", "tests", "first", "edits")
 
+# From how many minutes on a crate has a row of its own.
+LEAST = 3.0
+
 Process = collections.namedtuple("Process", "pid parent seconds words folder")
 Costs = collections.namedtuple("Costs", "minutes whole wall edits said parts")
 
@@ -203,8 +206,12 @@ def rows_of(costs):
 
 def show_table(costs):
     """Prints the table, and the sums below it."""
+    rows = rows_of(costs)
+    dear, others = [it for it in rows if it[4] >= LEAST], [it[1:] for it in rows if it[4] < LEAST]
+    if others:
+        dear.append((f"the other {len(others)}", *map(sum, zip(*others))))
     print("| Crate | proof | tests | edits | together |\n|---|---|---|---|---|")
-    for name, *parts in rows_of(costs):
+    for name, *parts in dear:
         print(f"| {name} | {' | '.join(map(told, parts))} |")
     proof, tests, first, edits = (sum(m for (_, k), m in costs.minutes.items() if k == kind) for kind in KINDS)
     crates = len({name for name, kind in costs.minutes if kind == "first"})
