@@ -220,7 +220,7 @@ def show_table(costs):
     print(f"""
 Together {together:.0f} processor minutes: {proof:.0f} for proofs and programs, {tests:.0f} for tests, {first:.0f} for the
 first edits of the {crates} crates that have some, each a proof from nothing, and {edits:.0f} for the other edits and the
-checks behind a crate's last ({costs.edits} edits in all). The kernel counted {costs.whole:.0f} for all that `rt ci` did.
+checks behind a crate's last (of {costs.edits} edits it was told what came of them). The kernel counted {costs.whole:.0f} for all that `rt ci` did.
 It took {costs.wall:.0f} minutes{parts}, and its last line is `{costs.said or 'missing'}`.""")
 
 
