@@ -12,11 +12,13 @@ text below the table says how much was, of all that the kernel counted.
 
 In the log each line of `rt ci` stands behind the seconds since its start. The last lines are those of the costs:
 'cost NAME KIND SECONDS', where KIND is proof, tests, first (a crate's first edit, a whole proof from nothing) or edits
-(the others, with the check behind the last), and 'whole PROCESSOR_SECONDS WALL_SECONDS'.
+(the others, with the check behind the last), 'edit NAME EDIT SECONDS' for each check of an edit (EDIT is none for the
+check behind the last), and 'whole PROCESSOR_SECONDS WALL_SECONDS'. `table` writes the prices of edits below the table.
 """
 
 import argparse
 import collections
+import glob
 import os
 import re
 import resource
@@ -33,7 +35,7 @@ KINDS = ("proof", "tests", "first", "edits")
 LEAST = 3.0
 
 Process = collections.namedtuple("Process", "pid parent seconds words folder")
-Costs = collections.namedtuple("Costs", "minutes whole wall edits said parts")
+Costs = collections.namedtuple("Costs", "minutes whole wall edits said parts prices")
 
 
 # ---- looking at processes
@@ -97,12 +99,45 @@ def place_of(check):
     return name, "tests" if "--test" in check.words else "proof", ""
 
 
+def read_text(file):
+    """Returns the text of a file, or None where it can't be read."""
+    try:
+        with open(file, encoding="utf-8") as it:
+            return it.read()
+    except (OSError, UnicodeDecodeError):
+        return None
+
+
+def edited(text, edit):
+    """Returns the text with the pairs of lines 'old: ' and 'new: ' of an edit replaced, in their order."""
+    old = None
+    for line in edit.splitlines():
+        if line.startswith("old: "):
+            old = line[5:]
+        elif line.startswith("new: ") and old is not None:
+            text, old = text.replace(old, line[5:]), None
+    return text
+
+
+def edit_in(folder, name):
+    """Returns which edit of the crate was made in this copy of it, or 'none'."""
+    crate = f"{ROOT}/crates/{name}"
+    for file in sorted(glob.glob(f"{crate}/must-fail/*.edit")):
+        edit = read_text(file) or ""
+        place = next((it[6:].strip() for it in edit.splitlines() if it.startswith("file: ")), "")
+        text, now = read_text(f"{crate}/{place}"), read_text(f"{folder}/{place}")
+        if text is not None and now is not None and text != now and edited(text, edit) == now:
+            return os.path.basename(file).removesuffix(".edit")
+    return "none"
+
+
 class Seen:
     """What the checks of a run had taken when each was last seen."""
 
     def __init__(self):
         self.seconds = {}
         self.first = {}
+        self.edits = {}
 
     def look(self, top):
         """Looks at all checks below the process."""
@@ -110,6 +145,8 @@ class Seen:
             name, kind, room = place_of(check)
             if room:
                 kind = "first" if self.first.setdefault(name, room) == room else "edits"
+                if (name, room) not in self.edits:
+                    self.edits[name, room] = edit_in(check.folder, name)
             key = (name, kind, room or check.pid)
             self.seconds[key] = max(seconds, self.seconds.get(key, 0))
 
@@ -119,6 +156,12 @@ class Seen:
         for (name, kind, _), seconds in self.seconds.items():
             found[name, kind] += seconds
         return found
+
+    def prices(self):
+        """Yields the crate, the edit and the seconds of each check in a room of its own."""
+        for (name, _, room), seconds in self.seconds.items():
+            if (name, room) in self.edits:
+                yield name, self.edits[name, room], seconds
 
 
 # ---- a run
@@ -145,6 +188,8 @@ def run_gate(log_file, every):
             copying.join()
         for (name, kind), seconds in sorted(seen.sums().items()):
             print(f"cost {name} {kind} {seconds:.1f}", file=log)
+        for name, edit, seconds in seen.prices():
+            print(f"edit {name} {edit} {seconds:.1f}", file=log)
         used = resource.getrusage(resource.RUSAGE_CHILDREN)
         print(f"whole {used.ru_utime + used.ru_stime:.1f} {time.time() - begun:.1f}", file=log)
     return gate.returncode
@@ -155,12 +200,14 @@ def run_gate(log_file, every):
 
 def read_log(file):
     """Returns what a log says of a run, or stops where it has no costs."""
-    minutes, whole, wall, edits, said = collections.defaultdict(float), 0.0, 0.0, 0, ""
+    minutes, prices, whole, wall, edits, said = collections.defaultdict(float), {}, 0.0, 0.0, 0, ""
     with open(file, encoding="utf-8", errors="replace") as log:
         for line in log:
             words = line.split()
             if words[:1] == ["cost"] and len(words) == 4 and words[2] in KINDS:
                 minutes[words[1], words[2]] += float(words[3]) / 60
+            elif words[:1] == ["edit"] and len(words) == 4:
+                prices[words[1], words[2]] = float(words[3])
             elif words[:1] == ["whole"] and len(words) == 3:
                 whole, wall = float(words[1]) / 60, float(words[2]) / 60
             elif re.search(r"\brt: must-fail \S+: refused", line):
@@ -169,7 +216,7 @@ def read_log(file):
                 said = re.search(r"\d+ passed, \d+ failed", line)[0]
     if not minutes:
         sys.exit(f"{file} has no line 'cost NAME KIND SECONDS': only 'bench/gate.py run' writes such a log")
-    return Costs(minutes, whole, wall, edits, said, 1)
+    return Costs(minutes, whole, wall, edits, said, 1, prices)
 
 
 def listed_crates():
@@ -181,11 +228,12 @@ def listed_crates():
 def join_logs(files):
     """Returns what the logs of a run in parts say together. A crate that isn't listed any more doesn't count."""
     parts, listed = [read_log(it) for it in files], listed_crates()
-    minutes = collections.defaultdict(float)
+    minutes, prices = collections.defaultdict(float), {}
     for part in parts:
         minutes.update({key: it for key, it in part.minutes.items() if key[0] in listed})
+        prices.update({key: it for key, it in part.prices.items() if key[0] in listed})
     sums = [sum(it) for it in zip(*((part.whole, part.wall, part.edits) for part in parts))]
-    return Costs(minutes, *sums, parts[-1].said, len(parts))
+    return Costs(minutes, *sums, parts[-1].said, len(parts), prices)
 
 
 def told(minutes):
@@ -224,6 +272,17 @@ checks behind a crate's last (of {costs.edits} edits it was told what came of th
 It took {costs.wall:.0f} minutes{parts}, and its last line is `{costs.said or 'missing'}`.""")
 
 
+def show_prices(costs):
+    """Prints the processor seconds of each edit, crate by crate, in the order in which they were tried."""
+    by_crate = collections.defaultdict(list)
+    for (name, edit), seconds in costs.prices.items():
+        by_crate[name].append(f"without an edit {seconds:.0f}" if edit == "none" else f"{edit} {seconds:.0f}")
+    if by_crate:
+        print("\n| Crate | its edits, with the processor seconds of each |\n|---|---|")
+    for name, told_of in sorted(by_crate.items()):
+        print(f"| {name} | {', '.join(told_of)} |")
+
+
 def main():
     words = argparse.ArgumentParser(description=__doc__, formatter_class=argparse.RawDescriptionHelpFormatter)
     verbs = words.add_subparsers(dest="verb", required=True)
@@ -234,10 +293,14 @@ def main():
     table.add_argument("logs", nargs="+", metavar="LOG")
     asked = words.parse_args()
     if asked.verb == "table":
-        show_table(join_logs(asked.logs))
+        costs = join_logs(asked.logs)
+        show_table(costs)
+        show_prices(costs)
         return 0
     status = run_gate(asked.log, asked.every)
-    show_table(read_log(asked.log))
+    costs = read_log(asked.log)
+    show_table(costs)
+    show_prices(costs)
     return status
 
 

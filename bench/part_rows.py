@@ -3,7 +3,8 @@
 
 usage: bench/part_rows.py [REVISION]
 
-REVISION is one at which the crates of tests stood (7afa0542 where it is left out). A case is a member of a table that a
+REVISION is one at which the crates of tests stood (where it is left out, 558565e5 for grid_tests and grid_task_tests, and
+7afa0542 for the others). A case is a member of a table that a
 test goes over, or a step beside the tables that asserts something. For each section of rows there is a line: the file, the
 section, its rows, and the tests that it carries with their cases. Last come the sums of each crate. The status is 1 where a
 test is carried by no section, where a section has no rows, or where a table isn't there.
@@ -64,10 +65,32 @@ CARRIED = [
         'a_map_of_one_name_is_refused': 1}),
     ('maps', 'map-grid', 'map_tests/maps', {'the_text_stands_in_the_place_of_the_grids_file': 2}),
     ('maps', 'words', 'map_tests/words', {'words_give_a_pool_or_their_first_fault': ['WORDS', 2]}),
+    ('grids', 'grid', 'grid_tests/faults', {'the_first_faulty_line_is_told': ['FORM', 'NUMBERS', 'OUTSIDE', 'DUPLICATE'],
+        'of_two_faults_the_first_is_told': ['PAIRS'], 'a_hundred_names_and_a_thousand_obstacles_are_the_limit': ['LIMITS', 'LIMITS'],
+        'a_name_has_at_most_255_bytes': 2, 'a_grid_is_what_its_lines_say': 9}),
+    ('grids', 'request-of 3', 'grid_tests/answers', {'requests_on_the_grid_of_three_are_answered': ['WORKED']}),
+    ('grids', 'request', 'grid_tests/answers', {'edges_and_order_are_exact': ['EDGES'], 'large_numbers_do_not_wrap': ['LARGE'],
+        'other_lines_end': ['STRANGE']}),
+    ('grids', 'made-lengths', 'grid_tests/tasks', {'texts_have_their_lengths': ['LENGTHS']}),
+    ('grids', 'made-texts', 'grid_tests/tasks', {'the_texts_of_two_are_written_out': 2}),
+    ('generators', 'generator', 'grid_tests/members', {'other_words_and_refused_grids_do_not_start': 5,
+        'whole_lines_are_answered_and_given_in_pieces': 12}),
+    ('generators', 'last-child', 'grid_tests/members', {'a_host_holds_the_grid_as_its_last_child': 8}),
+    ('generators', 'sure-host', 'grid_tests/members', {'a_host_that_answers_by_the_grid_answers_alike': 6}),
+    ('generators', 'serve *', 'grid_tests/statuses', {'each_status_has_its_cause': ['RUNS'], 'words_and_files_are_refused': ['REFUSED'],
+        'a_line_has_at_most_4096_bytes': ['LONG'], 'a_grid_file_has_at_most_4_mib': ['SIZES'],
+        'a_hundred_thousand_lines_are_the_limit': 2}),
+    ('grids', 'made-read', 'grid_task_tests/tasks', {'no_text_of_a_task_is_refused': 12, 'each_task_is_as_it_is_defined': 12}),
 ]
 
-revision = sys.argv[1] if len(sys.argv) > 1 else '7afa0542'
 wrong = []
+
+
+def revision_of(crate):
+    """The revision at which a crate of tests is looked at."""
+    if len(sys.argv) > 1:
+        return sys.argv[1]
+    return '558565e5' if crate in ('grid_tests', 'grid_task_tests') else '7afa0542'
 
 
 def git(*words):
@@ -100,7 +123,7 @@ def cases_of(place, tables):
             count += table
             continue
         file, _, name = table.rpartition('/')
-        text = git('show', f'{revision}:crates/{crate}/src/{file or here}.rt')
+        text = git('show', f'{revision_of(crate)}:crates/{crate}/src/{file or here}.rt')
         found = re.search(rf'const {name}: \[[^=]*; (\d+)\] =', text)
         if found is None:
             wrong.append(f'{place} has no table {table}')
@@ -122,6 +145,7 @@ for names, sections, place, tests in CARRIED:
     sums[1] += rows
     print(f'{names:24} {sections:40} {rows:4} rows of {cases:4} cases: {crate}: {", ".join(tests)}')
 for crate, (cases, rows) in crates.items():
+    revision = revision_of(crate)
     for file in git('ls-tree', '--name-only', revision, f'crates/{crate}/src/').split():
         for test in re.findall(r'#\[test\]\s*fn (\w+)', git('show', f'{revision}:{file}')):
             if (crate, test) not in carried:

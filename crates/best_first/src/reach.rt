@@ -8,6 +8,7 @@ ghost use Rattle.task_model.specs.Plans.{IsSolvable};
 ghost use Rattle.task_model.specs.State.{contains};
 ghost use Rattle.best_first.specs.Reach.{IsClosed, IsMissed, LeadsWithin, StaysWithin};
 ghost use Rattle.best_first.specs.Steady.{has_steady_items};
+ghost use Rattle.task_model.specs.declared.limits.TheConstants.{SLOTS};
 
 use crate::explore::MOST_CANDIDATES;
 use crate::relaxed_plan::RelaxedPlan;
@@ -33,7 +34,7 @@ struct Bounds<'a, L: Look> {
 fn lacks_atom<L: Look>(bounds: &Bounds<'_, L>, condition: &Formula, objects: &[Obj]) -> bool
     requires fit { IsFit bounds.now.task.now }
     requires readable { is_readable bounds.now.task.now.domain condition.now ≡ true }
-    requires few { length objects.now ≤ 16 }
+    requires few { length objects.now ≤ SLOTS }
     ensures { IsTrue result → IsMissed bounds.now.task.now.domain (L.known bounds.now.look.now)
         bounds.now.atoms.now condition.now objects.now }
 {
@@ -64,7 +65,7 @@ fn stays_within<L: Look>(
 ) -> Result<bool, AllocError>
     requires fit { IsFit bounds.now.task.now }
     requires action { is_fit_action bounds.now.task.now.domain action.now ≡ true }
-    requires few { length objects.now ≤ 16 }
+    requires few { length objects.now ≤ SLOTS }
     ensures { IfOk result (λ stays. IsTrue stays → StaysWithin bounds.now.task.now
         (L.known bounds.now.look.now) bounds.now.atoms.now action.now objects.now) }
 {

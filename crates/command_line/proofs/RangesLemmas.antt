@@ -8,7 +8,7 @@ use Rattle.transcript_model.specs.declared.head.Mode.{Mode}
 use Rattle.transcript_model.specs.declared.head.Mode.TheVariants.{Incremental, Focused, Binding, Adaptive}
 use Rattle.clap.specs.Words.{App, Row, Text, first_of, matches_of}
 use Rattle.command_line.specs.Apps.{deorder_app, generate_app, is_taken, play_app, replay_app, solve_app}
-use Rattle.command_line.specs.Numbers.{are_few_digits, count_in, count_in_word, is_number, number_in, number_in_word, number_or}
+use Rattle.command_line.specs.Numbers.{are_few_digits, count_in, is_number, number_in, number_in_word, number_or}
 use Rattle.command_line.specs.Ranges.{AreInRange, IsFromOne, IsInRange}
 use Rattle.command_line.specs.Words.{Command, GivenLimits, PlayWords, ReplayWords, SolveWords, are_apart, command_of, deorder, deorder_in, deorder_of, files_in, generate, generate_in, generate_of, goes_with, is_set, limits_in, migrate, migrate_of, mode_or, path_in, play, play_in, play_of, program_in, read_by, replay, replay_in, replay_of, report_in, solve, solve_in, solve_of}
 use Rattle.lemmas.proofs.Options.{and_then_some, where_true}

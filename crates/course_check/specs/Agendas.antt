@@ -1,5 +1,5 @@
 -- What a turn has still to do.
-use Rattle.std.specs.Prelude.{◌≡◌, ◌&&◌, ℕ, ◌+◌, ◌-◌, ◌<◌, ◌≤◌, nat_lt, List, [], length, take, drop, Bool, true, false}
+use Rattle.std.specs.Prelude.{◌≡◌, ◌&&◌, ℕ, ◌+◌, ◌-◌, ◌≤◌, nat_lt, List, [], length, take, drop, Bool, true, false}
 use Rattle.dream_asks.specs.Next.{asked_instances}
 use Rattle.dream_asks.specs.Progress.{numbered}
 use Rattle.dream_asks.specs.declared.asks.DreamAsk.{DreamAsk}

@@ -5,3 +5,4 @@ pub mod AnswerLemmas
 pub mod FrontLemmas
 pub mod FitLemmas
 pub mod OrderLemmas
+pub mod ListedLemmas

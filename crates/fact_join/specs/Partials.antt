@@ -1,5 +1,5 @@
 -- Which tuples agree with a partial one.
-use Rattle.std.specs.Prelude.{◌≡◌, ℕ, ◌<◌, ◌≤◌, List, ◌↔◌, Option, None, Some, is_none, count_by, slice_get, slice_index, Contains}
+use Rattle.std.specs.Prelude.{◌≡◌, ℕ, ◌<◌, ◌≤◌, Bool, true, false, List, ◌↔◌, Option, None, Some, is_none, count_by, slice_get, slice_index, Contains}
 use Rattle.task_model.specs.Truth.{object_of, objects_at}
 use Rattle.task_model.specs.declared.condition.Term.{Term}
 use Rattle.task_model.specs.declared.condition.Term.TheVariants.{Slot}
@@ -23,6 +23,11 @@ Narrows partial P (Some left) =
     ((slots : List ℕ) → Agrees left slots ↔ (Agrees partial slots × P slots))
     × (free_slots left ≤ free_slots partial)
 Narrows partial P None = (slots : List ℕ) → Agrees partial slots → ¬ (P slots)
+
+-- the partial tuple, where it is kept
+abbrev pub left_if : Bool → Partial → Option Partial
+left_if true partial = Some partial
+left_if false partial = None
 
 -- the term is this object in each tuple that agrees
 abbrev pub IsFixed : Partial → Term → ℕ → Type 0

@@ -12,11 +12,9 @@ use crate::query::{JoinFault, Query, QueryAtom, Wanted};
 use formula_eval::have_types;
 use task_model::{Fact, Look, Obj, Objects};
 
-/// Puts behind the rows all tuples that agree with the partial one, have the query's types, make
-/// all atoms known facts and are wanted, each once, in no particular order. Fails where more rows
-/// than the query's most would stand there, and where memory is wanting.
+/// Puts all answers behind the rows, each once.
 #[cycle(join)]
-pub fn join<L: Look, W: Wanted, const N: usize>(
+pub(crate) fn join<L: Look, W: Wanted, const N: usize>(
     query: &Query<'_, L, W>,
     partial: &Partial,
     atoms: &[QueryAtom<'_>],

@@ -1,5 +1,5 @@
 //! The term of an atom by which its facts are gone through.
-ghost use Rattle.std.specs.Prelude.{◌≡◌, ◌⊎◌, true, Some, IfSome};
+ghost use Rattle.std.specs.Prelude.{◌≡◌, true, IfSome};
 ghost use Rattle.std.specs.List.{list_all};
 ghost use Rattle.formula_eval.specs.Readable.{is_readable_term};
 ghost use Rattle.fact_join.specs.Leads.{IsLead};
@@ -19,16 +19,6 @@ pub(crate) struct Lead {
     pub(crate) count: usize,
 }
 
-/// The one with fewer facts.
-fn fewer(best: Option<Lead>, lead: Lead) -> Lead
-    ensures { (result ≡ lead) ⊎ (best ≡ Some result) }
-{
-    match best {
-        Some(best) => { if best.count <= lead.count { best } else { lead } }
-        None => lead,
-    }
-}
-
 /// The fixed term that has the fewest facts, or None where no term is fixed.
 pub(crate) fn lead_of<L: Look>(look: &L, partial: &Partial, atom: &QueryAtom<'_>) -> Option<Lead>
     requires { list_all is_readable_term atom.now.terms.now ≡ true }
@@ -38,12 +28,16 @@ pub(crate) fn lead_of<L: Look>(look: &L, partial: &Partial, atom: &QueryAtom<'_>
     for (place, term) in atom.terms.iter().enumerate() {
         if let Some(object) = partial.fixed(*term) {
             let count = look.matches(atom.pred, place, object);
-            let lead = Lead {
-                place,
-                object,
-                count,
-            };
-            best = Some(fewer(best, lead));
+            match best {
+                Some(Lead { count: fewest, .. }) if fewest <= count => {}
+                _ => {
+                    best = Some(Lead {
+                        place,
+                        object,
+                        count,
+                    });
+                }
+            }
         }
     }
     best

@@ -5,9 +5,11 @@
 mod front;
 mod joins;
 mod lead;
+mod listed;
 mod partial;
 mod query;
+mod start;
 
-pub use joins::join;
 pub use partial::Partial;
 pub use query::{JoinFault, Query, QueryAtom, Wanted};
+pub use start::join;

@@ -46,11 +46,6 @@ name_absent names name absent =
       | false ↦ λ _. refl
     ] refl
 
-pub with_name-old : (names : List (List ℕ)) (name : List ℕ) → Contains names name
-    → names ≡ with_name names name
-with_name-old names name m =
-    sym (ap (λ b. cond b names (names ++ name ∷ [])) (name_found names name m))
-
 pub with_name-new : (names : List (List ℕ)) (name : List ℕ) → ¬ (Contains names name)
     → names ++ name ∷ [] ≡ with_name names name
 with_name-new names name absent =
@@ -65,15 +60,6 @@ name_pushed known name absent c = record {
   objects = λ k f h j d l. in_more known.names (name ∷ []) _ (c.objects k f h j d l);
   costs = c.costs;
 }
-
-pub name_kept : (known : Known) (names : List (List ℕ)) (name : List ℕ)
-    → ¬ (Contains known.names name) → (names ≡ known.names ++ name ∷ []) ⊎ (names ≡ known.names)
-    → IsCoherent known → IsCoherent (record known { names = names })
-name_kept known names name absent cases c =
-    elim cases [
-      | inl e ↦ subst (λ ns. IsCoherent (record known { names = ns })) (sym e) (name_pushed known name absent c)
-      | inr e ↦ subst (λ ns. IsCoherent (record known { names = ns })) (sym e) c
-    ]
 
 -- ---- facts
 

@@ -13,7 +13,7 @@ use Rattle.lemmas.proofs.Members.{get_append, next_taken}
 use Rattle.fact_store.proofs.LeastLemmas.{one_more}
 use Rattle.fact_store.specs.Tables.{AreCovered, CoverPlaces, Covers, Key, facts_with, has_key, is_key, group_key, places_found, places_in, same_key}
 use Rattle.fact_store.specs.declared.table.Group.{Group}
-use Rattle.fact_store.specs.declared.table.Group.TheVariants.{Objects, Atoms, AtomsAt}
+use Rattle.fact_store.specs.declared.table.Group.TheVariants.{Objects, AtomsAt}
 use Rattle.fact_store.specs.declared.table.Table.{Table}
 
 -- ---- the places of a key
@@ -214,11 +214,10 @@ tables_pushed facts tables new table b is empty cover =
         ]
     either false = cover
 
-pub all_kept : (facts new : List Fact) (fact : Fact) (by_type by_predicate : Table) (by_place : List Table)
-    → (new ≡ with_fact facts fact) ⊎ (new ≡ facts) → AreCovered facts by_type by_predicate by_place
-    → AreCovered new by_type by_predicate by_place
-all_kept facts new fact by_type by_predicate by_place cases covered = record {
+pub all_kept : (facts new : List Fact) (fact : Fact) (by_type : Table) (by_place : List Table)
+    → (new ≡ with_fact facts fact) ⊎ (new ≡ facts) → AreCovered facts by_type by_place
+    → AreCovered new by_type by_place
+all_kept facts new fact by_type by_place cases covered = record {
   objects = covers_kept Objects facts new fact by_type cases covered.objects;
-  atoms = covers_kept Atoms facts new fact by_predicate cases covered.atoms;
   atoms_at = λ place table at. covers_kept (AtomsAt place) facts new fact table cases (covered.atoms_at place table at);
 }

@@ -1,5 +1,5 @@
 -- What a store of facts shows: what is known, with the proof that it is coherent.
-use Rattle.std.specs.Prelude.{◌≡◌, ℕ, ◌≤◌, length, List, Bool, true, false, refl}
+use Rattle.std.specs.Prelude.{◌≡◌, ℕ, List, Bool, true, false, refl}
 use Rattle.std.specs.Coded.{Coded, Coded-set, code_by, coded×, coded_ℕ, coded_bool, coded_list, le_prop}
 use Rattle.std.proofs.Common.{subst}
 use Rattle.task_model.specs.Known.{Known, IsCoherent}
@@ -7,7 +7,6 @@ use Rattle.task_model.specs.declared.fact.Fact.{Fact}
 use Rattle.task_model.specs.declared.fact.Kind.{Kind}
 use Rattle.task_model.specs.declared.fact.Kind.TheVariants.{Predicate, Sort}
 use Rattle.task_model.specs.declared.task.Valued.{Valued}
-use Rattle.fact_store.specs.declared.facts.TheConstants.{MOST_NAMES}
 
 -- What is known: names, facts and values. They stand once each, each object of a fact has a name, and values are costs.
 pub record Store : Type 0 where
@@ -67,10 +66,3 @@ coded_known =
 abbrev pub coded_store : Coded Store
 coded_store = record
     { code = λ s. coded_known.code s.known; inj = λ x y e. same_store x y (coded_known.inj x.known y.known e) }
-
--- ---- how names are found
-
--- The bytes that are looked up stand in the order of the names, which are few enough that their places are objects.
-pub record IsIndexed (names bytes : List (List ℕ)) : Type 0 where
-  pub same : bytes ≡ names
-  pub few : length names ≤ MOST_NAMES

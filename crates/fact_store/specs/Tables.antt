@@ -7,7 +7,7 @@ use Rattle.task_model.specs.declared.fact.Fact.{Fact}
 use Rattle.task_model.specs.declared.fact.Kind.{Kind}
 use Rattle.task_model.specs.declared.fact.Kind.TheVariants.{Predicate, Sort}
 use Rattle.fact_store.specs.declared.table.Group.{Group}
-use Rattle.fact_store.specs.declared.table.Group.TheVariants.{Objects, Atoms, AtomsAt}
+use Rattle.fact_store.specs.declared.table.Group.TheVariants.{Objects, AtomsAt}
 use Rattle.fact_store.specs.declared.table.Table.{Table}
 
 -- a name with an object, or with 0 where the name alone counts
@@ -27,7 +27,6 @@ group_key group fact = of group fact.kind fact.args
 
     of : Group → Kind → List ℕ → Option Key
     of Objects Sort (object ∷ []) = Some (fact.name, 0)
-    of Atoms Predicate args = Some (fact.name, 0)
     of (AtomsAt place) Predicate args = with (slice_get args place)
     of group kind args = None
 
@@ -63,7 +62,6 @@ CoverPlaces facts tables =
     → Covers (AtomsAt place) facts table
 
 -- Each table of a store covers a front of its facts.
-pub record AreCovered (facts : List Fact) (by_type by_predicate : Table) (by_place : List Table) : Type 0 where
+pub record AreCovered (facts : List Fact) (by_type : Table) (by_place : List Table) : Type 0 where
   pub objects : Covers Objects facts by_type
-  pub atoms : Covers Atoms facts by_predicate
   pub atoms_at : CoverPlaces facts by_place

@@ -2,17 +2,15 @@
 ghost use Rattle.std.specs.Prelude.{◌≡◌, ◌<◌, ◌^◌, List, [], not, length, slice_get, option_copied, IfOk, OnOk, OnErr};
 ghost use Rattle.task_model.specs.Known.{is_fact, with_fact, objects_of, matches_of};
 ghost use Rattle.task_model.specs.declared.fact.Fact.{Fact};
-ghost use Rattle.fact_store.specs.Atoms.{atoms_of};
 ghost use Rattle.fact_store.specs.Tables.{CoverPlaces};
 
-use crate::number_hasher::NumberHasher;
 use crate::scan::{count_with, nth_with};
 use crate::table::{Group, Table};
 use indexmap::IndexSet;
 use std::alloc::{AllocError, Global};
 use std::hash::BuildHasherDefault;
 use std::marker::Model;
-use task_model::{Fact, Obj};
+use task_model::{Fact, NumberHasher, Obj};
 
 /// The facts in the order in which they came. Contracts see the list of them. Each table covers a
 /// front of this list, mostly all of it: where memory is wanting it stays behind, and the facts
@@ -21,7 +19,6 @@ use task_model::{Fact, Obj};
 pub struct FactTable {
     facts: IndexSet<Fact, BuildHasherDefault<NumberHasher>>,
     objects: Table,
-    atoms: Table,
     /// By places of the arguments.
     atoms_at: Vec<Table>,
     alloc: Global,
@@ -41,11 +38,11 @@ impl Model for FactTable {
 
     ghost view = { λ t. t.facts.keys };
 
-    ghost invariant = { λ t. AreCovered t.facts.keys t.objects t.atoms t.atoms_at.items };
+    ghost invariant = { λ t. AreCovered t.facts.keys t.objects t.atoms_at.items };
 }
 
 /// Puts tables behind the others, up to this count or as far as memory reaches.
-fn add_tables(tables: &mut Vec<Table>, alloc: Global, count: usize)
+fn add_tables(alloc: Global, tables: &mut Vec<Table>, count: usize)
     ensures { (facts : List Fact) → CoverPlaces facts tables.old.items
         → CoverPlaces facts tables.new.items }
 {
@@ -57,7 +54,7 @@ fn add_tables(tables: &mut Vec<Table>, alloc: Global, count: usize)
 }
 
 /// Lets the table of each place cover the facts up to the last, or as far as memory reaches.
-fn cover_each(tables: &mut [Table], alloc: Global, facts: &[Fact])
+fn cover_each(alloc: Global, tables: &mut [Table], facts: &[Fact])
     requires { CoverPlaces facts.now tables.old }
     ensures { CoverPlaces facts.now tables.new }
 {
@@ -74,7 +71,6 @@ impl FactTable {
         FactTable {
             facts: IndexSet::with_hasher(alloc, BuildHasherDefault::new()),
             objects: Table::new(alloc),
-            atoms: Table::new(alloc),
             atoms_at: Vec::new(alloc),
             alloc,
         }
@@ -103,7 +99,7 @@ impl FactTable {
     {
         let arity = fact.args.as_slice().len();
         let fresh = self.facts.insert(fact)?;
-        add_tables(&mut self.atoms_at, self.alloc, arity);
+        add_tables(self.alloc, &mut self.atoms_at, arity);
         self.cover();
         Ok(fresh)
     }
@@ -114,8 +110,7 @@ impl FactTable {
     {
         let facts = self.facts.as_slice();
         self.objects.cover(self.alloc, Group::Objects, facts);
-        self.atoms.cover(self.alloc, Group::Atoms, facts);
-        cover_each(self.atoms_at.as_mut_slice(), self.alloc, facts);
+        cover_each(self.alloc, self.atoms_at.as_mut_slice(), facts);
     }
 
     /// How many objects have the type.
@@ -150,22 +145,6 @@ impl FactTable {
             }
         }
         Ok(objects)
-    }
-
-    /// How many atoms the predicate has.
-    pub fn atoms(&self, pred: u32) -> usize
-        ensures { result ≡ length (atoms_of self.now pred) }
-    {
-        self.atoms
-            .count(Group::Atoms, (pred, 0), self.facts.as_slice())
-    }
-
-    /// The atom of that number among those of the predicate.
-    pub fn atom(&self, pred: u32, number: usize) -> Option<&Fact>
-        ensures { option_copied result ≡ slice_get (atoms_of self.now pred) number }
-    {
-        self.atoms
-            .nth(Group::Atoms, (pred, 0), self.facts.as_slice(), number)
     }
 
     /// How many atoms of the predicate have the object at this place.

@@ -5,13 +5,13 @@ ghost use Rattle.fact_store.specs.Store.{coherent_prop};
 
 use crate::fact_table::FactTable;
 use crate::initial::{add_names, add_objects, add_static, add_values};
-use crate::number_hasher::NumberHasher;
+use crate::scan::place_in;
 use crate::value_table::ValueTable;
 use indexmap::IndexSet;
 use std::alloc::{AllocError, Global};
 use std::hash::BuildHasherDefault;
 use std::marker::Model;
-use task_model::{Fact, Look, Name, Obj, Row, Task, Valued};
+use task_model::{Fact, Look, Name, NumberHasher, Obj, Row, Task, Valued};
 
 /// The most names of objects, 2^32 - 2^18: the place of each is an object.
 pub const MOST_NAMES: usize = (1 << 32) - (1 << 18);
@@ -20,37 +20,36 @@ pub const MOST_NAMES: usize = (1 << 32) - (1 << 18);
 /// they came. An object is the place of its name.
 #[derive(Drop)]
 pub struct Facts {
-    names: Vec<Name>,
-    places: IndexSet<Vec<u8>, BuildHasherDefault<NumberHasher>>,
+    names: IndexSet<Name, BuildHasherDefault<NumberHasher>>,
     facts: FactTable,
     values: ValueTable,
     alloc: Global,
     ghost coherent: { IsCoherent
-        (record { names = names.items; facts = facts; values = values }) } by { coherent_prop
-            (record { names = names.items; facts = facts; values = values }) },
+        (record { names = names.keys; facts = facts; values = values }) } by { coherent_prop
+            (record { names = names.keys; facts = facts; values = values }) },
 }
 
 impl Model for Facts {
-    ghost use Rattle.std.specs.Prelude.{map};
-    ghost use Rattle.fact_store.specs.Store.{Store, coded_store, IsIndexed};
+    ghost use Rattle.std.specs.Prelude.{◌≤◌, length};
+    ghost use Rattle.fact_store.specs.Store.{Store, coded_store};
+    ghost use Rattle.fact_store.specs.declared.facts.TheConstants.{MOST_NAMES};
 
     ghost Value = { Store };
 
     ghost coded = { coded_store };
 
     ghost view = { λ f. record {
-      known = record { names = f.names.items; facts = f.facts; values = f.values };
+      known = record { names = f.names.keys; facts = f.facts; values = f.values };
       coherent = f.coherent;
     } };
 
-    ghost invariant = { λ f. IsIndexed f.names.items (map (λ v. v.items) f.places.keys) };
+    ghost invariant = { λ f. length f.names.keys ≤ MOST_NAMES };
 }
 
 impl Facts {
     ghost use Rattle.std.specs.Prelude.{◌≡◌, ◌<◌, ◌≤◌, [], not, length, slice_get, All, Contains, Some, IfSome, IfNone, IfOk, OnOk, OnErr};
     ghost use Rattle.std.specs.List.{list_any};
     ghost use Rattle.task_model.specs.Known.{IsIn, is_fact, with_fact, objects_of, same_value, with_value, with_name};
-    ghost use Rattle.fact_store.specs.Atoms.{atoms_of};
     ghost use Rattle.task_model.specs.Fit.{IsFit};
     ghost use Rattle.task_model.specs.Initial.{initial_known};
 
@@ -86,8 +85,7 @@ impl Facts {
         ensures { result.known ≡ record { names = []; facts = []; values = [] } }
     {
         Facts {
-            names: Vec::new(alloc),
-            places: IndexSet::with_hasher(alloc, BuildHasherDefault::new()),
+            names: IndexSet::with_hasher(alloc, BuildHasherDefault::new()),
             facts: FactTable::new(alloc),
             values: ValueTable::new(alloc),
             alloc,
@@ -100,7 +98,6 @@ impl Facts {
         ensures { self.new ≡ self.old }
     {
         self.names.reserve(objects)?;
-        self.places.reserve(objects)?;
         self.facts
             .reserve(objects.saturating_mul(2).saturating_add(facts))
     }
@@ -134,13 +131,26 @@ impl Facts {
         self.names.len() as u32
     }
 
-    /// The object with this name, or None exactly where no object has it. It takes no memory.
+    /// The object with this name, or None exactly where no object has it. A name of more than 23
+    /// bytes takes memory while it is sought; where that is wanting, all names are gone through.
     pub fn object_of(&self, name: &[u8]) -> Option<Obj>
         ensures found { IfSome result
             (λ object. slice_get self.now.known.names object ≡ Some name.now) }
         ensures none { IfNone result (¬ (Contains self.now.known.names name.now)) }
     {
-        let (place, _) = self.places.get_full(name)?;
+        match Name::from_slice(self.alloc, name) {
+            Ok(sought) => self.place_of(&sought),
+            Err(_) => place_in(self.names(), name),
+        }
+    }
+
+    /// The same of a name as the store keeps it. It takes no memory.
+    fn place_of(&self, name: &Name) -> Option<Obj>
+        ensures found { IfSome result
+            (λ object. slice_get self.now.known.names object ≡ Some name.now) }
+        ensures none { IfNone result (¬ (Contains self.now.known.names name.now)) }
+    {
+        let (place, _) = self.names.get_full(name)?;
         Some(Obj::new(place as u32))
     }
 
@@ -150,25 +160,6 @@ impl Facts {
         ensures { IfOk result (λ objects. objects.items ≡ objects_of self.now.known.facts sort) }
     {
         self.facts.objects_with(alloc, sort)
-    }
-
-    /// How many atoms the predicate has.
-    pub fn atoms(&self, pred: u32) -> usize
-        ensures { result ≡ length (atoms_of self.now.known.facts pred) }
-    {
-        self.facts.atoms(pred)
-    }
-
-    /// One of the predicate's atoms, by its number from 0. Each stands there once, in the order in
-    /// which they became known.
-    pub fn atom(&self, pred: u32, number: usize) -> &Fact
-        requires { number < length (atoms_of self.now.known.facts pred) }
-        ensures { slice_get (atoms_of self.now.known.facts pred) number ≡ Some result.now }
-    {
-        match self.facts.atom(pred, number) {
-            Some(fact) => fact,
-            None => unreachable!(),
-        }
     }
 
     /// The number of a name, which is put behind the others where it is new. Fails only where
@@ -181,12 +172,7 @@ impl Facts {
         ensures values { self.new.known.values ≡ self.old.known.values }
         ensures err { OnErr result (self.new ≡ self.old) }
     {
-        let bytes = Vec::from_slice(self.alloc, name.bytes())?;
-        self.names.reserve(1)?;
-        let (place, fresh) = self.places.insert_full(bytes)?;
-        if fresh {
-            self.names.push(name)?;
-        }
+        let (place, _) = self.names.insert_full(name)?;
         Ok(Obj::new(place as u32))
     }
 

@@ -4,7 +4,6 @@
 mod fact_table;
 mod facts;
 mod initial;
-mod number_hasher;
 mod scan;
 mod table;
 mod value_table;

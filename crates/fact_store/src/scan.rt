@@ -1,9 +1,11 @@
-//! Look-ups among facts that no table covers, which go through them one by one.
-ghost use Rattle.std.specs.Prelude.{◌≡◌, length, slice_get, option_copied};
+//! Look-ups that go through facts or names one by one: among facts that no table covers, and of a
+//! name for which memory is wanting.
+ghost use Rattle.std.specs.Prelude.{◌≡◌, ◌≤◌, length, slice_get, option_copied, Some, IfSome, IfNone, Contains};
 ghost use Rattle.fact_store.specs.Tables.{facts_with};
+ghost use Rattle.fact_store.specs.declared.facts.TheConstants.{MOST_NAMES};
 
 use crate::table::{Group, Key, has_key};
-use task_model::Fact;
+use task_model::{Fact, Name, Obj};
 
 /// How many of the facts have this key.
 pub(crate) fn count_with(group: Group, key: Key, facts: &[Fact]) -> usize
@@ -26,6 +28,21 @@ pub(crate) fn nth_with(group: Group, key: Key, facts: &[Fact], number: usize) ->
                 return Some(fact);
             }
             left -= 1;
+        }
+    }
+    None
+}
+
+/// The object with this name, found by going through all names, of which there are few enough that
+/// their places are objects.
+pub(crate) fn place_in(names: &[Name], name: &[u8]) -> Option<Obj>
+    requires { length names.now ≤ MOST_NAMES }
+    ensures found { IfSome result (λ object. slice_get names.now object ≡ Some name.now) }
+    ensures none { IfNone result (¬ (Contains names.now name.now)) }
+{
+    for (place, known) in names.iter().enumerate() {
+        if name == known.bytes() {
+            return Some(Obj::new(place as u32));
         }
     }
     None

@@ -3,21 +3,18 @@ ghost use Rattle.std.specs.Prelude.{◌≡◌, ◌+◌, ◌<◌, ◌^◌, ◌∷
 ghost use Rattle.fact_store.specs.Tables.{Covers, Key, facts_with, same_key, places_in};
 ghost use Rattle.fact_store.specs.Tables as tables;
 
-use crate::number_hasher::NumberHasher;
 use crate::scan::{count_with, nth_with};
 use indexmap::IndexMap;
 use smallvec::SmallVec;
 use std::alloc::{AllocError, Global};
 use std::hash::BuildHasherDefault;
-use task_model::{Fact, Kind};
+use task_model::{Fact, Kind, NumberHasher};
 
 /// Which facts a table finds, and by what.
 #[derive(Clone, Copy)]
 pub(crate) enum Group {
     /// That an object has a type, by the type.
     Objects,
-    /// Atoms, by the predicate.
-    Atoms,
     /// Atoms, by the predicate and the object at this place of the arguments.
     AtomsAt(usize),
 }
@@ -40,9 +37,7 @@ fn key_of(group: Group, fact: &Fact) -> Option<Key>
     ensures { result ≡ tables.group_key group fact.now }
 {
     match (group, fact.kind, fact.args.as_slice()) {
-        (Group::Objects, Kind::Sort, [_]) | (Group::Atoms, Kind::Predicate, _) => Some((
-            fact.name, 0,
-        )),
+        (Group::Objects, Kind::Sort, [_]) => Some((fact.name, 0)),
         (Group::AtomsAt(place), Kind::Predicate, args) => {
             let object = args.get(place)?;
             Some((fact.name, object.place()))
@@ -63,7 +58,7 @@ pub(crate) fn has_key(group: Group, key: Key, fact: &Fact) -> bool
 
 /// Puts a place behind the others of the key. Fails only where memory is wanting, and then each key
 /// has its places still.
-fn put(lists: &mut Lists, alloc: Global, key: Key, place: u32) -> Result<(), AllocError>
+fn put(alloc: Global, lists: &mut Lists, key: Key, place: u32) -> Result<(), AllocError>
     ensures ok { OnOk result ((q : Key) → places_in lists.new q
         ≡ (if same_key key q then places_in lists.old q ++ place ∷ [] else places_in lists.old q)) }
     ensures err { OnErr result ((q : Key) → places_in lists.new q ≡ places_in lists.old q) }
@@ -114,7 +109,7 @@ impl Table {
             let Ok(place) = u32::try_from(self.done) else {
                 return false;
             };
-            match put(&mut self.lists, alloc, key, place) {
+            match put(alloc, &mut self.lists, key, place) {
                 Ok(()) => {}
                 Err(_) => return false,
             }

@@ -6,12 +6,11 @@ ghost use Rattle.task_model.specs.Known as known;
 ghost use Rattle.task_model.specs.declared.task.Valued.{Valued};
 ghost use Rattle.fact_store.specs.Least.{Term, lesser_of, least_in, same_term};
 
-use crate::number_hasher::NumberHasher;
 use indexmap::{IndexMap, IndexSet};
 use std::alloc::{AllocError, Global};
 use std::hash::BuildHasherDefault;
 use std::marker::Model;
-use task_model::{Obj, Row, Valued};
+use task_model::{NumberHasher, Obj, Row, Valued};
 
 /// A function's term: the function and its arguments.
 type Term = (u32, Row);

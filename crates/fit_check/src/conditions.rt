@@ -6,7 +6,7 @@ ghost use Rattle.task_model.specs.Fit as fit;
 
 use crate::lists::{are_places, is_short};
 use crate::slots::Slots;
-use task_model::{Domain, Formula, FormulaNode, Seq, Signature, Term};
+use task_model::{Domain, Formula, FormulaNode, SLOTS, Seq, Signature, Term};
 
 /// Where conditions and patterns stand: the domain, and how many objects may be named.
 #[derive(Clone, Copy)]
@@ -143,7 +143,7 @@ fn is_sound_in(scope: Scope<'_>, slots: &Slots, first: u8, sorts: &Seq<u32>, bod
         (Exists first sorts.now body.now) slots.now }
 {
     let first = first as usize;
-    if sorts.len() > 16 || first + sorts.len() > 16 {
+    if sorts.len() > SLOTS || first + sorts.len() > SLOTS {
         return false;
     }
     are_places(scope.domain.sorts.len(), sorts.as_slice())

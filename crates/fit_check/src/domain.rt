@@ -12,7 +12,7 @@ use crate::roles::{are_fit_roles, has_derived_role};
 use crate::slots::Slots;
 use crate::sorts::are_fit_sorts;
 use task_model::{
-    Action, CostTerm, Declared, Derived, Domain, LARGEST_NUMBER, Pattern, Signature, is_name,
+    Action, CostTerm, Declared, Derived, Domain, LARGEST_NUMBER, Pattern, SLOTS, Signature, is_name,
 };
 
 /// Whether each takes at most eight arguments.
@@ -51,7 +51,7 @@ pub(crate) fn are_fit_objects(domain: &Domain, objects: &[Declared]) -> bool
 fn are_fit_params(domain: &Domain, params: &[u32]) -> bool
     ensures { result ≡ fit.are_fit_params domain.now params.now }
 {
-    params.len() <= 16 && are_places(domain.sorts.len(), params)
+    params.len() <= SLOTS && are_places(domain.sorts.len(), params)
 }
 
 /// Where conditions of the domain stand.

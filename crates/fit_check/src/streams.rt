@@ -4,6 +4,7 @@ ghost use Rattle.std.specs.List.{list_all};
 ghost use Rattle.task_model.specs.Fit as fit;
 ghost use Rattle.lemmas.specs.Lists.{numbers_from};
 ghost use Rattle.fit_check.specs.Tests as tests;
+ghost use Rattle.task_model.specs.declared.limits.TheConstants.{SLOTS};
 
 use crate::conditions::is_fit_application;
 use crate::domain::are_fit_patterns;
@@ -31,7 +32,7 @@ fn are_fit_types(domain: &Domain, sorts: &[u32]) -> bool
 
 /// Whether these may be domain facts or certified facts, where the slots have values.
 fn are_fit_atoms(domain: &Domain, count: usize, patterns: &[Pattern]) -> bool
-    requires { count ≤ 16 }
+    requires { count ≤ SLOTS }
     ensures { result ≡ (fit.are_fit_patterns domain.now (length domain.now.constants)
         (numbers_from 0 count) patterns.now && fit.are_static_patterns domain.now patterns.now) }
 {

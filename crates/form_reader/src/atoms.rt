@@ -10,7 +10,7 @@ use crate::effects::is_total_cost;
 use crate::fault::{Fault, sooner};
 use crate::groups::{check_application, check_end};
 use crate::refused::is_end;
-use crate::words::WordSort;
+use crate::words::{WordSort, is_word};
 use sexpr_text::{Front, Tree, front_of};
 use task_model::is_number;
 
@@ -50,7 +50,7 @@ fn check_fact(place: usize, items: &[Tree], so_far: Option<Fault>) -> Option<Fau
 {
     match front_of(items) {
         Front::End => sooner(so_far, Fault::shape(place)),
-        Front::Word { text, rest, .. } if text == b"=".as_slice() => {
+        Front::Word { text, rest, .. } if is_word(text, b"=") => {
             check_valued(place, rest, so_far)
         }
         Front::Word { .. } => {
@@ -85,9 +85,7 @@ pub(crate) fn check_atoms(place: usize, items: &[Tree], so_far: Option<Fault>) -
 {
     match front_of(items) {
         Front::End => so_far,
-        Front::Word { text, rest, .. } if text == b"and".as_slice() => {
-            check_atom_rows(rest, so_far)
-        }
+        Front::Word { text, rest, .. } if is_word(text, b"and") => { check_atom_rows(rest, so_far) }
         Front::Word { .. } => {
             check_application(WordSort::Predicate, WordSort::Term, place, items, so_far)
         }

@@ -8,7 +8,7 @@ ghost use Rattle.form_reader.specs.Refused as specs;
 
 use crate::fault::{Fault, sooner};
 use crate::groups::head_of;
-use crate::words::{begins_with_digit, is_refused_in_atoms};
+use crate::words::{begins_with_digit, is_refused_in_atoms, is_word};
 use sexpr_text::{Front, Tree, front_of};
 
 /// Where lists are looked at.
@@ -26,7 +26,7 @@ impl Region {
         ensures { result ≡ specs.is_refused self (trees items.now) }
     {
         match self {
-            Region::Init => head_of(items) == b"not".as_slice() || is_timed(items),
+            Region::Init => is_word(head_of(items), b"not") || is_timed(items),
             Region::Atoms => is_refused_in_atoms(head_of(items)),
         }
     }
@@ -37,7 +37,7 @@ fn is_timed(items: &[Tree]) -> bool
     ensures { result ≡ specs.is_timed (trees items.now) }
 {
     match front_of(items) {
-        Front::Word { text, rest, .. } => text == b"at".as_slice() && is_time_and_list(rest),
+        Front::Word { text, rest, .. } => is_word(text, b"at") && is_time_and_list(rest),
         Front::End | Front::List { .. } => false,
     }
 }

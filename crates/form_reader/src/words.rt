@@ -1,6 +1,7 @@
 //! What words there are, and what a list's first word makes of the list.
 ghost use Rattle.std.specs.Prelude.{◌≡◌};
 ghost use Rattle.std.specs.Char.{is_ascii_digit};
+ghost use Rattle.std.specs.Str.{bytes_eq};
 ghost use Rattle.form_reader.specs.Words as specs;
 
 use task_model::is_name;
@@ -35,6 +36,14 @@ impl WordSort {
     }
 }
 
+/// Whether two words are the same. Most that aren't have two lengths, or two first letters.
+#[inline(always)]
+pub(crate) fn is_word(word: &[u8], other: &[u8]) -> bool
+    ensures { result ≡ bytes_eq word.now other.now }
+{
+    word.len() == other.len() && (word.is_empty() || word[0] == other[0]) && word == other
+}
+
 /// Whether the word is `?` and a name (PDDL 2.1).
 pub fn is_variable(word: &[u8]) -> bool
     ensures { result ≡ specs.is_variable word.now }
@@ -57,26 +66,26 @@ pub fn is_predicate_name(word: &[u8]) -> bool
 fn is_connective(word: &[u8]) -> bool
     ensures { result ≡ specs.is_connective word.now }
 {
-    word == b"and".as_slice()
-        || word == b"or".as_slice()
-        || word == b"not".as_slice()
-        || word == b"exists".as_slice()
-        || word == b"forall".as_slice()
-        || word == b"imply".as_slice()
-        || word == b"when".as_slice()
-        || word == b"preference".as_slice()
+    is_word(word, b"and")
+        || is_word(word, b"or")
+        || is_word(word, b"not")
+        || is_word(word, b"exists")
+        || is_word(word, b"forall")
+        || is_word(word, b"imply")
+        || is_word(word, b"when")
+        || is_word(word, b"preference")
 }
 
 #[tactic(auto, unfolding(crate::specs::Words::is_change))]
 fn is_change(word: &[u8]) -> bool
     ensures { result ≡ specs.is_change word.now }
 {
-    word == b"increase".as_slice()
-        || word == b"decrease".as_slice()
-        || word == b"assign".as_slice()
-        || word == b"scale-up".as_slice()
-        || word == b"scale-down".as_slice()
-        || word == b"either".as_slice()
+    is_word(word, b"increase")
+        || is_word(word, b"decrease")
+        || is_word(word, b"assign")
+        || is_word(word, b"scale-up")
+        || is_word(word, b"scale-down")
+        || is_word(word, b"either")
 }
 
 /// Whether the word begins with `:`.
@@ -123,19 +132,19 @@ pub enum ConditionHead {
 pub fn condition_head_of(word: &[u8]) -> ConditionHead
     ensures { result ≡ specs.condition_head_of word.now }
 {
-    if word == b"and".as_slice() {
+    if is_word(word, b"and") {
         return ConditionHead::And;
     }
-    if word == b"or".as_slice() {
+    if is_word(word, b"or") {
         return ConditionHead::Or;
     }
-    if word == b"not".as_slice() {
+    if is_word(word, b"not") {
         return ConditionHead::Not;
     }
-    if word == b"exists".as_slice() {
+    if is_word(word, b"exists") {
         return ConditionHead::Exists;
     }
-    if word == b"=".as_slice() {
+    if is_word(word, b"=") {
         return ConditionHead::Equal;
     }
     if is_refused_condition(word) {
@@ -148,14 +157,14 @@ pub fn condition_head_of(word: &[u8]) -> ConditionHead
 fn is_refused_condition(word: &[u8]) -> bool
     ensures { result ≡ specs.is_refused_condition word.now }
 {
-    word == b"forall".as_slice()
-        || word == b"imply".as_slice()
-        || word == b"when".as_slice()
-        || word == b"preference".as_slice()
-        || word == b"<".as_slice()
-        || word == b">".as_slice()
-        || word == b"<=".as_slice()
-        || word == b">=".as_slice()
+    is_word(word, b"forall")
+        || is_word(word, b"imply")
+        || is_word(word, b"when")
+        || is_word(word, b"preference")
+        || is_word(word, b"<")
+        || is_word(word, b">")
+        || is_word(word, b"<=")
+        || is_word(word, b">=")
 }
 
 /// What a list is in the place of an effect, by its first word (PDDL 2.1, IPC 2008).
@@ -178,13 +187,13 @@ pub enum EffectHead {
 pub fn effect_head_of(word: &[u8]) -> EffectHead
     ensures { result ≡ specs.effect_head_of word.now }
 {
-    if word == b"and".as_slice() {
+    if is_word(word, b"and") {
         return EffectHead::And;
     }
-    if word == b"not".as_slice() {
+    if is_word(word, b"not") {
         return EffectHead::Not;
     }
-    if word == b"increase".as_slice() {
+    if is_word(word, b"increase") {
         return EffectHead::Increase;
     }
     if is_refused_effect(word) {
@@ -197,12 +206,12 @@ pub fn effect_head_of(word: &[u8]) -> EffectHead
 fn is_refused_effect(word: &[u8]) -> bool
     ensures { result ≡ specs.is_refused_effect word.now }
 {
-    word == b"forall".as_slice()
-        || word == b"when".as_slice()
-        || word == b"assign".as_slice()
-        || word == b"decrease".as_slice()
-        || word == b"scale-up".as_slice()
-        || word == b"scale-down".as_slice()
+    is_word(word, b"forall")
+        || is_word(word, b"when")
+        || is_word(word, b"assign")
+        || is_word(word, b"decrease")
+        || is_word(word, b"scale-up")
+        || is_word(word, b"scale-down")
 }
 
 /// Whether no list in a stream's atoms may have this head (this project's profile).
@@ -210,9 +219,9 @@ fn is_refused_effect(word: &[u8]) -> bool
 pub(crate) fn is_refused_in_atoms(word: &[u8]) -> bool
     ensures { result ≡ specs.is_refused_in_atoms word.now }
 {
-    word == b"not".as_slice()
-        || word == b"or".as_slice()
-        || word == b"exists".as_slice()
-        || word == b"forall".as_slice()
-        || word == b"=".as_slice()
+    is_word(word, b"not")
+        || is_word(word, b"or")
+        || is_word(word, b"exists")
+        || is_word(word, b"forall")
+        || is_word(word, b"=")
 }

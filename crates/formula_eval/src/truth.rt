@@ -5,6 +5,7 @@ ghost use Rattle.task_model.specs.Fit.{IsFit};
 ghost use Rattle.task_model.specs.Truth.{atom_at, is_true};
 ghost use Rattle.formula_eval.specs.Judged.{truth_at, all_at, any_at, some_at, derived_at};
 ghost use Rattle.formula_eval.specs.Readable.{is_readable, are_readable};
+ghost use Rattle.task_model.specs.declared.limits.TheConstants.{SLOTS};
 
 use crate::env::Env;
 use crate::lookup::{have_types, object_of, objects_at};
@@ -92,7 +93,7 @@ fn some_tuple<L: Look>(
     env: &mut Env,
 ) -> bool
     requires fit { IsFit scene.now.task.now }
-    requires slots { first + length sorts.now ≤ 16 }
+    requires slots { first + length sorts.now ≤ SLOTS }
     requires readable { is_readable scene.now.task.now.domain body.now ≡ true }
     ensures value { result ≡ some_at scene.now.task.now.domain (L.known scene.now.look.now)
         scene.now.state.now depth first sorts.now body.now env.old }

@@ -4,7 +4,7 @@ ghost use Rattle.std.specs.Result.{IsErrAnd};
 ghost use Rattle.std.specs.IoError.{error_kind};
 ghost use Rattle.std.specs.declared.io.ErrorKind.TheVariants.{OutOfMemory};
 ghost use Rattle.gen_host.specs.Children.{untold};
-ghost use Rattle.io_world.specs.Faults.{last_count, Counts};
+ghost use Rattle.io_world.specs.Faults.{last_count};
 ghost use Rattle.io_world.specs.declared.host.HostFault.TheVariants.{Failed, Memory};
 
 use crate::Generator;

@@ -4,6 +4,7 @@ use Rattle.std.specs.List.{slice_split, after_first}
 use Rattle.std.specs.Io.BufRead.{strip_last}
 use Rattle.gen_lines.specs.declared.line_buf.Seen.{Seen}
 use Rattle.gen_lines.specs.declared.line_buf.Seen.TheVariants.{Line, Part, TooLong}
+use Rattle.gen_lines.specs.declared.line_buf.TheConstants.{LINE_BYTES}
 
 abbrev pub is_feed : ℕ → Bool
 is_feed b = b == 10
@@ -38,14 +39,14 @@ left_after held TooLong = held
 -- What the held bytes show.
 abbrev pub Shows : List ℕ → Seen → Type 0
 Shows held (Line line) =
-    (lines_of held ≡ line.now ∷ lines_of (after_first is_feed held)) × (length line.now < 1025)
-Shows held Part = (lines_of held ≡ []) × (length held < 1025)
-Shows held TooLong = (lines_of held ≡ []) × (length held ≡ 1025)
+    (lines_of held ≡ line.now ∷ lines_of (after_first is_feed held)) × (length line.now < LINE_BYTES)
+Shows held Part = (lines_of held ≡ []) × (length held < LINE_BYTES)
+Shows held TooLong = (lines_of held ≡ []) × (length held ≡ LINE_BYTES)
 
--- At most 1,024 bytes stand before the first line feed: so long is the first line as it came, with the carriage return
--- that is dropped.
+-- Fewer bytes than a buffer holds stand before the first line feed: so long is the first line as it came, with the
+-- carriage return that is dropped.
 abbrev pub IsFirstShort : List ℕ → Type 0
-IsFirstShort held = IfSome (position is_feed held) (λ count. count < 1025)
+IsFirstShort held = IfSome (position is_feed held) (λ count. count < LINE_BYTES)
 
 -- a line is shown only if it was so short as it came
 abbrev pub IsShownShort : List ℕ → Seen → Type 0

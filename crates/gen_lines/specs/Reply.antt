@@ -7,6 +7,8 @@ use Rattle.gen_lines.specs.declared.answer.Wanted.{Wanted}
 use Rattle.gen_lines.specs.declared.answer.Wanted.TheVariants.{Outputs, Number}
 use Rattle.gen_lines.specs.declared.answer.Why.{Why}
 use Rattle.gen_lines.specs.declared.answer.Why.TheVariants.{Word, Count, Value}
+use Rattle.gen_lines.specs.declared.spans.TheConstants.{YIELD_TUPLES}
+use Rattle.gen_lines.specs.declared.values.TheConstants.{VALUE_BYTES}
 use Rattle.task_model.specs.Numbers.{is_number}
 
 abbrev pub is_space : ℕ → Bool
@@ -32,7 +34,7 @@ is_value_byte b = nat_le 33 b && nat_le b 126 && not (is_reserved b)
 
 -- the text of an object that a generator gives: 1 to 64 such bytes
 unfoldable pub is_value : List ℕ → Bool
-is_value field = nat_le 1 (length field) && nat_le (length field) 64 && list_all is_value_byte field
+is_value field = nat_le 1 (length field) && nat_le (length field) VALUE_BYTES && list_all is_value_byte field
 
 -- Tuples
 
@@ -56,10 +58,10 @@ abbrev pub joined_tuples : List (List (List ℕ)) → List (List ℕ)
 joined_tuples [] = []
 joined_tuples (tuple ∷ tuples) = tuple ++ joined_tuples tuples
 
--- each tuple has this many fields, and there are at most 16
+-- each tuple has this many fields, and there are no more than a yield may hold
 abbrev pub are_of_width : ℕ → List (List (List ℕ)) → Bool
 are_of_width width tuples =
-    list_all (λ tuple. length tuple == width) tuples && nat_le (length tuples) 16
+    list_all (λ tuple. length tuple == width) tuples && nat_le (length tuples) YIELD_TUPLES
 
 -- Replies
 
@@ -112,7 +114,7 @@ reply_of line wanted = reply_of_fields wanted (fields line)
 -- a number of tuples and their values, as a stream with so many outputs may give them
 pub record IsRight (outputs : ℕ) (several : Bool) (tuples : ℕ) (values : List (List ℕ)) : Type 0 where
   pub some : 1 ≤ tuples
-  pub few : tuples ≤ 16
+  pub few : tuples ≤ YIELD_TUPLES
   pub one : several ≡ false → tuples ≡ 1
   pub test : outputs ≡ 0 → tuples ≡ 1
   pub count : length values ≡ tuples * outputs

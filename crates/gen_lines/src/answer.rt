@@ -2,6 +2,7 @@
 ghost use Rattle.std.specs.Prelude.{◌≡◌, ◌≤◌, length, drop};
 ghost use Rattle.gen_lines.specs.Reply.{end_reply, fields, number_reply, parted, reply_of, yield_reply};
 ghost use Rattle.gen_lines.specs.Told.{AreSpans, IfYield, IsNarrow, NoSpans, SpansLieIn, told};
+ghost use Rattle.gen_lines.specs.declared.line_buf.TheConstants.{LINE_LENGTH};
 
 use crate::fields::field_from;
 use crate::spans::{Spans, count_tuples, mark_values};
@@ -10,8 +11,9 @@ use task_model::number_of;
 /// What an answer to a request may be besides the word `end`.
 #[derive(Clone, Copy, Debug, PartialEq, Eq)]
 pub enum Wanted {
-    /// `yield` and one tuple of `width` values; if `several`, 1 to 16 of them, parted by fields
-    /// `|`. Tuples of no values aren't parted, so there is one.
+    /// `yield` and one tuple of `width` values; if `several`, up to
+    /// [`YIELD_TUPLES`](crate::YIELD_TUPLES) of them, parted by fields `|`. Tuples of no values
+    /// aren't parted, so there is one.
     Outputs {
         /// How many outputs the stream has, at most 8.
         width: usize,
@@ -48,11 +50,11 @@ pub enum Answer {
     Bad(Why),
 }
 
-/// What a line, without its line feed, says to a request of this kind. It has at most 1,024 bytes,
-/// and its fields are parted by spaces (this project's protocol). `Bad` never comes with
-/// `Why::TooLong`.
+/// What a line, without its line feed, says to a request of this kind. It has at most
+/// [`LINE_LENGTH`](crate::LINE_LENGTH) bytes, and its fields are parted by spaces (this project's
+/// protocol). `Bad` never comes with `Why::TooLong`.
 pub fn answer_of(line: &[u8], wanted: Wanted) -> Answer
-    requires line { length line.now ≤ 1024 }
+    requires line { length line.now ≤ LINE_LENGTH }
     requires wanted { IsNarrow wanted }
     ensures reply { told line.now result ≡ reply_of line.now wanted }
     ensures spans { SpansLieIn line.now wanted result }
@@ -106,7 +108,7 @@ fn number_answer(line: &[u8], from: usize) -> Answer
 /// The answer of a line that began with `yield`, by its fields from a place on.
 fn yield_answer(line: &[u8], from: usize, width: usize, bars: bool) -> Answer
     requires from { from ≤ length line.now }
-    requires line { length line.now ≤ 1024 }
+    requires line { length line.now ≤ LINE_LENGTH }
     requires width { width ≤ 8 }
     ensures reply { told line.now result
         ≡ yield_reply width (parted bars (fields (drop from line.now))) }

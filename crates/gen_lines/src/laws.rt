@@ -12,8 +12,8 @@ pub fn words_are_fields()
     ensures { WordsAreFields }
 {}
 
-/// A yield has 1 to 16 tuples, each of as many values as are wanted; more than one only where
-/// several are.
+/// A yield has at least one tuple and at most [`YIELD_TUPLES`](crate::YIELD_TUPLES), each of as
+/// many values as are wanted; more than one only where several are.
 pub fn yields_are_right()
     ensures { YieldsAreRight }
 {}

@@ -10,7 +10,7 @@ mod spans;
 mod values;
 
 pub use answer::{Answer, Wanted, Why, answer_of};
-pub use line_buf::{LINE_BYTES, LineBuf, Seen};
+pub use line_buf::{LINE_BYTES, LINE_LENGTH, LineBuf, Seen};
 pub use request::request_text;
-pub use spans::Spans;
+pub use spans::{Spans, YIELD_TUPLES};
 pub use values::{VALUE_BYTES, is_value};

@@ -8,7 +8,10 @@ ghost use Rattle.gen_lines.specs.Lines.{is_feed, left_after, IsShownShort, Shows
 use std::alloc::{AllocError, Global};
 use std::marker::Model;
 
-/// The bytes that a [`LineBuf`] holds at most: a line of 1,024 bytes and its line feed.
+/// The most bytes of a line as it came, without its line feed.
+pub const LINE_LENGTH: usize = 1024;
+
+/// The bytes that a [`LineBuf`] holds at most: those of a longest line and its line feed.
 pub const LINE_BYTES: usize = 1025;
 
 /// The bytes of a child that came and aren't taken as lines yet, at most [`LINE_BYTES`] of them.
@@ -20,13 +23,14 @@ pub struct LineBuf {
 
 impl Model for LineBuf {
     ghost use Rattle.std.specs.Prelude.{ℕ, List, ◌≤◌, drop, vec_len, vec_capacity};
+    ghost use Rattle.gen_lines.specs.declared.line_buf.TheConstants.{LINE_BYTES};
 
     ghost Value = { List ℕ };
 
     ghost view = { λ b. drop b.start b.bytes.items };
 
-    ghost invariant = { λ b. (b.start ≤ vec_len b.bytes) × (vec_len b.bytes ≤ 1025)
-        × (1025 ≤ vec_capacity b.bytes) };
+    ghost invariant = { λ b. (b.start ≤ vec_len b.bytes) × (vec_len b.bytes ≤ LINE_BYTES)
+        × (LINE_BYTES ≤ vec_capacity b.bytes) };
 }
 
 /// What the bytes that are held begin with.

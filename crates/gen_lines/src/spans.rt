@@ -2,14 +2,18 @@
 ghost use Rattle.std.specs.Prelude.{◌≡◌, ◌*◌, ◌≤◌, length, drop};
 ghost use Rattle.gen_lines.specs.Reply.{fields, joined_tuples, parted, parts_here};
 ghost use Rattle.gen_lines.specs.Told.{Marks, tuple_count};
+ghost use Rattle.gen_lines.specs.declared.line_buf.TheConstants.{LINE_LENGTH};
 
 use crate::fields::field_from;
 use crate::values::{is_bar, is_value};
 
+/// The most tuples that a yield may hold.
+pub const YIELD_TUPLES: u8 = 16;
+
 /// Where the values of a yield stand in its line.
 #[derive(Clone, Copy)]
 pub struct Spans {
-    /// How many tuples there are, 1 to 16.
+    /// How many tuples there are, 1 to [`YIELD_TUPLES`].
     pub tuples: u8,
     /// How many values each tuple has, at most 8.
     pub width: u8,
@@ -40,9 +44,6 @@ impl Spans {
     }
 }
 
-/// The most tuples that a yield may hold.
-const TUPLES: u8 = 16;
-
 /// How many tuples the fields from a place on make, if each has this many values and there aren't
 /// too many.
 pub(crate) fn count_tuples(line: &[u8], from: usize, width: usize, bars: bool) -> Option<u8>
@@ -55,7 +56,7 @@ pub(crate) fn count_tuples(line: &[u8], from: usize, width: usize, bars: bool) -
     'fields: while let Some(field) = field_from(line, at) {
         at = field.end;
         if parts_here(bars, &line[field.start..field.end]) {
-            if values != width || tuples == TUPLES {
+            if values != width || tuples == YIELD_TUPLES {
                 return None;
             }
             tuples += 1;
@@ -79,7 +80,7 @@ pub(crate) fn mark_values(
     width: u8,
 ) -> Option<Spans>
     requires from { from ≤ length line.now }
-    requires line { length line.now ≤ 1024 }
+    requires line { length line.now ≤ LINE_LENGTH }
     requires few { tuples * width ≤ 128 }
     requires count { length (joined_tuples (parted bars (fields (drop from line.now)))) ≡ tuples * width }
     ensures { Marks line.now (joined_tuples (parted bars (fields (drop from line.now)))) tuples width

@@ -1,6 +1,6 @@
 -- Clashes by places are those by names, and the least is found.
 use Rattle.std.proofs.Common.{◌≡◌, ◌≢◌, ℕ, ◌+◌, ◌<◌, ◌≤◌, ◌⊎◌, inl, inr, Bool, true, false, not, ◌&&◌, ◌==◌, List, length, refl, sym, subst, ap, ◌∙◌, arith, Option, Some, None, slice_get, eqb-true, eq-eqb, ne_eqb}
-use Rattle.std.proofs.lemmas.Bool.{and_from}
+use Rattle.std.proofs.lemmas.Bool.{and_from, cases_lt}
 use Rattle.std.proofs.lemmas.Cmp.{nat_list_cmp_total, on_total, then_total, tied_itself}
 use Rattle.std.proofs.lemmas.Option.{slice_get_within}
 use Rattle.std.specs.Cmp.{IsTotalOrder, first_so, second_so}
@@ -138,16 +138,10 @@ module _ (grid : GridFile) (world : World) where
       → StandsBeforePlaces one other pair ⊎ AtPlaces one other pair
   next_cases one other pair (inl less) = inl (inl less)
   next_cases one other pair (inr same) =
-      elim (or_here pair.1 other same.1) [ inl below ↦ inl (inr (same.0, below)) | inr here ↦ inr (same.0, here) ]
-    where
-      or_here : (m n : ℕ) → m < n + 1 → (m < n) ⊎ (m ≡ n)
-      or_here m n h = elim (m == n) as (λ b. (m == n) ≡ b → (m < n) ⊎ (m ≡ n)) [
-        | true ↦ λ e. inr (eqb-true m n e)
-        | false ↦ λ e. inl (below m n h (λ same. let both : true ≡ false = sym (eq-eqb m n same) ∙ e in absurd (cc)))
-      ] refl
-        where
-          below : (m n : ℕ) → m < n + 1 → m ≢ n → m < n
-          below m n h apart = omega arith
+      elim (cases_lt pair.1 other) [
+        | inl below ↦ inl (inr (same.0, below))
+        | inr above ↦ inr (same.0, omega (arith, above, same.1))
+      ]
 
   here_is : (one other : ℕ) (pair : Places) → AtPlaces one other pair → pair ≡ (one, other)
   here_is one other pair at = λ i. (at.0 i, at.1 i)

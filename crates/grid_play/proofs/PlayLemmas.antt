@@ -1,5 +1,6 @@
 -- The first fault of a plan is that of its first step with a fault.
-use Rattle.std.proofs.Common.{◌≡◌, ◌≢◌, ℕ, suc, ◌+◌, ◌-◌, ◌<◌, ◌≤◌, ◌⊎◌, inl, inr, true, false, ◌==◌, eqb-true, eq-eqb, List, [], ◌∷◌, ◌++◌, length, take, refl, sym, subst, ap, ◌∙◌, arith, Some, slice_get, append_assoc, length-take}
+use Rattle.std.proofs.Common.{◌≡◌, ◌≢◌, ℕ, suc, ◌+◌, ◌-◌, ◌<◌, ◌≤◌, inl, inr, List, [], ◌∷◌, ◌++◌, length, take, refl, sym, subst, ap, ◌∙◌, arith, Some, slice_get, append_assoc, length-take}
+use Rattle.std.proofs.lemmas.Bool.{cases_lt}
 use Rattle.std.proofs.lemmas.Option.{slice_get_within}
 use Rattle.lemmas.proofs.Members.{next_taken}
 use Rattle.grid_text.specs.Grids.{GridFile}
@@ -11,15 +12,6 @@ use Rattle.grid_play.specs.declared.play.PlayVerdict.{PlayVerdict}
 use Rattle.grid_play.specs.declared.play.PlayVerdict.TheVariants.{Safe, Strange, Outside, Obstacle, Clash}
 use Rattle.grid_play.proofs.StepLemmas.{world_next}
 use Rattle.transcript_model.specs.declared.entry.Call.{Call}
-
-less_or_same : (m n : ℕ) → m < n + 1 → (m < n) ⊎ (m ≡ n)
-less_or_same m n h = elim (m == n) as (λ b. (m == n) ≡ b → (m < n) ⊎ (m ≡ n)) [
-  | true ↦ λ e. inr (eqb-true m n e)
-  | false ↦ λ e. inl (below (λ same. let both : true ≡ false = sym (eq-eqb m n same) ∙ e in absurd (cc)))
-] refl
-  where
-    below : m ≢ n → m < n
-    below apart = omega arith
 
 -- ---- marks of more steps
 
@@ -116,13 +108,10 @@ module _ (grid : GridFile) (steps : List Call) where
     -- a step without a fault
     pub none_next : NoneUpTo k → IsStepVerdict grid world (k + 1) call Safe → NoneUpTo (k + 1)
     none_next none safe v has less =
-        elim (cases (fault_step v) less) [
+        elim (cases_lt (fault_step v) (k + 1)) [
           | inl earlier ↦ none v has earlier
-          | inr now ↦ safe v (to_step v has now)
+          | inr now ↦ safe v (to_step v has (omega (arith, less, now)))
         ]
-      where
-        cases : (n : ℕ) → n < k + 1 + 1 → (n < k + 1) ⊎ (n ≡ k + 1)
-        cases n less = less_or_same n (k + 1) less
 
     first_here : NoneUpTo k → (v : PlayVerdict)
         → ((other : PlayVerdict) → StepFault grid world (k + 1) call other → ¬ (fault_rank other < fault_rank v))

@@ -1,5 +1,6 @@
 -- What is wrong with a step, and worlds after more steps.
-use Rattle.std.proofs.Common.{◌≡◌, ◌≢◌, ℕ, ◌+◌, ◌<◌, Bool, true, false, List, [], ◌∷◌, ◌++◌, take, refl, sym, subst, ap, ◌∙◌, arith, Option, Some, None, slice_get, option_and_then}
+use Rattle.std.proofs.Common.{◌≡◌, ◌≢◌, ℕ, ◌+◌, ◌<◌, true, false, List, [], ◌∷◌, ◌++◌, take, refl, sym, subst, ap, ◌∙◌, arith, Option, Some, None, slice_get, option_and_then}
+use Rattle.lemmas.proofs.Bools.{not_both}
 use Rattle.lemmas.proofs.Members.{next_taken}
 use Rattle.grid_text.specs.Grids.{GridFile, area}
 use Rattle.grid_text.specs.Rects.{is_within}
@@ -67,9 +68,6 @@ laid_is grid world call step (Put block corner) name cells e safe laid =
     by (Some block) found e safe =
         let same : block ≡ found = cc in
         subst (λ (b : Block). (is_within (rect_at b corner) (area grid) ≡ true) × (is_blocked grid (rect_at b corner) ≡ false)) same safe
-
-not_true_false : (b : Bool) → b ≡ true → b ≡ false → ⊥
-not_true_false b t f = absurd (cc)
 
 some_none : {A : Type 0} (o : Option A) (x : A) → o ≡ Some x → o ≡ None → ⊥
 some_none o x s n = absurd (cc)
@@ -178,7 +176,7 @@ module _ (grid : GridFile) (world next : World) (step : ℕ) (call : Call)
       first (Strange j) other less = some_none (step_world grid world call) next made other.1
       first (Outside j n) other less =
           let same = one_place grid world call n name other.1 (rect_at found corner) other.2 lays in
-          not_true_false (is_within (rect_at found corner) (area grid)) is.2
+          not_both (is_within (rect_at found corner) (area grid)) is.2
           (ap (λ c. is_within c (area grid)) (sym same) ∙ other.3)
       first (Obstacle j n) other less = omega (arith, less)
       first (Clash j a b) other less = omega (arith, less)
@@ -206,10 +204,10 @@ module _ (grid : GridFile) (world next : World) (step : ℕ) (call : Call)
       below Safe other less = other
       below (Strange j) other less = some_none (step_world grid world call) next made other.1
       below (Outside j n) other less =
-          not_true_false (is_within other.1 (area grid))
+          not_both (is_within other.1 (area grid))
           (laid_is grid world call step action n other.1 move safe other.2).0 other.3
       below (Obstacle j n) other less =
-          not_true_false (is_blocked grid other.1) other.3
+          not_both (is_blocked grid other.1) other.3
           (laid_is grid world call step action n other.1 move safe other.2).1
       below (Clash j a b) other less = omega (arith, less)
 

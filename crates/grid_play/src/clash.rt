@@ -1,5 +1,5 @@
 //! Blocks that share a cell.
-ghost use Rattle.std.specs.Prelude.{◌≡◌, ◌+◌, ◌<◌, length};
+ghost use Rattle.std.specs.Prelude.{◌≡◌, ◌+◌, ◌<◌};
 ghost use Rattle.grid_play.specs.Faults as specs;
 ghost use Rattle.grid_play.specs.Clashes.{IsFirstClash, LeastBefore, is_before, is_clash};
 

@@ -1,5 +1,5 @@
 //! A plan acted out.
-ghost use Rattle.std.specs.Prelude.{◌≡◌, ◌^◌, ◌<◌, length, IfOk};
+ghost use Rattle.std.specs.Prelude.{◌^◌, ◌<◌, length, IfOk};
 ghost use Rattle.grid_play.specs.Faults.{IsActedOut};
 
 use crate::scene::{Scene, play_out};

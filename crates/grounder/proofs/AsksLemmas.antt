@@ -1,5 +1,5 @@
 -- What conditions ask of the atoms of a state.
-use Rattle.std.proofs.Common.{◌≡◌, ℕ, ◌<◌, ◌≤◌, zero, suc, Bool, true, false, not, ◌&&◌, ◌||◌, List, [], ◌∷◌, ◌++◌, length, map, All, get_or, set, nat_lt, length-append, inl, inr, Option, Some, None, option_map, slice_get, Contains, true≢false, refl, sym, ap, ◌∙◌, subst, arith}
+use Rattle.std.proofs.Common.{◌≡◌, ℕ, ◌<◌, ◌≤◌, zero, suc, Bool, true, false, not, ◌||◌, List, [], ◌∷◌, ◌++◌, length, map, All, get_or, set, nat_lt, length-append, inl, inr, Option, Some, None, option_map, slice_get, Contains, true≢false, refl, sym, ap, ◌∙◌, subst, arith}
 use Rattle.std.proofs.lemmas.Bool.{and_from, or_left, or_right, lt-ltb}
 use Rattle.std.proofs.lemmas.Option.{slice_get-map, slice_get-get_or, slice_get_within, get_or_from_slice_get, same_Some}
 use Rattle.std.specs.Cmp.{Equal-is, eq_by_cmp_equiv}
@@ -160,13 +160,13 @@ fluent_truth domain known state slots (Any parts) a is = absurd (cc)
 fluent_truth domain known state slots (Not part) a is = absurd (cc)
 fluent_truth domain known state slots (Exists first sorts body) a is = absurd (cc)
 
-module _ (domain : Domain) (rows : List (List ℕ)) (numbered : List facts.Atom) (row : ℕ) (args : List ℕ)
-    (at : slice_get rows row ≡ Some args) where
+module _ (domain : Domain) (rows : List (List ℕ)) (numbered : List facts.Atom) (place : ℕ) (args : List ℕ)
+    (at : slice_get rows place ≡ Some args) where
   -- the atom that a condition is with the arguments of a row
   pub number_at : (condition : Condition) (numbers : List ℕ) → AreNumbers domain condition rows numbered numbers
-      → (atom : facts.Atom) × (row < length numbers) × (fluent_in domain (slots_of args) condition ≡ Some atom)
-      × (slice_get numbered (get_or numbers row 0) ≡ Some atom)
-  number_at condition numbers are = by (slice_get numbers row) refl same
+      → (atom : facts.Atom) × (place < length numbers) × (fluent_in domain (slots_of args) condition ≡ Some atom)
+      × (slice_get numbered (get_or numbers place 0) ≡ Some atom)
+  number_at condition numbers are = by (slice_get numbers place) refl same
     where
       here : List ℕ → Option facts.Atom
       here args = fluent_in domain (slots_of args) condition
@@ -174,21 +174,21 @@ module _ (domain : Domain) (rows : List (List ℕ)) (numbered : List facts.Atom)
       of_number : ℕ → facts.Atom
       of_number n = get_or numbered n no_atom
 
-      same : option_map Some (option_map of_number (slice_get numbers row)) ≡ Some (here args)
+      same : option_map Some (option_map of_number (slice_get numbers place)) ≡ Some (here args)
       same =
-          ap (option_map Some) (sym (slice_get-map of_number numbers row))
-          ∙ sym (slice_get-map Some (row_atoms numbered numbers) row)
-          ∙ ap (λ xs. slice_get xs row) are.atoms ∙ slice_get-map here rows row ∙ ap (option_map here) at
+          ap (option_map Some) (sym (slice_get-map of_number numbers place))
+          ∙ sym (slice_get-map Some (row_atoms numbered numbers) place)
+          ∙ ap (λ xs. slice_get xs place) are.atoms ∙ slice_get-map here rows place ∙ ap (option_map here) at
 
-      by : (o : Option ℕ) → slice_get numbers row ≡ o
-          → option_map Some (option_map of_number (slice_get numbers row)) ≡ Some (here args)
-          → (atom : facts.Atom) × (row < length numbers) × (here args ≡ Some atom)
-          × (slice_get numbered (get_or numbers row 0) ≡ Some atom)
+      by : (o : Option ℕ) → slice_get numbers place ≡ o
+          → option_map Some (option_map of_number (slice_get numbers place)) ≡ Some (here args)
+          → (atom : facts.Atom) × (place < length numbers) × (here args ≡ Some atom)
+          × (slice_get numbered (get_or numbers place 0) ≡ Some atom)
       by None e h = absurd (cc)
       by (Some n) e h =
-          let within = slice_get_within numbers row n e in
-          let number : get_or numbers row 0 ≡ n = get_or_from_slice_get numbers row n 0 e in
-          let inside : n < length numbered = subst (λ m. m < length numbered) number (are.known row 0 within) in (
+          let within = slice_get_within numbers place n e in
+          let number : get_or numbers place 0 ≡ n = get_or_from_slice_get numbers place n 0 e in
+          let inside : n < length numbered = subst (λ m. m < length numbered) number (are.known place 0 within) in (
             of_number n,
             within,
             sym (same_Some (Some (of_number n)) (here args)
@@ -197,8 +197,8 @@ module _ (domain : Domain) (rows : List (List ℕ)) (numbered : List facts.Atom)
           )
 
 module _ (domain : Domain) (known : Known) (state : Atoms) (rows : List (List ℕ)) (numbered : List facts.Atom)
-    (marks : List Bool) (are : marks ≡ map (contains state) numbered) (row : ℕ) (args : List ℕ)
-    (at : slice_get rows row ≡ Some args) where
+    (marks : List Bool) (are : marks ≡ map (contains state) numbered) (place : ℕ) (args : List ℕ)
+    (at : slice_get rows place ≡ Some args) where
   abbrev is_open : Condition → Bool
   is_open part = is_part_open domain known state (slots_of args) part
 
@@ -211,23 +211,23 @@ module _ (domain : Domain) (known : Known) (state : Atoms) (rows : List (List �
 
   -- a number is within, and its mark tells whether the condition is true
   marked : (condition : Condition) (numbers : List ℕ) → AreNumbers domain condition rows numbered numbers
-      → (is_number_within row (length marks) numbers ≡ true) × (is_static_part domain condition ≡ false)
-      × (is_true domain known state condition (slots_of args) ≡ get_or marks (get_or numbers row 0) true)
+      → (is_number_within place (length marks) numbers ≡ true) × (is_static_part domain condition ≡ false)
+      × (is_true domain known state condition (slots_of args) ≡ get_or marks (get_or numbers place 0) true)
   marked condition numbers asked =
-      let found = number_at domain rows numbered row args at condition numbers asked in
-      let mark = mark_at (get_or numbers row 0) found.0 found.3 in
+      let found = number_at domain rows numbered place args at condition numbers asked in
+      let mark = mark_at (get_or numbers place 0) found.0 found.3 in
       let truth = fluent_truth domain known state (slots_of args) condition found.0 found.2 in (
-        and_from (nat_lt row (length numbers)) (nat_lt (get_or numbers row 0) (length marks))
-            (lt-ltb row (length numbers) found.1) (lt-ltb (get_or numbers row 0) (length marks) mark.0),
+        and_from (nat_lt place (length numbers)) (nat_lt (get_or numbers place 0) (length marks))
+            (lt-ltb place (length numbers) found.1) (lt-ltb (get_or numbers place 0) (length marks) mark.0),
         truth.0,
         truth.1 ∙ sym mark.1,
       )
 
   -- what is asked of one of the atoms is asked of one that has a mark, and is so where the part is open
   pub record Told (part : Condition) (ask : Ask) : Type 0 where
-    pub within : is_within row (length marks) ask ≡ true
-    pub unmet : is_met marks row ask ≡ false → is_open part ≡ false
-    pub met : is_met marks row ask ≡ true → IsMetBy domain known state (slots_of args) part ask
+    pub within : is_within place (length marks) ask ≡ true
+    pub unmet : is_met marks place ask ≡ false → is_open part ≡ false
+    pub met : is_met marks place ask ≡ true → IsMetBy domain known state (slots_of args) part ask
 
   told : (part : Condition) (ask : Ask) → IsAsk domain part rows numbered ask → Told part ask
   told part Nothing is = record {
@@ -237,12 +237,12 @@ module _ (domain : Domain) (known : Known) (state : Atoms) (rows : List (List �
   }
   told part (There numbers) is =
       let one = marked part numbers is in
-      let open_is : is_open part ≡ get_or marks (get_or numbers row 0) true =
+      let open_is : is_open part ≡ get_or marks (get_or numbers place 0) true =
       ap (λ b. b || is_true domain known state part (slots_of args)) one.1 ∙ one.2 in
       record { within = one.0; unmet = λ e. open_is ∙ e; met = λ e. open_is ∙ e }
   told part (Missing numbers) is =
       let one = marked is.inner numbers is.asked in
-      let open_is : is_open part ≡ not (get_or marks (get_or numbers row 0) true) = ap is_open is.negated ∙ ap not one.2 in
+      let open_is : is_open part ≡ not (get_or marks (get_or numbers place 0) true) = ap is_open is.negated ∙ ap not one.2 in
       record { within = one.0; unmet = λ e. open_is ∙ e; met = λ e. open_is ∙ e }
   told part Judged is = record { within = refl; unmet = λ e. absurd (true≢false e); met = λ e. is }
 
@@ -253,20 +253,20 @@ module _ (domain : Domain) (known : Known) (state : Atoms) (rows : List (List �
         let part = get_there parts k (omega (arith, slice_get_within asks k ask e, told_of.places)) in
         (part.0, part.1, told part.0 ask (told_of.each k part.0 ask part.1 e))
 
-    pub all_within : list_all (is_within row (length marks)) asks ≡ true
-    all_within = all_from (is_within row (length marks)) asks (λ k ask e. (at_place k ask e).2.within)
+    pub all_within : list_all (is_within place (length marks)) asks ≡ true
+    all_within = all_from (is_within place (length marks)) asks (λ k ask e. (at_place k ask e).2.within)
 
-    pub all_met : list_all (is_met marks row) asks ≡ true → AreMet domain known state (slots_of args) parts asks
+    pub all_met : list_all (is_met marks place) asks ≡ true → AreMet domain known state (slots_of args) parts asks
     all_met all = record {
       places = told_of.places;
-      each = λ k part ask p a. (told part ask (told_of.each k part ask p a)).met (all_at (is_met marks row) asks k ask all a);
+      each = λ k part ask p a. (told part ask (told_of.each k part ask p a)).met (all_at (is_met marks place) asks k ask all a);
     }
 
-    pub some_unmet : list_all (is_met marks row) asks ≡ false → list_all is_open parts ≡ false
+    pub some_unmet : list_all (is_met marks place) asks ≡ false → list_all is_open parts ≡ false
     some_unmet none = by (list_all is_open parts) refl
       where
         one_met : list_all is_open parts ≡ true → (k : ℕ) (ask : Ask) → slice_get asks k ≡ Some ask
-            → (b : Bool) → is_met marks row ask ≡ b → is_met marks row ask ≡ true
+            → (b : Bool) → is_met marks place ask ≡ b → is_met marks place ask ≡ true
         one_met all k ask e true f = f
         one_met all k ask e false f =
             let here = at_place k ask e in
@@ -276,7 +276,7 @@ module _ (domain : Domain) (known : Known) (state : Atoms) (rows : List (List �
         by false e = e
         by true e =
             absurd (true≢false
-            (sym (all_from (is_met marks row) asks (λ k ask at. one_met e k ask at (is_met marks row ask) refl)) ∙ none))
+            (sym (all_from (is_met marks place) asks (λ k ask at. one_met e k ask at (is_met marks place ask) refl)) ∙ none))
 
 -- the rows of an action are short where it has few parameters
 pub short_rows : (domain : Domain) (known : Known) (action : Action) (rows : List (List ℕ))

@@ -41,21 +41,21 @@ pub record AreAsks (domain : Domain) (parts : List Condition) (rows : List (List
 
 -- a number stands at this place, and it is one of so many
 abbrev pub is_number_within : ℕ → ℕ → List ℕ → Bool
-is_number_within row count numbers = nat_lt row (length numbers) && nat_lt (slice_index_or numbers row 0) count
+is_number_within place count numbers = nat_lt place (length numbers) && nat_lt (slice_index_or numbers place 0) count
 
--- what is asked for the row is asked of one of so many atoms
+-- what is asked for the row at this place is asked of one of so many atoms
 abbrev pub is_within : ℕ → ℕ → Ask → Bool
-is_within row count Nothing = true
-is_within row count (There numbers) = is_number_within row count numbers
-is_within row count (Missing numbers) = is_number_within row count numbers
-is_within row count Judged = true
+is_within place count Nothing = true
+is_within place count (There numbers) = is_number_within place count numbers
+is_within place count (Missing numbers) = is_number_within place count numbers
+is_within place count Judged = true
 
--- what is asked for the row is so, as far as these marks of atoms say
+-- what is asked for the row at this place is so, as far as these marks of atoms say
 abbrev pub is_met : List Bool → ℕ → Ask → Bool
-is_met marks row Nothing = true
-is_met marks row (There numbers) = slice_index_or marks (slice_index_or numbers row 0) true
-is_met marks row (Missing numbers) = not (slice_index_or marks (slice_index_or numbers row 0) true)
-is_met marks row Judged = true
+is_met marks place Nothing = true
+is_met marks place (There numbers) = slice_index_or marks (slice_index_or numbers place 0) true
+is_met marks place (Missing numbers) = not (slice_index_or marks (slice_index_or numbers place 0) true)
+is_met marks place Judged = true
 
 -- it is to be judged
 abbrev pub is_judged : Ask → Bool

@@ -14,12 +14,13 @@ use Rattle.grounder.specs.declared.asks.Ask.{Ask}
 use Rattle.grounder.specs.declared.candidates.Candidates.{Candidates}
 use Rattle.grounder.specs.declared.finder.StepFinder.{StepFinder}
 use Rattle.grounder.specs.declared.finder.Table.{Table}
+use Rattle.task_model.specs.declared.limits.TheConstants.{SLOTS}
 
 -- each action has a place, and the rows that stand there are short enough for its slots
 pub record AreShort (task : Task) (candidates : Candidates) : Type 0 where
   pub places : length candidates.actions ≡ length task.domain.actions
   pub each : (number : ℕ) (rows : List (List ℕ)) → slice_get candidates.actions number ≡ Some (Some rows)
-      → All (λ args. length args ≤ 16) rows
+      → All (λ args. length args ≤ SLOTS) rows
 
 -- Each action has a place, and where rows are kept of it, what stands there is what its condition asks for these.
 pub record AreAllAsks (task : Task) (candidates : Candidates) (numbered : List Atom) (asks : List (List Ask)) : Type 0 where

@@ -1,5 +1,5 @@
 //! What conditions ask of the atoms of a state.
-ghost use Rattle.std.specs.Prelude.{◌≡◌, ◌≤◌, ℕ, List, length, map, true, All, IfOk, IfSome, Some};
+ghost use Rattle.std.specs.Prelude.{◌≡◌, ◌≤◌, length, map, true, All, IfOk, IfSome, Some};
 ghost use Rattle.std.specs.List.{list_all};
 ghost use Rattle.formula_eval.specs.Readable.{is_readable};
 ghost use Rattle.lemmas.specs.Lists.{AreDistinct};
@@ -9,11 +9,11 @@ ghost use Rattle.task_model.specs.State.{contains};
 ghost use Rattle.task_model.specs.Truth.{slots_of};
 ghost use Rattle.grounder.specs.Asks.{AreAsks, AreNumbers, IsAsk, is_met, is_within};
 ghost use Rattle.grounder.specs.Parts.{fluent_in, tops_of};
+ghost use Rattle.task_model.specs.declared.limits.TheConstants.{SLOTS};
 
 use crate::atoms::{fluent_atom, static_atom, tops};
 use formula_eval::Env;
-use indexmap::IndexSet;
-use state_store::numbers_of;
+use state_store::{AtomSet, numbers_of};
 use std::alloc::{AllocError, Global};
 use task_model::{Atom, Domain, Formula, FormulaNode, Seq, State, Wide};
 
@@ -52,7 +52,7 @@ fn atoms_for(
 ) -> Result<Option<Vec<Atom>>, AllocError>
     requires fit { IsFitDomain domain.now }
     requires readable { is_readable domain.now condition.now ≡ true }
-    requires few { All (λ args. length args ≤ 16) rows.now }
+    requires few { All (λ args. length args ≤ SLOTS) rows.now }
     ensures { IfOk result (λ found. IfSome found (λ atoms. map Some atoms.items
         ≡ map (λ args. fluent_in domain.now (slots_of args) condition.now) rows.now)) }
 {
@@ -71,14 +71,14 @@ fn atoms_for(
 /// Fails only where memory is wanting.
 fn numbers_for(
     alloc: Global,
-    numbered: &mut IndexSet<Atom>,
+    numbered: &mut AtomSet,
     domain: &Domain,
     condition: &Formula,
     rows: &[Wide],
 ) -> Result<Option<Seq<u32>>, AllocError>
     requires fit { IsFitDomain domain.now }
     requires readable { is_readable domain.now condition.now ≡ true }
-    requires few { All (λ args. length args ≤ 16) rows.now }
+    requires few { All (λ args. length args ≤ SLOTS) rows.now }
     requires numbered { AreDistinct numbered.old.keys }
     ensures numbers { IfOk result (λ found. IfSome found
         (AreNumbers domain.now condition.now rows.now numbered.new.keys)) }
@@ -95,14 +95,14 @@ fn numbers_for(
 /// What the part asks of a state for these rows of arguments. Fails only where memory is wanting.
 fn ask_of(
     alloc: Global,
-    numbered: &mut IndexSet<Atom>,
+    numbered: &mut AtomSet,
     domain: &Domain,
     part: &Formula,
     rows: &[Wide],
 ) -> Result<Ask, AllocError>
     requires fit { IsFitDomain domain.now }
     requires readable { is_readable domain.now part.now ≡ true }
-    requires few { All (λ args. length args ≤ 16) rows.now }
+    requires few { All (λ args. length args ≤ SLOTS) rows.now }
     requires numbered { AreDistinct numbered.old.keys }
     ensures ask { IfOk result (IsAsk domain.now part.now rows.now numbered.new.keys) }
     ensures grows { AddsAtoms numbered.old.keys numbered.new.keys }
@@ -127,14 +127,14 @@ fn ask_of(
 /// where memory is wanting.
 pub(crate) fn asks_of(
     alloc: Global,
-    numbered: &mut IndexSet<Atom>,
+    numbered: &mut AtomSet,
     domain: &Domain,
     condition: &Formula,
     rows: &[Wide],
 ) -> Result<Seq<Ask>, AllocError>
     requires fit { IsFitDomain domain.now }
     requires readable { is_readable domain.now condition.now ≡ true }
-    requires few { All (λ args. length args ≤ 16) rows.now }
+    requires few { All (λ args. length args ≤ SLOTS) rows.now }
     requires numbered { AreDistinct numbered.old.keys }
     ensures asks { IfOk result
         (AreAsks domain.now (tops_of condition.now) rows.now numbered.new.keys) }
@@ -151,7 +151,7 @@ pub(crate) fn asks_of(
 /// Of each of the atoms, whether it is in the state. Fails only where memory is wanting.
 pub(crate) fn marks_of(
     alloc: Global,
-    numbered: &IndexSet<Atom>,
+    numbered: &AtomSet,
     state: &State,
 ) -> Result<Vec<bool>, AllocError>
     requires { AreDistinct numbered.now.keys }

@@ -12,8 +12,9 @@ use crate::asks::{Ask, are_met, asks_of, marks_of};
 use crate::candidates::Candidates;
 use crate::steps::{Scene, add_steps};
 use formula_memo::Memo;
-use indexmap::IndexSet;
+use state_store::AtomSet;
 use std::alloc::{AllocError, Global};
+use std::hash::BuildHasherDefault;
 use task_model::{Atom, GroundAction, Look, Obj, Seq, State, Task, Wide};
 
 /// The rows of an action, what its condition asks for each, and which of the numbered atoms are in the
@@ -80,7 +81,7 @@ fn add_from_rows<L: Look>(
 /// is wanting.
 fn all_asks(
     alloc: Global,
-    numbered: &mut IndexSet<Atom>,
+    numbered: &mut AtomSet,
     task: &Task,
     candidates: &Candidates,
 ) -> Result<Seq<Seq<Ask>>, AllocError>
@@ -108,7 +109,7 @@ fn all_asks(
 pub struct StepFinder {
     candidates: Candidates,
     /// The atoms of fluents that conditions ask for or forbid, each known by its place.
-    atoms: IndexSet<Atom>,
+    atoms: AtomSet,
     /// What the parts at the top of each action's condition ask.
     asks: Seq<Seq<Ask>>,
 }
@@ -125,7 +126,7 @@ impl StepFinder {
         ensures { IfOk result (FindsSteps task.now (L.known look.now)) }
     {
         let candidates = Candidates::new(alloc, task, look, most)?;
-        let mut atoms = IndexSet::new(alloc);
+        let mut atoms = AtomSet::with_hasher(alloc, BuildHasherDefault::new());
         match all_asks(alloc, &mut atoms, task, &candidates) {
             Ok(asks) => Ok(StepFinder {
                 candidates,

@@ -7,6 +7,7 @@ ghost use Rattle.grounder.specs.Asks.{AreMet};
 ghost use Rattle.grounder.specs.Parts.{tops_of};
 ghost use Rattle.grounder.specs.Candidates.{can_go_on};
 ghost use Rattle.grounder.specs.Listing.{AddsSteps, AreArguments};
+ghost use Rattle.task_model.specs.declared.limits.TheConstants.{SLOTS};
 
 use crate::asks::Ask;
 use crate::atoms::{static_atoms, tops};
@@ -31,10 +32,11 @@ impl<'a, L: Look> Wanted for Scene<'a, L> {
     ghost use Rattle.std.specs.Prelude.{◌≡◌, ◌≤◌, length, true};
     ghost use Rattle.task_model.specs.Fit.{IsFit, is_fit_action};
     ghost use Rattle.grounder.specs.Listing.{can_take};
+    ghost use Rattle.task_model.specs.declared.limits.TheConstants.{SLOTS};
 
     ghost can_judge = { λ scene args. IsFit scene.task.now
         × (is_fit_action scene.task.now.domain scene.action.now ≡ true)
-        × (length args ≤ 16) };
+        × (length args ≤ SLOTS) };
 
     ghost wants = { λ scene args. can_take scene.task.now (L.known scene.look.now) scene.state.now
         scene.action.now args };
@@ -59,7 +61,7 @@ impl<'a, L: Look> Scene<'a, L> {
     pub(crate) fn can_go(&self, memo: &mut Memo, args: &[Obj], asks: &[Ask]) -> bool
         requires fit { IsFit self.now.task.now }
         requires action { is_fit_action self.now.task.now.domain self.now.action.now ≡ true }
-        requires few { length args.now ≤ 16 }
+        requires few { length args.now ≤ SLOTS }
         requires met { AreMet self.now.task.now.domain (L.known self.now.look.now) self.now.state.now
             (slots_of args.now) (tops_of self.now.action.now.condition) asks.now }
         requires stands { StandsFor self.now.task.now.domain (L.known self.now.look.now)

@@ -9,8 +9,9 @@ use fact_store::Facts;
 use indexmap::IndexMap;
 use instance_search::{is_reachable, stream_of};
 use std::alloc::{AllocError, Global};
+use std::hash::BuildHasherDefault;
 use std::marker::Model;
-use task_model::{Instance, Stream, Task};
+use task_model::{Instance, NumberHasher, Stream, Task};
 
 /// What an instance was told: a tuple, or that nothing more comes.
 #[derive(Drop)]
@@ -26,11 +27,14 @@ struct Tally {
     ended: bool,
 }
 
+/// What the notes say, by instances.
+type Tallies = IndexMap<Instance, Tally, BuildHasherDefault<NumberHasher>>;
+
 /// The answers that were noted, one after another. It is seen as the list of these notes.
 #[derive(Drop)]
 pub struct Queue {
     notes: Vec<Noted>,
-    tallies: IndexMap<Instance, Tally>,
+    tallies: Tallies,
     alloc: Global,
 }
 
@@ -69,7 +73,8 @@ impl Queue {
     pub fn new(alloc: Global, task: &Task) -> Result<Queue, AllocError>
         ensures { IfOk result (λ queue. queue ≡ []) }
     {
-        let tallies = IndexMap::with_capacity(alloc, task.streams.len())?;
+        let room = task.streams.len();
+        let tallies = IndexMap::with_capacity_and_hasher(alloc, room, BuildHasherDefault::new())?;
         Ok(Queue {
             notes: Vec::new(alloc),
             tallies,

@@ -170,6 +170,6 @@ pub fn found_instances<L: Look, S: Sought>(
         (S.seeks sought.now)) []) }
 {
     let mut instances = found(alloc, task, look, sought, most)?;
-    instances.sort_unstable_by(|a, b| compare(names, a, b));
+    instances.sort_by(|a, b| compare(names, a, b))?;
     Ok(instances)
 }

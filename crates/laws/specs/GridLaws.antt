@@ -20,6 +20,7 @@ use Rattle.transcript_model.specs.Tables.{Answers, TableRow, reply_in}
 use Rattle.transcript_model.specs.declared.entry.Entry.{Entry}
 use Rattle.transcript_model.specs.declared.outcome.LimitKind.TheVariants.{States}
 use Rattle.transcript_model.specs.declared.outcome.Outcome.TheVariants as outcome
+use Rattle.stream_map.specs.declared.pools.TheConstants.{GRID_CHILD}
 
 -- ---- the grid's generator
 
@@ -38,12 +39,12 @@ GridTasksHaveStreams =
 
 -- ---- runs of `generate`
 
--- In a run of `generate` no other child is asked than that of the grid's generator, which is child 16.
+-- In a run of `generate` no other child is asked than GRID_CHILD, the grid's generator.
 abbrev pub MadeRunsAskOneChild : Type 0
 MadeRunsAskOneChild =
     (words : List (List ℕ)) (outside : Outside) (status : Status) (text : List ℕ) (n : ℕ)
     → command_of words ≡ Some (generate n) → (has : HasOutcome words outside status text) (child : ℕ)
-    → 0 < count_to child (requests_of has.run.task (workers_in has.run.head) has.run.entries) → child ≡ 16
+    → 0 < count_to child (requests_of has.run.task (workers_in has.run.head) has.run.entries) → child ≡ GRID_CHILD
 
 -- Where each child that was asked is the grid's generator, started with the text of the number's grid, the children of
 -- a run of `generate` speak by that grid's answers.

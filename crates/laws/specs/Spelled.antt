@@ -20,6 +20,7 @@ use Rattle.transcript_model.specs.declared.head.Pool.{Pool}
 use Rattle.transcript_model.specs.declared.outcome.LimitKind.TheVariants.{States}
 use Rattle.transcript_model.specs.declared.outcome.Outcome.{Outcome}
 use Rattle.transcript_model.specs.declared.outcome.Outcome.TheVariants as outcome
+use Rattle.stream_map.specs.declared.pools.TheConstants.{GRID_CHILD}
 
 -- ---- runs
 
@@ -82,11 +83,12 @@ OneTalkOneRun =
     → HasTold first child talk → HasTold second child talk
     → SpellsOne first.run.entries second.run.entries first.outcome second.outcome
 
--- So it is with two runs of `generate` for one number of whose child 16, the grid's generator, the same talk is told.
+-- So it is with two runs of `generate` for one number, of whose child GRID_CHILD, the grid's generator, the same talk
+-- is told.
 abbrev pub OneTalkOneMadeRun : Type 0
 OneTalkOneMadeRun =
     (words others : List (List ℕ)) (outside after : Outside) (status end : Status) (text line : List ℕ) (n : ℕ)
     (talk : Talk) → command_of words ≡ Some (generate n) → command_of others ≡ Some (generate n)
     → (first : HasOutcome words outside status text) (second : HasOutcome others after end line)
-    → HasTold first 16 talk → HasTold second 16 talk
+    → HasTold first GRID_CHILD talk → HasTold second GRID_CHILD talk
     → SpellsOne first.run.entries second.run.entries first.outcome second.outcome

@@ -2,7 +2,8 @@
 //! cite a constant by its name, so that no clause of theirs fixes its value; these laws do.
 ghost use Rattle.command_line.specs.declared.number.TheConstants.{DEFAULT_CALLS, DEFAULT_DEPTH, DEFAULT_STATES, LATEST_PROTOCOL, MOST_RESTARTS};
 ghost use Rattle.fact_store.specs.declared.facts.TheConstants.{MOST_NAMES};
-ghost use Rattle.gen_lines.specs.declared.line_buf.TheConstants.{LINE_BYTES};
+ghost use Rattle.gen_lines.specs.declared.line_buf.TheConstants.{LINE_BYTES, LINE_LENGTH};
+ghost use Rattle.gen_lines.specs.declared.spans.TheConstants.{YIELD_TUPLES};
 ghost use Rattle.gen_lines.specs.declared.values.TheConstants.{VALUE_BYTES};
 ghost use Rattle.grid_text.specs.Tasks.{grid_task};
 ghost use Rattle.grid_world.specs.declared.service.TheConstants.{MOST_LINES};
@@ -10,6 +11,7 @@ ghost use Rattle.io_world.specs.declared.host.TheConstants.{CHILDREN};
 ghost use Rattle.laws.specs.GridTexts.{grid_domain_text, grid_streams_text};
 ghost use Rattle.report_reader.specs.declared.reader.TheConstants.{REPORT_BYTES};
 ghost use Rattle.std.specs.Prelude.{ℕ, ◌≡◌, ◌*◌, ◌^◌};
+ghost use Rattle.stream_map.specs.declared.pools.TheConstants.{GRID_CHILD};
 ghost use Rattle.task_model.specs.declared.limits.TheConstants.{LARGEST_COUNT, LARGEST_NUMBER, MOST_DUE, MOST_STATES, MOST_SUPPOSED, SLOTS};
 ghost use Rattle.task_reader.specs.declared.texts.TheConstants.{TEXT_BYTES};
 ghost use Rattle.transcript_model.specs.declared.limits.TheConstants.{MOST_CALLS, MOST_DEPTH, WORKERS};
@@ -35,11 +37,14 @@ pub fn limits_have_their_values()
 {}
 
 /// At most 20,000 entries are supposed at a time, counts and the numbers of a report go up to
-/// 2^32 - 1, and an action, an item or a stream has at most 16 slots.
+/// 2^32 - 1, an action, an item or a stream has at most 16 slots, and a yield at most 16 tuples.
+/// The grid's generator is child 16.
 pub fn counts_have_their_values()
     ensures supposed { MOST_SUPPOSED ≡ 20000 }
     ensures count { LARGEST_COUNT ≡ 4294967295 }
     ensures slots { SLOTS ≡ 16 }
+    ensures tuples { YIELD_TUPLES ≡ 16 }
+    ensures grid { GRID_CHILD ≡ 16 }
 {}
 
 /// Where the words name no limit, a run makes at most 10,000 requests, a search goes through at
@@ -50,12 +55,13 @@ pub fn defaults_have_their_values()
     ensures depth { DEFAULT_DEPTH ≡ 3 }
 {}
 
-/// Texts have at most 4 MiB, reports at most 256 MiB, and 1,025 bytes of a child are held: a line
-/// of at most 1,024 and its line feed.
+/// Texts have at most 4 MiB, reports at most 256 MiB, lines of a child at most 1,024 bytes, and
+/// 1,025 of its bytes are held: a line and its line feed.
 pub fn lengths_have_their_values()
     ensures texts { TEXT_BYTES ≡ 4 * 2 ^ 20 }
     ensures reports { REPORT_BYTES ≡ 256 * 2 ^ 20 }
-    ensures lines { LINE_BYTES ≡ 1025 }
+    ensures line { LINE_LENGTH ≡ 1024 }
+    ensures held { LINE_BYTES ≡ 1025 }
 {}
 
 /// The task of the grid of each number has this domain and these streams.

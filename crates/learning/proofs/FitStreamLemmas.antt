@@ -7,6 +7,7 @@ use Rattle.std.specs.Cmp.{first_so, second_so}
 use Rattle.std.specs.List.{list_all}
 use Rattle.formula_eval.proofs.ReadableLemmas.{few_slots, few_arguments, readable_terms}
 use Rattle.formula_eval.specs.Readable.{is_readable_term}
+use Rattle.learning.specs.Tuples.{ArePlain}
 use Rattle.task_model.specs.Fit.{IsFitDomain, is_fit_stream, is_fit_pattern, are_fit_patterns, is_fit_application, has_arity, is_short, are_places, are_static_patterns, is_fit_worth}
 use Rattle.task_model.specs.Known.{IsIn}
 use Rattle.lemmas.specs.Lists.{numbers_from}
@@ -42,12 +43,6 @@ module _ (signatures : List Signature) (few : list_all (λ (s : Signature). nat_
       readable_terms constants (numbers_from 0 n) args (few_slots n most) (second_so (has_arity signatures place (length args)) _ fit)
 
 -- ---- patterns
-
--- what is asked of patterns before their atoms are learnt
-pub record ArePlain (names : List (List ℕ)) (args : List ℕ) (patterns : List Pattern) : Type 0 where
-  pub short : All (λ (p : Pattern). length p.args ≤ 8) patterns
-  pub readable : All (λ (p : Pattern). list_all is_readable_term p.args ≡ true) patterns
-  pub named : All (λ (p : Pattern). All (IsIn names) (objects_at (slots_of args) p.args)) patterns
 
 module _ (domain : Domain) (fit : IsFitDomain domain) (names : List (List ℕ))
     (constants : length domain.constants ≤ length names) (args : List ℕ) (few : length args ≤ 16) (all : All (IsIn names) args) where

@@ -13,6 +13,11 @@ use Rattle.transcript_model.specs.declared.entry.Entry.{Entry}
 use Rattle.transcript_model.specs.declared.entry.Entry.TheVariants as entry
 use Rattle.transcript_model.specs.declared.limits.TheConstants.{MOST_CALLS}
 use Rattle.fact_store.specs.declared.facts.TheConstants.{MOST_NAMES}
+use Rattle.learning.specs.declared.learn.Asked.{Asked as Lent}
+
+-- the instance that is lent, with its stream
+abbrev pub asked_by : Lent → Asked
+asked_by a = record { stream = a.stream.now; instance = a.instance.now }
 
 -- there is room for so many tuples of so many values, each as wide as the stream says
 pub record IsRoomFor (known : Known) (notes : List Note) (stream : Stream) (tuples : ℕ)

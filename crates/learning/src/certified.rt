@@ -7,6 +7,7 @@ ghost use Rattle.task_model.specs.Initial.{type_facts};
 ghost use Rattle.task_model.specs.Known.{type_fact as type_of};
 ghost use Rattle.task_model.specs.Streams.{certified_by, output_types, fact_of};
 ghost use Rattle.task_model.specs.Truth.{slots_of};
+ghost use Rattle.task_model.specs.declared.limits.TheConstants.{SLOTS};
 
 use formula_eval::{Env, objects_at};
 use std::alloc::{AllocError, Global};
@@ -84,7 +85,7 @@ fn add_atoms(
     patterns: &[Pattern],
     args: &[Obj],
 ) -> Result<(), AllocError>
-    requires few { length args.now ≤ 16 }
+    requires few { length args.now ≤ SLOTS }
     requires short { All (λ p. length p.args ≤ 8) patterns.now }
     requires readable { All (λ p. list_all is_readable_term p.args ≡ true) patterns.now }
     ensures { OnOk result (facts.new.items

@@ -109,6 +109,8 @@ impl Knowledge {
     /// is put behind what is known and noted after the entries before that place. The transcript is
     /// legal. Fails only where memory is wanting; then a part of it may be known and noted, and
     /// nothing else. What was asked and is unanswered stays.
+    // Ten clauses: four of what it goes on from, and one of each part of the knowledge, for which
+    // callers ask one by one.
     pub fn learn(
         &mut self,
         alloc: Global,
@@ -137,6 +139,8 @@ impl Knowledge {
 
     /// Takes the entry at this place, which may follow those before it and answers the request of
     /// this number.
+    // Seven parameters: the entry is one of a transcript, whose version and task say what may
+    // follow.
     pub fn answer(
         &mut self,
         alloc: Global,

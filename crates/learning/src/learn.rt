@@ -5,7 +5,7 @@ ghost use Rattle.task_model.specs.Streams.{Yielded};
 ghost use Rattle.task_model.specs.declared.limits.TheConstants.{LARGEST_COUNT};
 ghost use Rattle.transcript_model.specs.Transcript.{known_of, notes_of, known_with, notes_with};
 ghost use Rattle.transcript_model.specs.declared.entry.Entry.TheVariants as entry;
-ghost use Rattle.learning.specs.Learning.{MayLearn, CanLearn};
+ghost use Rattle.learning.specs.Learning.{MayLearn, CanLearn, asked_by};
 ghost use Rattle.transcript_model.specs.Legal.{answered_number};
 
 use crate::tuple::learn_tuple;
@@ -28,38 +28,37 @@ pub fn answered(entry: &Entry) -> Option<u32>
     }
 }
 
+/// An instance that was asked, with its stream.
+#[derive(Clone, Copy)]
+struct Asked<'a> {
+    stream: &'a Stream,
+    instance: &'a Instance,
+}
+
 /// What so many tuples of an instance certify. Fails only where memory is wanting; then a part of
 /// it may be known, and nothing else.
 fn learn_tuples(
     alloc: Global,
     task: &Task,
     facts: &mut Facts,
-    stream: &Stream,
-    instance: &Instance,
+    asked: &Asked<'_>,
     tuples: u8,
     values: &[Name],
 ) -> Result<(), AllocError>
-    requires may { MayLearn task.now facts.old.known []
-        (record { stream = stream.now; instance = instance.now }) (entry.Got 0 tuples values.now) }
+    requires may { MayLearn task.now facts.old.known [] (asked_by asked.now)
+        (entry.Got 0 tuples values.now) }
     ensures known { OnOk result (facts.new.known
-        ≡ known_with task.now facts.old.known
-        (record { stream = stream.now; instance = instance.now }) (entry.Got 0 tuples values.now)) }
+        ≡ known_with task.now facts.old.known (asked_by asked.now)
+        (entry.Got 0 tuples values.now)) }
     ensures part { OnErr result (LiesBetween facts.old.known facts.new.known
-        (known_with task.now facts.old.known
-        (record { stream = stream.now; instance = instance.now })
+        (known_with task.now facts.old.known (asked_by asked.now)
         (entry.Got 0 tuples values.now))) }
 {
     let mut rest = values;
     for _ in 0..tuples {
-        let (tuple, later) = rest.split_at(stream.outputs.len());
-        learn_tuple(
-            alloc,
-            facts,
-            &task.domain,
-            stream,
-            instance.inputs.as_slice(),
-            tuple,
-        )?;
+        let (tuple, later) = rest.split_at(asked.stream.outputs.len());
+        let inputs = asked.instance.inputs.as_slice();
+        learn_tuple(alloc, facts, &task.domain, asked.stream, inputs, tuple)?;
         rest = later;
     }
     Ok(())
@@ -86,44 +85,30 @@ fn learn_answer(
     task: &Task,
     facts: &mut Facts,
     queue: &mut Queue,
-    stream: &Stream,
-    instance: &Instance,
+    asked: &Asked<'_>,
     entry: &Entry,
 ) -> Result<(), AllocError>
-    requires { MayLearn task.now facts.old.known queue.old
-        (record { stream = stream.now; instance = instance.now }) entry.now }
+    requires { MayLearn task.now facts.old.known queue.old (asked_by asked.now) entry.now }
     ensures known { OnOk result (facts.new.known
-        ≡ known_with task.now facts.old.known
-        (record { stream = stream.now; instance = instance.now }) entry.now) }
+        ≡ known_with task.now facts.old.known (asked_by asked.now) entry.now) }
     ensures notes { OnOk result (queue.new
-        ≡ notes_with queue.old (record { stream = stream.now; instance = instance.now })
-        entry.now) }
+        ≡ notes_with queue.old (asked_by asked.now) entry.now) }
     ensures part { OnErr result (LiesBetween facts.old.known facts.new.known
-        (known_with task.now facts.old.known
-        (record { stream = stream.now; instance = instance.now }) entry.now)) }
+        (known_with task.now facts.old.known (asked_by asked.now) entry.now)) }
     ensures noted { OnErr result (IsBetween queue.old queue.new
-        (notes_with queue.old (record { stream = stream.now; instance = instance.now })
-        entry.now)) }
+        (notes_with queue.old (asked_by asked.now) entry.now)) }
 {
     match entry {
         Entry::Got { tuples, values, .. } => {
-            learn_tuples(
-                alloc,
-                task,
-                facts,
-                stream,
-                instance,
-                *tuples,
-                values.as_slice(),
-            )?;
-            note_tuples(queue, instance, *tuples)
+            learn_tuples(alloc, task, facts, asked, *tuples, values.as_slice())?;
+            note_tuples(queue, asked.instance, *tuples)
         }
         Entry::Value { value, .. } => {
-            let inputs = instance.inputs.as_slice();
-            learn_value(alloc, facts, &task.domain, stream, inputs, *value)?;
-            queue.note_end(instance)
+            let inputs = asked.instance.inputs.as_slice();
+            learn_value(alloc, facts, &task.domain, asked.stream, inputs, *value)?;
+            queue.note_end(asked.instance)
         }
-        Entry::End { .. } => queue.note_end(instance),
+        Entry::End { .. } => queue.note_end(asked.instance),
         _ => Ok(()),
     }
 }
@@ -131,6 +116,8 @@ fn learn_answer(
 /// What the entries from a place on certify and tell, where these instances were asked: it is put
 /// behind what is known and noted after the entries before that place. The transcript is legal.
 /// Fails only where memory is wanting; then a part of it may be known and noted, and nothing else.
+// Seven parameters and eight clauses: what changes of the knowledge and what is read of it are lent
+// apart.
 pub(crate) fn learn_from(
     alloc: Global,
     task: &Task,
@@ -155,7 +142,14 @@ pub(crate) fn learn_from(
         if let Some(number) = answered(entry) {
             let instance = &asked[number as usize - 1];
             let stream = &task.streams.as_slice()[instance.stream as usize];
-            learn_answer(alloc, task, facts, queue, stream, instance, entry)?;
+            learn_answer(
+                alloc,
+                task,
+                facts,
+                queue,
+                &Asked { stream, instance },
+                entry,
+            )?;
         }
     }
     Ok(())

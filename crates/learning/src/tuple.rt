@@ -1,14 +1,12 @@
 //! What one tuple of a yield certifies.
-ghost use Rattle.std.specs.Prelude.{◌≡◌, ◌≤◌, ◌<◌, ◌+◌, map, length, true, All, IfOk, OnOk, OnErr};
-ghost use Rattle.std.specs.List.{list_all};
-ghost use Rattle.learning.specs.Tuples.{Teaches, with_tuple};
-ghost use Rattle.formula_eval.specs.Readable.{is_readable_term};
-ghost use Rattle.task_model.specs.Fit.{IsFitDomain, is_fit_stream};
+ghost use Rattle.std.specs.Prelude.{◌≡◌, ◌≤◌, ◌<◌, ◌+◌, map, length, All, IfOk, OnOk, OnErr};
+ghost use Rattle.learning.specs.Tuples.{ArePlain, MayTeach, Teaches, with_tuple};
 ghost use Rattle.task_model.specs.Known.{IsIn, with_facts};
 ghost use Rattle.task_model.specs.Streams.{output_types, fact_of};
-ghost use Rattle.task_model.specs.Truth.{slots_of, objects_at as objects_of_terms};
+ghost use Rattle.task_model.specs.Truth.{slots_of};
 ghost use Rattle.fact_store.specs.Growth.{IsBetween, LiesBetween};
 ghost use Rattle.fact_store.specs.declared.facts.TheConstants.{MOST_NAMES};
+ghost use Rattle.task_model.specs.declared.limits.TheConstants.{SLOTS};
 
 use crate::outputs::name_outputs;
 use fact_store::{Facts, add_supertypes};
@@ -49,11 +47,8 @@ fn learn_atoms(
     patterns: &[Pattern],
     args: &[Obj],
 ) -> Result<(), AllocError>
-    requires few { length args.now ≤ 16 }
-    requires short { All (λ p. length p.args ≤ 8) patterns.now }
-    requires readable { All (λ p. list_all is_readable_term p.args ≡ true) patterns.now }
-    requires named { All (λ p. All (IsIn facts.old.known.names)
-        (objects_of_terms (slots_of args.now) p.args)) patterns.now }
+    requires few { length args.now ≤ SLOTS }
+    requires plain { ArePlain facts.old.known.names args.now patterns.now }
     ensures facts { OnOk result (facts.new.known.facts
         ≡ with_facts facts.old.known.facts (map (fact_of (slots_of args.now)) patterns.now)) }
     ensures part { OnErr result (IsBetween facts.old.known.facts facts.new.known.facts
@@ -87,12 +82,8 @@ pub fn learn_tuple(
     inputs: &[Obj],
     values: &[Name],
 ) -> Result<Row, AllocError>
-    requires domain { IsFitDomain domain.now }
-    requires stream { is_fit_stream domain.now stream.now ≡ true }
-    requires inputs { length inputs.now ≡ length stream.now.inputs }
+    requires may { MayTeach domain.now stream.now inputs.now facts.old.known }
     requires outputs { length values.now ≡ length stream.now.outputs }
-    requires named { All (IsIn facts.old.known.names) inputs.now }
-    requires constants { length domain.now.constants ≤ length facts.old.known.names }
     requires room { length facts.old.known.names + length values.now < MOST_NAMES }
     ensures all { IfOk result (Teaches domain.now stream.now inputs.now values.now
         facts.old.known facts.new.known) }

@@ -1,8 +1,9 @@
 //! What the answer of a cost stream certifies.
-ghost use Rattle.std.specs.Prelude.{◌≡◌, ◌≤◌, [], length, true, All, OnOk, OnErr};
+ghost use Rattle.std.specs.Prelude.{◌≡◌, ◌≤◌, [], length, true, OnOk, OnErr};
 ghost use Rattle.std.specs.List.{cons_option};
 ghost use Rattle.task_model.specs.Fit.{IsFitDomain, is_fit_stream};
-ghost use Rattle.task_model.specs.Known.{IsIn, with_values};
+ghost use Rattle.learning.specs.Tuples.{MayTeach};
+ghost use Rattle.task_model.specs.Known.{with_values};
 ghost use Rattle.task_model.specs.Streams.{worth_by};
 ghost use Rattle.task_model.specs.declared.limits.TheConstants.{LARGEST_NUMBER};
 
@@ -50,11 +51,7 @@ pub fn learn_value(
     inputs: &[Obj],
     value: u32,
 ) -> Result<(), AllocError>
-    requires domain { IsFitDomain domain.now }
-    requires stream { is_fit_stream domain.now stream.now ≡ true }
-    requires inputs { length inputs.now ≡ length stream.now.inputs }
-    requires named { All (IsIn facts.old.known.names) inputs.now }
-    requires constants { length domain.now.constants ≤ length facts.old.known.names }
+    requires may { MayTeach domain.now stream.now inputs.now facts.old.known }
     requires cost { value ≤ LARGEST_NUMBER }
     ensures values { OnOk result (facts.new.known.values
         ≡ with_values facts.old.known.values (worth_by stream.now inputs.now value)) }

@@ -8,6 +8,7 @@ use Rattle.form_reader.specs.declared.groups.Spot.{Spot}
 use Rattle.form_reader.specs.declared.groups.Spot.TheVariants.{Start, Named, Typed}
 use Rattle.form_reader.specs.Rows.{after_word, is_dash}
 use Rattle.name_tables.specs.Names.{has_name, table_place, with_table_name}
+use Rattle.task_model.specs.declared.limits.TheConstants.{SLOTS}
 
 -- the fault, unless the test holds
 abbrev pub unless : Bool → InputKind → ℕ → List Fault
@@ -82,11 +83,11 @@ doubles_names seen spot (word text at rest) =
     ++ doubles_names (seen_with seen spot text) (after_word spot text) rest
 doubles_names seen spot (list items at rest) = []
 
--- no variable is the 17th in scope, where so many are in scope before it
+-- no more variables are in scope than there are slots, where so many are in scope before it
 abbrev pub scope_names : ℕ → Spot → Trees → List Fault
 scope_names size spot nothing = []
 scope_names size spot (word text at rest) =
-    (if is_named spot text then unless (not (size == 16)) TooMany at else [])
+    (if is_named spot text then unless (not (size == SLOTS)) TooMany at else [])
     ++ scope_names (if is_named spot text then size + 1 else size) (after_word spot text) rest
 scope_names size spot (list items at rest) = []
 

@@ -5,13 +5,15 @@ ghost use Rattle.task_model.specs.Streams.{name_at};
 
 use indexmap::IndexSet;
 use std::alloc::{AllocError, Global};
+use std::hash::BuildHasherDefault;
 use std::marker::Model;
+use task_model::NumberHasher;
 
 /// Distinct names in the order in which they came, each of which is found without going through the
 /// others.
 #[derive(Drop)]
 pub struct NameTable {
-    names: IndexSet<Vec<u8>>,
+    names: IndexSet<Vec<u8>, BuildHasherDefault<NumberHasher>>,
     alloc: Global,
 }
 
@@ -29,7 +31,7 @@ impl NameTable {
         ensures { result ≡ [] }
     {
         NameTable {
-            names: IndexSet::new(alloc),
+            names: IndexSet::with_hasher(alloc, BuildHasherDefault::new()),
             alloc,
         }
     }

@@ -12,9 +12,7 @@ use crate::scope::Scope;
 use form_reader::{Fault, InputKind, Spot, is_dash, sooner};
 use sexpr_text::{Front, Tree, front_of};
 use std::alloc::{AllocError, Global};
-
-/// How many variables may be in scope.
-const MAX_SCOPE: usize = 16;
+use task_model::SLOTS;
 
 /// Adds a fault of this kind and place to the one so far, unless the test holds.
 pub fn unless(holds: bool, kind: InputKind, place: usize, so_far: Option<Fault>) -> Option<Fault>
@@ -126,7 +124,7 @@ pub fn check_doubles(
     }
 }
 
-/// None of these is the 17th variable in scope, where so many are in scope around them. Fails only
+/// No more variables than [`SLOTS`] are in scope, where so many are in scope around these. Fails only
 /// where they can't be counted.
 pub fn check_scope(
     size: usize,
@@ -144,7 +142,7 @@ pub fn check_scope(
             return Ok(found);
         };
         if is_named(spot, text) {
-            found = unless(inner != MAX_SCOPE, InputKind::TooMany, place, found);
+            found = unless(inner != SLOTS, InputKind::TooMany, place, found);
             inner = next(inner)?;
         }
         spot = spot.after_word(text);

@@ -7,6 +7,7 @@ ghost use Rattle.optimal_search.specs.Share.{AreLower, goals_of};
 ghost use Rattle.optimal_search.specs.Shares.{AreSharesOf, IsSharedStep, PayShares, PaysShares, own_least as own_least_of, shares_left};
 ghost use Rattle.task_model.specs.Fit.{IsFit, is_fit_action};
 ghost use Rattle.task_model.specs.Known.{Known};
+ghost use Rattle.task_model.specs.declared.limits.TheConstants.{SLOTS};
 
 use crate::consistent::Consistent;
 use crate::fewest::own_cost;
@@ -46,7 +47,7 @@ fn share_step<L: Look>(
 ) -> Result<(), AllocError>
     requires fit { IsFit task.now }
     requires action { is_fit_action task.now.domain action.now ≡ true }
-    requires few { length args.now ≤ 16 }
+    requires few { length args.now ≤ SLOTS }
     ensures lower { OnOk result (AreLower shares.old shares.new) }
     ensures shared { OnOk result (IsSharedStep task.now (L.known look.now) action.now args.now
         shares.new) }

@@ -1,5 +1,5 @@
 //! The text of an order: its counts, its steps, its pairs and its stages.
-ghost use Rattle.std.specs.Prelude.{◌≡◌, ◌++◌, ◌+◌, IfOk, OnOk, length, map};
+ghost use Rattle.std.specs.Prelude.{◌≡◌, ◌++◌, ◌+◌, IfOk, OnOk, map};
 ghost use Rattle.std.specs.Fmt.{decimal};
 ghost use Rattle.lemmas.specs.Lists.{numbers_from};
 ghost use Rattle.order_text.specs.Texts.{before_line, order_line, order_text, stage_line, steps_of_stage};

@@ -1,7 +1,9 @@
 //! What is due of a row, by its kind and its texts.
 use crate::out::Out;
 use crate::word::{first_word, number};
-use crate::{commands, domains, lines, maps, problems, reports, tasks, trees};
+use crate::{
+    commands, domains, grids, lines, maps, members, problems, reports, service, tasks, trees,
+};
 use command_line::usage_text;
 use form_reader::TextKind;
 use std::alloc::Global;
@@ -33,6 +35,12 @@ fn write_one(alloc: Global, out: &mut Out, kind: &[u8], rest: &[u8], text: &[u8]
         b"migrated" => reports::write_migrated(alloc, out, text),
         b"command" => commands::write_asked(alloc, out, text),
         b"usage" => out.put(usage_text()),
+        b"grid" => grids::write_read(alloc, out, kind, text),
+        b"request-of" => grids::write_made(alloc, out, kind, number(rest), text),
+        b"made-lengths" | b"made-texts" | b"made-read" => {
+            grids::write_made(alloc, out, kind, number(text), &[]);
+        }
+        b"generator" => members::write_calls(alloc, out, text),
         _ => write_task_text(alloc, out, kind, text),
     }
 }
@@ -45,6 +53,8 @@ fn write_two(alloc: Global, out: &mut Out, kind: &[u8], given: &[u8], text: &[u8
         }
         b"report-again" => reports::write_again(alloc, out, given, text),
         b"map" | b"words" => maps::write_given(alloc, out, kind, given, text, &[]),
+        b"request" => grids::write_answered(alloc, out, given, text),
+        b"last-child" | b"sure-host" => members::write_child(alloc, out, kind, given, text),
         _ => out.put("no such row of two texts"),
     }
 }
@@ -54,6 +64,7 @@ pub(crate) fn write_due(alloc: Global, out: &mut Out, heading: &[u8], texts: &[V
     let (kind, rest) = first_word(heading);
     match (kind, texts) {
         (b"pushes", _) => lines::write_pushes(alloc, out, texts),
+        (b"serve", [grid, input]) => service::write_service(alloc, out, rest, grid, input),
         (b"task", [domain, problem, streams]) => {
             tasks::write_counted(alloc, out, domain, problem, streams);
         }

@@ -4,9 +4,10 @@ ghost use Rattle.std.specs.Bool.{OnFalse, OnTrue};
 ghost use Rattle.std.specs.List.{after_first};
 ghost use Rattle.gen_lines.specs.Lines.{is_feed};
 ghost use Rattle.gen_lines.specs.Told.{IsNarrow};
+ghost use Rattle.gen_lines.specs.declared.line_buf.TheConstants.{LINE_LENGTH};
 
 use crate::out::Out;
-use gen_lines::{Answer, LineBuf, Seen, Wanted, Why, answer_of};
+use gen_lines::{Answer, LINE_BYTES, LINE_LENGTH, LineBuf, Seen, Wanted, Why, answer_of};
 use std::alloc::Global;
 
 /// So many values to a tuple, and one tuple or several.
@@ -41,7 +42,7 @@ fn write_why(out: &mut Out, why: Why) {
 /// Writes what a line answers: how many tuples, and all their values; a number; that there is no
 /// more; or why it is no answer.
 fn write_answer(out: &mut Out, line: &[u8], wanted: Wanted)
-    requires line { length line.now ≤ 1024 }
+    requires line { length line.now ≤ LINE_LENGTH }
     requires wanted { IsNarrow wanted }
 {
     match answer_of(line, wanted) {
@@ -68,7 +69,7 @@ fn write_answer(out: &mut Out, line: &[u8], wanted: Wanted)
 
 /// Writes what a line answers to a request of this kind.
 pub(crate) fn write_answered(out: &mut Out, kind: &[u8], line: &[u8]) {
-    if line.len() > 1024 {
+    if line.len() > LINE_LENGTH {
         return out.put("too long");
     }
     write_answer(out, line, wanted_of(kind));
@@ -87,7 +88,7 @@ pub(crate) fn write_cause(out: &mut Out, name: &[u8]) {
 
 /// Takes out the lines that are there, and writes each.
 fn write_taken(out: &mut Out, buf: &mut LineBuf) {
-    for _ in 0..1025 {
+    for _ in 0..LINE_BYTES {
         match buf.next_line() {
             Seen::Line(line) => {
                 out.quote(line);

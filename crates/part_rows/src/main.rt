@@ -6,13 +6,16 @@ mod commands;
 mod domains;
 mod draft;
 mod due;
+mod grids;
 mod lines;
 mod maps;
+mod members;
 mod out;
 mod play;
 mod problems;
 mod refusals;
 mod reports;
+mod service;
 mod shown;
 mod tasks;
 mod trees;
@@ -23,7 +26,7 @@ use std::io;
 use std::process::ExitCode;
 
 /// The files of rows, in the order in which they are read.
-const SUBJECTS: [&str; 9] = [
+const SUBJECTS: [&str; 11] = [
     "trees.rows",
     "domains.rows",
     "problems.rows",
@@ -33,6 +36,8 @@ const SUBJECTS: [&str; 9] = [
     "reports.rows",
     "commands.rows",
     "maps.rows",
+    "grids.rows",
+    "generators.rows",
 ];
 
 /// The most bytes of a file of rows.

@@ -1,5 +1,5 @@
 -- How runs stand and end, by what was heard of their children.
-use Rattle.std.proofs.Common.{◌≡◌, ℕ, zero, suc, ◌<◌, arith, List, [], true, false, refl, sym, subst, ap, ◌∙◌, ◌⊎◌, inl, inr, None, Some, Option, Result, Ok, Err, IfErr, IfOk, IsErrOf}
+use Rattle.std.proofs.Common.{◌≡◌, ℕ, zero, suc, ◌<◌, arith, List, [], true, false, refl, sym, subst, ap, ◌∙◌, ◌⊎◌, inl, inr, None, Some, Option, Result, Ok, Err, IsErrOf}
 use Rattle.io_world.specs.Faults.{Extends, HasCause}
 use Rattle.io_world.specs.Talks.{Event, Talk}
 use Rattle.report_text.proofs.PrintsLemmas.{appends_none}
@@ -28,7 +28,7 @@ use Rattle.pddlstream_app.specs.Answering.{IsAnswerTold, command_answering}
 use Rattle.pddlstream_app.specs.AnswerOf.{HasAnswer}
 use Rattle.pddlstream_app.specs.Complete.{AreGivenAgain, Completes, CompletesBy, GoesWell, SettlesBy}
 use Rattle.transcript_model.specs.Tables.{Answers}
-use Rattle.pddlstream_app.specs.Runs.{ClosesRun, Ends, EndsBy, IsBeforeLast, IsUnhindered, LacksMemory, StandsBy}
+use Rattle.pddlstream_app.specs.Runs.{ClosesRun, Ends, EndsBy, IsUnhindered, LacksMemory, StandsBy}
 use Rattle.pddlstream_app.specs.declared.answer.AnswerConfig.{AnswerConfig}
 use Rattle.pddlstream_app.specs.declared.answer.AnswerConfig.TheVariants as config
 

@@ -5,6 +5,7 @@ ghost use Rattle.task_model.specs.State.{Atoms, with_atoms, without_atoms};
 ghost use Rattle.task_model.specs.Steps.{atom_of, effect_of};
 ghost use Rattle.task_model.specs.Truth.{slots_of};
 ghost use Rattle.plan_check.specs.Readable.{is_readable_pattern};
+ghost use Rattle.task_model.specs.declared.limits.TheConstants.{SLOTS};
 
 use formula_eval::{Env, objects_at};
 use std::alloc::{AllocError, Global};
@@ -48,7 +49,7 @@ fn put_in(state: &mut State, patterns: &[Pattern], env: &Env) -> Result<(), Allo
 /// Takes out of the state what the action with these arguments deletes, and then puts in what it
 /// adds. Where memory is wanting, the state is one in between.
 pub(crate) fn change(state: &mut State, action: &Action, args: &[Obj]) -> Result<(), AllocError>
-    requires few { length args.now ≤ 16 }
+    requires few { length args.now ≤ SLOTS }
     requires adds { list_all is_readable_pattern action.now.adds ≡ true }
     requires deletes { list_all is_readable_pattern action.now.deletes ≡ true }
     ensures { OnOk result (state.new ≡ effect_of action.now args.now state.old) }
@@ -64,7 +65,7 @@ pub(crate) fn change(state: &mut State, action: &Action, args: &[Obj]) -> Result
 /// Whether the action is applicable isn't asked: this is for a step that was found to be. Fails
 /// only where memory is wanting.
 pub fn after(state: &State, action: &Action, args: &[Obj]) -> Result<State, AllocError>
-    requires few { length args.now ≤ 16 }
+    requires few { length args.now ≤ SLOTS }
     requires adds { list_all is_readable_pattern action.now.adds ≡ true }
     requires deletes { list_all is_readable_pattern action.now.deletes ≡ true }
     ensures { IfOk result (λ after. after ≡ effect_of action.now args.now state.now) }
@@ -102,7 +103,7 @@ pub struct Changes {
 /// What the action with these arguments does to any state (PDDL 2.1), whether or not it is
 /// applicable there. Fails only where memory is wanting.
 pub fn changes_of(alloc: Global, action: &Action, args: &[Obj]) -> Result<Changes, AllocError>
-    requires few { length args.now ≤ 16 }
+    requires few { length args.now ≤ SLOTS }
     requires adds { list_all is_readable_pattern action.now.adds ≡ true }
     requires deletes { list_all is_readable_pattern action.now.deletes ≡ true }
     ensures effect { IfOk result (λ changes. (state : Atoms)

@@ -4,6 +4,7 @@ ghost use Rattle.task_model.specs.Fit.{IsFit, is_fit_action};
 ghost use Rattle.task_model.specs.Steps.{IsStep, cost_of as cost_of_action, effect_of};
 ghost use Rattle.plan_check.specs.Faults.{StepFails};
 ghost use Rattle.plan_check.specs.declared.fault.StepFault.TheVariants.{Memory};
+ghost use Rattle.task_model.specs.declared.limits.TheConstants.{SLOTS};
 
 use crate::cost::terms_cost;
 use crate::effect::{after, change};
@@ -39,7 +40,7 @@ pub fn cost<L: Look>(
 ) -> Option<u64>
     requires fit { IsFit task.now }
     requires action { is_fit_action task.now.domain action.now ≡ true }
-    requires few { length args.now ≤ 16 }
+    requires few { length args.now ≤ SLOTS }
     ensures value { result ≡ cost_of_action task.now (L.known look.now) action.now args.now }
     ensures small { IfSome result (λ n. n ≤ 262144000000) }
 {
@@ -66,7 +67,7 @@ fn judged<'a, L: Look>(
     ensures ok { IfOk result (λ found. IsStep task.now (L.known look.now) state.now step.now
         (effect_of found.0.now step.now.args state.now) found.1) }
     ensures fit { IfOk result (λ found. is_fit_action task.now.domain found.0.now ≡ true) }
-    ensures few { IfOk result (λ _. length step.now.args ≤ 16) }
+    ensures few { IfOk result (λ _. length step.now.args ≤ SLOTS) }
     ensures err { IfErr result (StepFails task.now (L.known look.now) state.now step.now) }
     ensures small { IfOk result (λ found. found.1 ≤ 262144000000) }
 {

@@ -11,14 +11,15 @@ use Rattle.task_model.specs.declared.task.Task.{Task}
 use Rattle.plan_deorder.specs.Orders.{Pair, greatest}
 use Rattle.plan_deorder.specs.Touches.{ReadsAll, adds_of, deletes_of, reads_in}
 use Rattle.plan_deorder.specs.declared.touched.Touched.{Touched}
+use Rattle.task_model.specs.declared.limits.TheConstants.{SLOTS}
 
 -- ---- steps
 
--- The step names an action, and has at most sixteen arguments.
+-- The step names an action, and has no more arguments than an action may.
 pub record IsNamedStep (task : Task) (step : GroundAction) : Type 0 where
   pub action : Action
   pub named : slice_get task.domain.actions step.action ≡ Some action
-  pub few : length step.args ≤ 16
+  pub few : length step.args ≤ SLOTS
 
 -- each does
 abbrev pub AreStepsNamed : Task → List GroundAction → Type 0

@@ -1,12 +1,11 @@
 //! The order that a plan's steps must keep, and its stages.
-ghost use Rattle.std.specs.Prelude.{◌≡◌, ◌++◌, ◌+◌, ◌<◌, ◌≤◌, ℕ, IfOk, IfErr, OnOk, length, map};
+ghost use Rattle.std.specs.Prelude.{◌≡◌, ◌++◌, ◌+◌, ◌<◌, ◌≤◌, ℕ, IfOk, IfErr, OnOk, length};
 ghost use Rattle.std.specs.List.{flat_map};
 ghost use Rattle.lemmas.specs.Lists.{numbers_from};
 ghost use Rattle.task_model.specs.Fit.{IsFit};
 ghost use Rattle.task_model.specs.Plans.{IsValid};
 ghost use Rattle.plan_deorder.specs.Clashes.{AreStepsNamed, AreTouched, pairs_from, stage_of, stages_of};
 ghost use Rattle.plan_deorder.specs.Laws.{KeepsMeaning};
-ghost use Rattle.plan_deorder.specs.Occurring.{below_in};
 ghost use Rattle.plan_deorder.specs.Orders.{IsOrder};
 ghost use Rattle.plan_deorder.specs.declared.order.OrderFault.TheVariants.{TooLong};
 ghost use Rattle.plan_deorder.specs.declared.order.TheConstants.{MOST_STEPS};

@@ -6,14 +6,16 @@ ghost use Rattle.session_core.specs.Session.{IsFitHead};
 ghost use Rattle.session_core.specs.Slots.{all_answered};
 ghost use Rattle.task_model.specs.Fit.{IsFit};
 ghost use Rattle.plan_rows.specs.Played.{IsWorkingSession, IsRoundKept};
+ghost use Rattle.transcript_model.specs.declared.limits.TheConstants.{MOST_CALLS, WORKERS};
 
 use crate::fault::Fault;
+use gen_lines::LINE_LENGTH;
 use instance_queue::Due;
 use session_core::Session;
 use std::alloc::{AllocError, Global};
 use task_model::{Seq, Task};
 use test_rows::{first_word, number};
-use transcript_model::{Head, Mode, Pool};
+use transcript_model::{Head, MOST_CALLS, Mode, Pool, WORKERS};
 
 /// The streams of the task.
 fn streams(alloc: Global, task: &Task) -> Result<Seq<u32>, AllocError>
@@ -61,9 +63,9 @@ fn head(
     requires some_version { 1 ≤ version }
     requires version { version ≤ 2 }
     requires some_calls { 1 ≤ calls }
-    requires calls { calls ≤ 100000 }
+    requires calls { calls ≤ MOST_CALLS }
     requires some_workers { 1 ≤ workers }
-    requires workers { workers ≤ 16 }
+    requires workers { workers ≤ WORKERS }
     ensures { IfOk result (IsFitHead task.now) }
 {
     let pools = pools(alloc, task, workers)?;
@@ -89,7 +91,13 @@ pub(crate) fn begin(
     requires { IsFit task.now }
     ensures { IfOk result (λ session. IsWorkingSession task.now session.value) }
 {
-    if version < 1 || version > 2 || calls < 1 || calls > 100_000 || workers < 1 || workers > 16 {
+    if version < 1
+        || version > 2
+        || calls < 1
+        || calls > MOST_CALLS
+        || workers < 1
+        || workers > WORKERS
+    {
         return Err(Fault::Unfit);
     }
     if task.streams.len() > 99 {
@@ -110,7 +118,7 @@ fn happen(session: &mut Session, event: &[u8]) -> bool
     let (child, line) = first_word(rest);
     let child = u8::try_from(number(child)).unwrap_or(u8::MAX);
     if verb == b"say".as_slice() {
-        if !session.is_awaited(child) || line.len() > 1024 {
+        if !session.is_awaited(child) || line.len() > LINE_LENGTH {
             return false;
         }
         session.line(child, line);

@@ -6,6 +6,7 @@ ghost use Rattle.task_model.specs.Fit.{IsFit};
 
 use crate::fault::Fault;
 use crate::session::{begin, happen_all};
+use gen_lines::LINE_LENGTH;
 use session_core::{Heard, Session};
 use std::alloc::{AllocError, Global};
 use std::fmt::Write;
@@ -72,7 +73,7 @@ fn mislead(task: &Task, session: &mut Session, line: &[u8], out: &mut String) ->
     requires session { IsSession task.now session.old }
     requires works { session.old.failed ≡ false }
 {
-    if !session.is_awaited(1) || line.len() > 1024 {
+    if !session.is_awaited(1) || line.len() > LINE_LENGTH {
         return Err(Fault::Unfit);
     }
     let heard = session.line(1, line);

@@ -49,13 +49,16 @@ child_for pools before stream = of (server pools stream)
     of (Some pool) = pool.first + count_by (has_stream pool) before
     of None = 0
 
+-- a child of a host has this number
+abbrev pub IsChild : ℕ → Type 0
+IsChild child = child < CHILDREN
+
 -- the pool has this child
 pub record HasChild (pool : Workers) (child : ℕ) : Type 0 where
   pub from : pool.first ≤ child
   pub to : child < pool.first + pool.workers
 
--- Each stream of the task is served by one pool, and pools have children of their own, one at least, with numbers up to
--- 16.
+-- Each stream of the task is served by one pool, and pools have children of their own, one at least, that a host has.
 pub record AreFitPools (task : Task) (all : List Workers) : Type 0 where
   pub served : (stream : ℕ) → stream < length task.streams
       → (pool : Workers) × (server all stream ≡ Some pool)

@@ -3,7 +3,7 @@ ghost use Rattle.std.specs.Prelude.{◌≡◌, ◌≤◌, ◌==◌, ℕ, List, [
 ghost use Rattle.std.specs.List.{list_any};
 ghost use Rattle.instance_queue.specs.Level.{due_instances};
 ghost use Rattle.pools.specs.Served.{AreStreamsMarked};
-ghost use Rattle.pools.specs.Pools.{workers_of, server as server_of, child_for, asked_streams};
+ghost use Rattle.pools.specs.Pools.{IsChild, workers_of, server as server_of, child_for, asked_streams};
 
 use instance_queue::Due;
 use std::alloc::{AllocError, Global};
@@ -141,11 +141,11 @@ fn server(pools: &[Workers], stream: u32) -> Option<&Workers>
     None
 }
 
-/// The number, at most 16, of the child for an ask of this stream, after these asks of the same
-/// round: of the pool that answers for the stream, the first child that has none of them. It is 0
-/// where no pool does.
+/// The number of the child for an ask of this stream, after these asks of the same round: of the
+/// pool that answers for the stream, the first child that has none of them. It is 0 where no pool
+/// does.
 pub fn child_of(pools: &[Workers], before: &[Due], stream: u32) -> u8
-    requires { child_for pools.now (asked_streams before.now) stream ≤ 16 }
+    requires { IsChild (child_for pools.now (asked_streams before.now) stream) }
     ensures { result ≡ child_for pools.now (asked_streams before.now) stream }
 {
     match server(pools, stream) {

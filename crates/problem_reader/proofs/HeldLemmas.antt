@@ -1,5 +1,5 @@
 -- The facts that are held of items which are gone through.
-use Rattle.std.proofs.Common.{◌≡◌, Bool, true, false, cond, ◌||◌, List, [], ◌++◌, refl, ℕ}
+use Rattle.std.proofs.Common.{◌≡◌, Bool, true, false, cond, ◌||◌, List, refl, ℕ}
 use Rattle.std.proofs.lemmas.List.{append-nil}
 use Rattle.sexpr_text.specs.Trees.{Trees, nothing, list}
 use Rattle.task_model.specs.declared.fact.Fact.{Fact}

@@ -40,7 +40,11 @@ fn check_domain(name: &[u8], items: &[Tree], so_far: Option<Fault>) -> Option<Fa
 pub(crate) fn is_worth(items: &[Tree]) -> bool
     ensures { result ≡ specs.is_worth (trees items.now) }
 {
-    head_of(items) == b"=".as_slice()
+    match head_of(items) {
+        [] => false,
+        [only] => *only == b'=',
+        [_, _, ..] => false,
+    }
 }
 
 /// The function term that stands first in a row.

@@ -1,5 +1,5 @@
 //! Conditions under the objects of their variables.
-ghost use Rattle.std.specs.Prelude.{◌≡◌, ◌<◌, ◌≤◌, length, true};
+ghost use Rattle.std.specs.Prelude.{◌≡◌, ◌<◌, length, true};
 ghost use Rattle.formula_eval.specs.Readable.{is_readable, are_readable};
 ghost use Rattle.task_model.specs.Condition.{parts_of};
 ghost use Rattle.task_model.specs.Fit.{IsFitDomain};

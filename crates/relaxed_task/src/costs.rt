@@ -36,6 +36,8 @@ const UNSEEN: Cost = Cost {
 /// What was found so far.
 #[derive(Drop)]
 struct Board {
+    /// The fact that a rule gives where it gives just one.
+    only: Vec<u32>,
     open: Vec<Open>,
     costs: Vec<Cost>,
     queue: Queue,
@@ -44,6 +46,7 @@ struct Board {
 impl Board {
     /// Takes room for these rules. Fails only where memory is wanting.
     fn make_room(&mut self, alloc: Global, rules: &Rules) -> Result<(), AllocError> {
+        self.only = rules.gives.singles(alloc, NONE)?;
         self.open = Vec::from_slice(alloc, rules.start.as_slice())?;
         self.costs.resize(rules.facts as usize, UNSEEN)?;
         let times = rules.gives.total().saturating_add(rules.facts as usize);
@@ -63,6 +66,12 @@ impl Board {
 
     /// Offers what the rule gives, which costs so much with all that it needs.
     fn give(&mut self, gives: &Lists, rule: u32, cost: u32) {
+        if let Some(fact) = self.only.as_slice().get(rule as usize).copied() {
+            if fact != NONE {
+                self.offer(fact, cost, rule);
+                return;
+            }
+        }
         for fact in gives.row(rule as usize) {
             self.offer(*fact, cost, rule);
         }
@@ -72,7 +81,7 @@ impl Board {
     fn lower(&mut self, gives: &Lists, rule: u32, cost: u32) {
         if let Some(open) = self.open.get_mut(rule as usize) {
             let sum = open.sum.saturating_add(cost).min(UNREACHED - 1);
-            let left = open.left.saturating_sub(1);
+            let left = open.left.wrapping_sub(1);
             *open = Open { left, sum };
             if left == 0 {
                 self.give(gives, rule, sum);
@@ -88,6 +97,22 @@ impl Board {
         }
         known.is_taken = true;
         Some(known.cost)
+    }
+
+    /// What the fact costs, as far as was seen.
+    fn cost(&self, fact: u32) -> u32 {
+        match self.costs.as_slice().get(fact as usize) {
+            Some(known) => known.cost,
+            None => UNREACHED,
+        }
+    }
+
+    /// The rule lacks nothing, and costs so much with all that it needs.
+    fn close(&mut self, gives: &Lists, rule: u32, sum: u32) {
+        if let Some(open) = self.open.get_mut(rule as usize) {
+            *open = Open { left: 0, sum };
+        }
+        self.give(gives, rule, sum);
     }
 }
 
@@ -110,6 +135,10 @@ pub(crate) struct Costs {
     start: Vec<Open>,
     /// The rules that need nothing.
     free: Vec<u32>,
+    /// The rule that gives the goal, where one alone does.
+    lone: Option<u32>,
+    /// The least that a rule costs which gives something that this one needs, and at most 1.
+    ahead: usize,
     board: Board,
 }
 
@@ -121,6 +150,7 @@ impl Costs {
         ensures { part_count result ≡ 0 }
     {
         let board = Board {
+            only: Vec::new(alloc),
             open: Vec::new(alloc),
             costs: Vec::new(alloc),
             queue: Queue::none(alloc),
@@ -131,16 +161,25 @@ impl Costs {
             needed_by: Lists::new(alloc),
             start: Vec::new(alloc),
             free: Vec::new(alloc),
+            lone: None,
+            ahead: 0,
             board,
         }
     }
 
-    /// Takes these rules in place of its own. Fails only where memory is wanting.
+    /// Takes these rules in place of its own, and what is the goal, if a fact is. Fails only where
+    /// memory is wanting.
     pub(crate) fn take_rules(
         &mut self,
         alloc: Global,
         rules: &mut Rules,
+        goal: Option<u32>,
     ) -> Result<(), AllocError> {
+        self.lone = goal.and_then(|fact| rules.lone_giver(fact));
+        self.ahead = match self.lone {
+            Some(rule) => rules.least_before(alloc, rule)?,
+            None => 0,
+        };
         self.needed_by = rules.needed_by(alloc)?;
         self.free = rules.free(alloc)?;
         self.board.make_room(alloc, rules)?;
@@ -193,11 +232,7 @@ impl Costs {
 
     /// What the fact costs, as far as was seen.
     pub(crate) fn cost(&self, fact: u32) -> u32 {
-        self.board
-            .costs
-            .as_slice()
-            .get(fact as usize)
-            .map_or(UNREACHED, |known| known.cost)
+        self.board.cost(fact)
     }
 
     /// The rule that gave the fact for what it costs, if one did.
@@ -252,24 +287,67 @@ impl Costs {
             .is_some_and(|open| open.left == 0)
     }
 
-    /// Goes through the facts, the cheapest first, until it comes to this one, or there are no more.
-    pub(crate) fn spread(&mut self, until: Option<u32>) {
+    /// Gives what the rules give that need nothing.
+    fn give_free(&mut self) {
         for rule in self.free.as_slice() {
             let cost = sum_at(self.start.as_slice(), *rule);
             self.board.give(&self.gives, *rule, cost);
         }
+    }
+
+    /// Tells the rules that need the fact what it costs, unless they were told.
+    fn tell(&mut self, fact: u32) {
+        if let Some(cost) = self.board.take(fact) {
+            for rule in self.needed_by.row(fact as usize) {
+                self.board.lower(&self.gives, *rule, cost);
+            }
+        }
+    }
+
+    /// How many of the first facts that the rule needs cost what they cost for good, where so many do at
+    /// least.
+    fn settled(&self, rule: u32, count: usize) -> usize {
+        let most = self.board.queue.settled(self.ahead);
+        let mut count = count;
+        for fact in self.needs(rule).iter().skip(count) {
+            if self.cost(*fact) as usize > most {
+                break;
+            }
+            count = count.saturating_add(1);
+        }
+        count
+    }
+
+    /// Tells the rule at once what all that it needs costs.
+    fn fill(&mut self, rule: u32) {
+        let mut sum = self.own_cost(rule);
+        for fact in self.needs(rule) {
+            sum = sum.saturating_add(self.cost(*fact)).min(UNREACHED - 1);
+        }
+        self.board.close(&self.gives, rule, sum);
+    }
+
+    /// Goes through the facts, the cheapest first, until it is known what the goal costs, where this is
+    /// the goal, or there are no more.
+    pub(crate) fn spread(&mut self, goal: Option<u32>) {
+        self.give_free();
+        let lone = goal.and(self.lone);
+        let mut count: usize = 0;
         for _ in 0..self.board.queue.room() {
+            if let Some(rule) = lone {
+                count = self.settled(rule, count);
+                if count == self.needs(rule).len() {
+                    self.fill(rule);
+                    return;
+                }
+            }
             let Some(fact) = self.board.queue.pop() else {
                 return;
             };
-            if Some(fact) == until {
+            if Some(fact) == goal {
                 return;
             }
-            if let Some(cost) = self.board.take(fact) {
-                for rule in self.needed_by.row(fact as usize) {
-                    self.board.lower(&self.gives, *rule, cost);
-                }
-            }
+            self.tell(fact);
         }
     }
 }

@@ -4,7 +4,8 @@ use crate::rules::Rules;
 use indexmap::IndexMap;
 use indexmap::map::Slice;
 use std::alloc::{AllocError, Global};
-use task_model::Atom;
+use std::hash::BuildHasherDefault;
+use task_model::{Atom, NumberHasher};
 
 /// The facts of an atom, as far as some condition or effect has them.
 #[derive(Clone, Copy, Debug)]
@@ -36,14 +37,14 @@ pub(crate) struct Numbered {
 /// The facts of atoms.
 #[derive(Drop)]
 pub(crate) struct AtomFacts {
-    atoms: IndexMap<Atom, Sides>,
+    atoms: IndexMap<Atom, Sides, BuildHasherDefault<NumberHasher>>,
 }
 
 impl AtomFacts {
     /// None, which take no memory.
     pub(crate) fn new(alloc: Global) -> AtomFacts {
         AtomFacts {
-            atoms: IndexMap::new(alloc),
+            atoms: IndexMap::with_hasher(alloc, BuildHasherDefault::new()),
         }
     }
 

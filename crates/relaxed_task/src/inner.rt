@@ -1,5 +1,5 @@
 //! What stands in the body of an `exists`, with its own variables alone.
-ghost use Rattle.std.specs.Prelude.{◌≡◌, ◌≤◌, IfOk, IfSome, length, true};
+ghost use Rattle.std.specs.Prelude.{◌≡◌, IfOk, IfSome, length, true};
 ghost use Rattle.std.specs.List.{list_all};
 ghost use Rattle.fact_join.specs.Answers.{is_term_of, is_pattern_of};
 ghost use Rattle.formula_eval.specs.Readable.{is_readable, is_readable_term};

@@ -65,6 +65,17 @@ impl Lists {
         self.items.as_slice()
     }
 
+    /// For each row its number where it has just one, else this one. Fails only where memory is wanting.
+    pub(crate) fn singles(&self, alloc: Global, other: u32) -> Result<Vec<u32>, AllocError> {
+        let mut singles = Vec::new(alloc);
+        for place in 0..self.len() {
+            let row = self.row(place);
+            let first = row.first().copied().unwrap_or(other);
+            singles.push(if row.len() == 1 { first } else { other })?;
+        }
+        Ok(singles)
+    }
+
     /// The same rows with those numbers alone whose place here is true. Fails only where memory is
     /// wanting.
     pub(crate) fn kept(&self, alloc: Global, is_kept: &[bool]) -> Result<Lists, AllocError> {

@@ -74,6 +74,17 @@ impl Queue {
         self.last = 0;
     }
 
+    /// What a fact costs at most for good, where all rules that give it cost so much by themselves: what
+    /// is taken out from now on costs no less than what was. Nothing once the last bucket was come to,
+    /// in which facts have no order.
+    pub(crate) fn settled(&self, ahead: usize) -> usize {
+        if self.at.saturating_add(1) < self.heads.len() {
+            self.at.saturating_add(ahead)
+        } else {
+            0
+        }
+    }
+
     /// Puts a fact in that costs so much, no less than the one that was taken out last.
     pub(crate) fn push(&mut self, fact: u32, cost: u32) {
         let bucket = (cost as usize).min(self.heads.len().saturating_sub(1));

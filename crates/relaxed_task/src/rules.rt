@@ -116,6 +116,37 @@ impl Rules {
         Ok(free)
     }
 
+    /// The rule that gives the fact, where one alone does.
+    pub(crate) fn lone_giver(&self, fact: u32) -> Option<u32> {
+        let mut lone = None;
+        for rule in 0..self.gives.len() {
+            if self.gives.row(rule).contains(&fact) {
+                if lone.is_some() {
+                    return None;
+                }
+                lone = Some(number(rule));
+            }
+        }
+        lone
+    }
+
+    /// The least that a rule costs which gives something that this one needs, and at most 1. Fails only
+    /// where memory is wanting.
+    pub(crate) fn least_before(&self, alloc: Global, rule: u32) -> Result<usize, AllocError> {
+        let mut is_needed: Vec<bool> = Vec::new(alloc);
+        is_needed.resize(self.facts as usize, false)?;
+        for fact in self.needs.row(rule as usize) {
+            mark(&mut is_needed, *fact);
+        }
+        let gives = self.gives.kept(alloc, is_needed.as_slice())?;
+        for (rule, open) in self.start.as_slice().iter().enumerate() {
+            if open.sum == 0 && !gives.row(rule).is_empty() {
+                return Ok(0);
+            }
+        }
+        Ok(1)
+    }
+
     /// For each fact the rules that need it. Fails only where memory is wanting.
     pub(crate) fn needed_by(&self, alloc: Global) -> Result<Lists, AllocError> {
         self.needs.inverse(alloc, self.facts as usize)

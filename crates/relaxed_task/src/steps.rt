@@ -5,6 +5,7 @@ ghost use Rattle.formula_eval.specs.Readable.{is_readable};
 ghost use Rattle.grounder.specs.Candidates.{AreCandidates, AreCandidateRows};
 ghost use Rattle.plan_check.specs.Readable.{is_readable_pattern};
 ghost use Rattle.task_model.specs.Fit.{IsFit, is_fit_action};
+ghost use Rattle.task_model.specs.declared.limits.TheConstants.{SLOTS};
 
 use crate::conditions::{Scene, literal};
 use crate::lists::number;
@@ -67,7 +68,7 @@ fn gives<L: Look>(
     action: &Action,
     objects: &[Obj],
 ) -> Result<Vec<u32>, AllocError>
-    requires few { length objects.now ≤ 16 }
+    requires few { length objects.now ≤ SLOTS }
     requires adds { list_all is_readable_pattern action.now.adds ≡ true }
     requires deletes { list_all is_readable_pattern action.now.deletes ≡ true }
 {
@@ -95,7 +96,7 @@ fn add_rule<L: Look>(
 ) -> Result<Option<u32>, AllocError>
     requires fit { IsFit scene.now.task.now }
     requires action { is_fit_action scene.now.task.now.domain action.now ≡ true }
-    requires few { length objects.now ≤ 16 }
+    requires few { length objects.now ≤ SLOTS }
 {
     let state = State::new(scene.alloc);
     let Some(cost) = step_cost(scene.task, scene.look, &state, action, objects) else {

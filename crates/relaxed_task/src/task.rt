@@ -159,7 +159,11 @@ impl RelaxedTask {
     fn take_net(&mut self, alloc: Global, net: &mut Net) -> Result<(), AllocError> {
         self.goal = net.goal;
         self.step_cost = net.mean_cost();
-        self.costs.take_rules(alloc, &mut net.rules)?;
+        let goal = match net.goal {
+            Literal::Fact(fact) => Some(fact),
+            Literal::Always | Literal::Never => None,
+        };
+        self.costs.take_rules(alloc, &mut net.rules, goal)?;
         self.atoms = mem::replace(&mut net.fluents, AtomFacts::new(alloc));
         self.steps = mem::replace(&mut net.steps, Vec::new(alloc));
         self.held.resize(self.atoms.len(), 0)?;

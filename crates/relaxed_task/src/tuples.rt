@@ -4,6 +4,7 @@ ghost use Rattle.std.specs.List.{list_all};
 ghost use Rattle.fact_join.specs.Answers.{is_atom_over, is_pattern_of};
 ghost use Rattle.formula_eval.specs.Readable.{is_readable};
 ghost use Rattle.task_model.specs.Fit.{IsFitDomain};
+ghost use Rattle.task_model.specs.declared.limits.TheConstants.{SLOTS};
 
 use crate::conditions::Scene;
 use crate::inner::Exists;
@@ -77,7 +78,7 @@ fn add_rows<L: Look>(
     atoms: &[QueryAtom<'_>],
     rows: &mut Vec<Wide>,
 ) -> Result<(), JoinFault>
-    requires narrow { length query.now.sorts.now ≤ 16 }
+    requires narrow { length query.now.sorts.now ≤ SLOTS }
     requires lead { IfSome lead (λ atom. is_pattern_of (length query.now.sorts.now) atom.now ≡ true) }
     requires atoms { list_all (is_atom_over (length query.now.sorts.now)) atoms.now ≡ true }
     requires few { length rows.old.items ≤ query.now.most }
@@ -123,7 +124,7 @@ fn rows_of<L: Look>(
 ) -> Result<Option<Vec<Wide>>, AllocError>
     requires fit { IsFitDomain scene.now.task.now.domain }
     requires readable { is_readable scene.now.task.now.domain exists.now.body.now ≡ true }
-    requires narrow { length exists.now.sorts.now ≤ 16 }
+    requires narrow { length exists.now.sorts.now ≤ SLOTS }
 {
     let domain = &scene.task.domain;
     let statics = exists.inner_atoms(scene.alloc, domain, Role::Static)?;
@@ -154,7 +155,7 @@ pub(crate) fn tuples<L: Look>(
 ) -> Result<Option<Vec<[Obj; 16]>>, AllocError>
     requires fit { IsFitDomain scene.now.task.now.domain }
     requires readable { is_readable scene.now.task.now.domain exists.now.body.now ≡ true }
-    requires narrow { length exists.now.sorts.now ≤ 16 }
+    requires narrow { length exists.now.sorts.now ≤ SLOTS }
 {
     let Some(rows) = rows_of(scene, exists)? else {
         return Ok(None);

@@ -5,6 +5,7 @@ use Rattle.gen_lines.specs.Reply.{is_value}
 use Rattle.report_text.specs.Forms.{AreTuples}
 use Rattle.report_text.specs.Texts.{tuples_of, tuple_fields}
 use Rattle.report_reader.specs.declared.tuples.Shape.{Shape}
+use Rattle.gen_lines.specs.declared.spans.TheConstants.{YIELD_TUPLES}
 
 abbrev pub is_bar_field : List ℕ → Bool
 is_bar_field field = bytes_eq field (codes "|")
@@ -47,7 +48,7 @@ pub record AreBars (version bars : ℕ) (given : List (List ℕ)) : Type 0 where
 -- the bars, and how many values each tuple has
 pub record HasShape (version bars width : ℕ) (given : List (List ℕ)) : Type 0 where
   pub bars_are : AreBars version bars given
-  pub few : bars < 16
+  pub few : bars < YIELD_TUPLES
   pub size : (bars + 1) * width + bars ≡ length given
   pub some : width ≡ 0 → bars ≡ 0
 

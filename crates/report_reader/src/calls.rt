@@ -6,9 +6,9 @@ ghost use Rattle.report_reader.specs.Finding.{Finds};
 ghost use Rattle.report_reader.specs.Objects.{IsArgument};
 
 use crate::fields::Fields;
-use crate::objects::{Objects, copied, is_argument, is_name};
+use crate::objects::{Objects, copied, is_argument};
 use std::alloc::{AllocError, Global};
-use task_model::{Name, Seq};
+use task_model::{Name, Seq, is_name};
 use transcript_model::Call;
 
 /// The fields that are left, if all may stand for objects.

@@ -10,12 +10,7 @@ ghost use Rattle.report_reader.specs.Splits.{fields_left};
 use crate::bytes::{before, behind};
 use crate::numbers::number_in;
 use std::marker::Model;
-
-/// The largest number of 32 bits.
-const LARGEST: u64 = 4_294_967_295;
-
-/// The largest number of 8 bits.
-const LARGEST_SMALL: u64 = 255;
+use task_model::LARGEST_COUNT;
 
 /// What is left of a line. Contracts see the list of its fields.
 #[derive(Drop)]
@@ -106,7 +101,7 @@ impl<'a> Fields<'a> {
     pub(crate) fn number(&mut self) -> Option<u32>
         ensures { TakesFields IsNumber decimal result self.old self.new }
     {
-        let number = self.number_upto(LARGEST)?;
+        let number = self.number_upto(LARGEST_COUNT as u64)?;
         Some(number as u32)
     }
 
@@ -114,7 +109,7 @@ impl<'a> Fields<'a> {
     pub(crate) fn small(&mut self) -> Option<u8>
         ensures { TakesFields IsSmall decimal result self.old self.new }
     {
-        let number = self.number_upto(LARGEST_SMALL)?;
+        let number = self.number_upto(u8::MAX as u64)?;
         Some(number as u8)
     }
 

@@ -1,8 +1,6 @@
 //! The names, values and objects that a report may show.
 ghost use Rattle.std.specs.Prelude.{◌≡◌, ◌↔◌, true, IfOk, position};
-ghost use Rattle.std.specs.List.{list_all};
 ghost use Rattle.gen_lines.specs.Reply.{is_value};
-ghost use Rattle.task_model.specs.Fit.{is_name, is_name_byte};
 ghost use Rattle.report_text.specs.Forms.{IsGenerated, IsObject, IsPlaceholder};
 ghost use Rattle.report_reader.specs.Objects.{AreTwoPlaces, IsArgument, IsPlaceNumber, is_dot};
 
@@ -10,13 +8,7 @@ use crate::bytes::{before, behind};
 use crate::numbers::number_in;
 use gen_lines::is_value;
 use std::alloc::{AllocError, Global};
-use task_model::Name;
-
-/// The longest name, in bytes.
-const NAME_BYTES: usize = 255;
-
-/// The largest number.
-const LARGEST: u64 = 4_294_967_295;
+use task_model::{LARGEST_COUNT, Name, is_name};
 
 /// Which objects may stand in a call.
 #[derive(Clone, Copy, PartialEq, Eq, Debug)]
@@ -25,30 +17,6 @@ pub(crate) enum Objects {
     Real,
     /// Those, and placeholders.
     Supposed,
-}
-
-/// Whether this is a name in lower case.
-pub(crate) fn is_name(field: &[u8]) -> bool
-    ensures { result ≡ is_name field.now }
-{
-    match field.split_first() {
-        Some((first, rest)) => {
-            first.is_ascii_lowercase() && are_name_bytes(rest) && field.len() <= NAME_BYTES
-        }
-        None => false,
-    }
-}
-
-fn are_name_bytes(field: &[u8]) -> bool
-    ensures { result ≡ list_all is_name_byte field.now }
-{
-    field.iter().all(|b| is_name_byte(*b))
-}
-
-fn is_name_byte(b: u8) -> bool
-    ensures { result ≡ is_name_byte b }
-{
-    matches!(b, b'a'..=b'z' | b'0'..=b'9' | b'-' | b'_')
 }
 
 /// Whether this is `#` and a value.
@@ -99,7 +67,7 @@ fn is_place(field: &[u8]) -> bool
     ensures { (result ≡ true) ↔ IsPlaceNumber field.now }
 {
     match number_in(field) {
-        Some(number) => number >= 1 && number <= LARGEST,
+        Some(number) => number >= 1 && number <= LARGEST_COUNT as u64,
         None => false,
     }
 }

@@ -7,12 +7,9 @@ ghost use Rattle.report_reader.specs.Tuples.{is_bar_field, AreBars, IsShape, Tak
 
 use crate::fields::Fields;
 use crate::objects::copied;
-use gen_lines::is_value;
+use gen_lines::{YIELD_TUPLES, is_value};
 use std::alloc::{AllocError, Global};
 use task_model::{Name, Seq};
-
-/// The most tuples of an answer.
-const MOST_TUPLES: usize = 16;
 
 /// The tuples of an answer.
 #[derive(Drop)]
@@ -59,7 +56,7 @@ fn shape_of(version: u8, fields: &Fields<'_>) -> Option<Shape>
     ensures { IsShape version result fields.now }
 {
     let bars = bars_of(version, fields);
-    if bars >= MOST_TUPLES {
+    if bars >= YIELD_TUPLES as usize {
         return None;
     }
     let many = fields.len() - bars;

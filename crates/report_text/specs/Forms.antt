@@ -14,6 +14,7 @@ use Rattle.transcript_model.specs.declared.outcome.Origin.{Origin}
 use Rattle.transcript_model.specs.declared.outcome.Outcome.{Outcome}
 use Rattle.transcript_model.specs.declared.outcome.Outcome.TheVariants as outcome
 use Rattle.transcript_model.specs.declared.report.Report.{Report}
+use Rattle.gen_lines.specs.declared.spans.TheConstants.{YIELD_TUPLES}
 
 -- ---- numbers and names
 
@@ -56,10 +57,11 @@ pub record IsFormedCall (IsArgument : List ℕ → Type 0) (call : Call) : Type 
 
 -- ---- entries
 
--- From 1 to 16 tuples of equally many values, and one where there are no values. In version 1 there is one.
+-- At least one tuple and no more than a yield may hold, of equally many values, and one where there are no values. In
+-- version 1 there is one.
 pub record AreTuples (version tuples : ℕ) (values : List (List ℕ)) : Type 0 where
   pub some : 1 ≤ tuples
-  pub few : tuples ≤ 16
+  pub few : tuples ≤ YIELD_TUPLES
   pub one : version ≡ 1 → tuples ≡ 1
   pub empty : length values ≡ 0 → tuples ≡ 1
   pub width : ℕ

@@ -1,7 +1,7 @@
 -- What a call makes of a host that starts its children again.
 use Rattle.std.proofs.Common.{◌≡◌, ℕ, ◌+◌, ◌<◌, ◌≤◌, Bool, true, false, List, [], ◌∷◌, ◌++◌, Some, Result, Ok, Err, IfOk, OnOk, is_ok, IsErrOf, min, refl, sym, ap, subst, ◌∙◌, arith}
 use Rattle.io_world.specs.Faults.{Counts, HasCause}
-use Rattle.io_world.specs.Leads.{wants_memory}
+use Rattle.io_world.specs.Leads.{wants_memory, IsLed}
 use Rattle.io_world.specs.declared.host.HostFault.{HostFault}
 use Rattle.io_world.specs.declared.host.HostFault.TheVariants.{Failed, Memory}
 use Rattle.io_world.specs.Logs.{Calls, Notes}
@@ -10,7 +10,7 @@ use Rattle.io_world.proofs.TalksLemmas.{extends_none}
 use Rattle.restart_host.proofs.NotedLemmas.{failures_noted, noted_failures, noted_lost, noted_whole}
 use Rattle.restart_host.proofs.UsesLemmas.{done_once}
 use Rattle.restart_host.specs.Leads.{Carries, IsDoneBy, Parts}
-use Rattle.restart_host.specs.Noted.{IsCallNoted, IsLed}
+use Rattle.restart_host.specs.Noted.{IsCallNoted}
 use Rattle.restart_host.specs.Tries.{CalledInner, Tried, has_failed, is_failed, refusals}
 use Rattle.restart_host.specs.Uses.{IsDone}
 

@@ -5,7 +5,7 @@ use Rattle.lemmas.proofs.Counts.{count_joined}
 use Rattle.io_world.specs.Logs.{Calls}
 use Rattle.io_world.specs.Talks.{Event, LogGrows}
 use Rattle.io_world.proofs.TalksLemmas.{extends_none, extends_more}
-use Rattle.restart_host.specs.Noted.{IsLed}
+use Rattle.io_world.specs.Leads.{IsLed}
 use Rattle.restart_host.specs.Tries.{Seen, failures, has_failed}
 use Rattle.restart_host.specs.Uses.{AreDone}
 

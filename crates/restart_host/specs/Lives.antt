@@ -4,6 +4,7 @@ use Rattle.std.specs.List.{All, slice_split}
 use Rattle.gen_lines.specs.Lines.{ended, is_feed, lines_of, unfinished}
 use Rattle.io_world.specs.Talks.{Event, Talk, started, wrote, heard, stopped, said_after, silence}
 use Rattle.restart_host.specs.Tries.{IsOn, is_failed}
+use Rattle.gen_lines.specs.declared.line_buf.TheConstants.{LINE_BYTES, LINE_LENGTH}
 
 -- whether a child has fallen, after one more call
 abbrev pub fallen_after : ℕ → Bool → Event → Bool
@@ -96,10 +97,11 @@ pub record IsAskedAt (text : List ℕ) (place : ℕ) (m : Moment) : Type 0 where
   pub spelt : request ++ 10 ∷ [] ≡ text
   pub at : slice_get (lines_to m) place ≡ Some request
 
--- The line stands at a place of those that were read from it since its start, with at most 1,024 bytes as it came.
+-- The line stands at a place of those that were read from it since its start, with no more bytes as it came than a line
+-- may have.
 pub record IsSaidAt (line : List ℕ) (place : ℕ) (m : Moment) : Type 0 where
   pub at : slice_get (lines_from m) place ≡ Some line
-  pub short : IfSome (slice_get (ended (slice_split is_feed m.talk.heard)) place) (λ raw. length raw ≤ 1024)
+  pub short : IfSome (slice_get (ended (slice_split is_feed m.talk.heard)) place) (λ raw. length raw ≤ LINE_LENGTH)
 
 -- A line stands among those that were read from the child since its start at the place at which the line of this text
 -- stands among those that were written to it.
@@ -108,10 +110,10 @@ pub record IsFetched (text line : List ℕ) (m : Moment) : Type 0 where
   pub asked : IsAskedAt text place m
   pub said : IsSaidAt line place m
 
--- No line does: 1,025 bytes without a line feed follow as many lines as stand before it.
+-- No line does: LINE_BYTES bytes without a line feed follow as many lines as stand before it.
 pub record IsTooLong (text : List ℕ) (m : Moment) : Type 0 where
   pub asked : IsAskedAt text (length (lines_from m)) m
-  pub long : length (unfinished m.talk.heard) ≡ 1025
+  pub long : length (unfinished m.talk.heard) ≡ LINE_BYTES
 
 -- A line is fetched: in the end it stands at the place of the request.
 pub record Fetches (child : ℕ) (words : List (List ℕ)) (text line : List ℕ) (m : Moment) (tries : List Event)

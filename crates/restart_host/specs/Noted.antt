@@ -1,5 +1,5 @@
 -- Calls that are noted, and whether one of them wanted memory.
-use Rattle.std.specs.Prelude.{◌≡◌, ◌⊎◌, ℕ, Bool, true, false, Result, Ok, Err}
+use Rattle.std.specs.Prelude.{◌≡◌, ◌⊎◌, ℕ, true, false, Result, Ok, Err}
 use Rattle.io_world.specs.Leads.{wants_memory}
 use Rattle.io_world.specs.Logs.{Calls, Notes}
 use Rattle.io_world.specs.Talks.{Event}
@@ -13,12 +13,6 @@ pub record Lost (old new : Calls) : Type 0 where
 -- The call was noted, or there was no memory for that, and it answers so: the log isn't whole from then on.
 pub record IsCallNoted {T : Type 0} (old new : Calls) (event : Event) (result : Result T HostFault) : Type 0 where
   pub noted : Notes old new event ⊎ ((wants_memory result ≡ true) × Lost old new)
-
--- Calls led there of which one may have wanted memory only where this is said.
-pub record IsLed (Leads : Bool → Type 0) (memory : Bool) : Type 0 where
-  pub wanted : Bool
-  pub quiet : memory ≡ false → wanted ≡ false
-  pub leads : Leads wanted
 
 -- the same answer, with this number
 abbrev pub counted : Result (Unit {0}) HostFault → ℕ → Result ℕ HostFault

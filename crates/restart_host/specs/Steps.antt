@@ -12,6 +12,7 @@ use Rattle.restart_host.specs.Lives.{CourseOfCalls, IsNoRead, IsRewritten, IsWri
 use Rattle.restart_host.specs.Uses.{AreOfLine, AreStarts, Completes, IsRequest}
 use Rattle.restart_host.specs.declared.kept.Kept.{Kept}
 use Rattle.restart_host.specs.declared.kept.Life.{Life}
+use Rattle.gen_lines.specs.declared.line_buf.TheConstants.{LINE_BYTES}
 
 -- Bytes are written to it, the first ones at each moment.
 pub record Sent (child : ℕ) (bytes : List ℕ) (result : Result (Unit {0}) HostFault) (m : Moment) (events : List Event)
@@ -42,7 +43,7 @@ pub record IsReviving (child : ℕ) (words : List (List ℕ)) (asked : List ℕ)
   pub starts : asked ≡ [] → AreStarts child words result events
 
 -- Reads of it gave bytes behind those that were held, in all, each while they had no line feed, until they had one or
--- were 1,025; or one was refused.
+-- were LINE_BYTES; or one was refused.
 pub record IsHearing (child : ℕ) (old new : List ℕ) (result : Result (Unit {0}) HostFault) (events : List Event)
     : Type 0 where
   pub bytes : List ℕ
@@ -51,7 +52,7 @@ pub record IsHearing (child : ℕ) (old new : List ℕ) (result : Result (Unit {
   pub gives : Gives child old bytes reads
   pub cut : events ≡ reads ++ refused
   pub all : OnOk result ((refused ≡ []) × (new ≡ old ++ bytes))
-  pub full : OnOk result (IsLine new → length new ≡ 1025)
+  pub full : OnOk result (IsLine new → length new ≡ LINE_BYTES)
   pub failed : (fault : HostFault) → result ≡ Err fault
       → IsLine (old ++ bytes) × ((room : ℕ) × (refused ≡ heard child room (Err fault) ∷ []))
 
@@ -104,7 +105,7 @@ pub record Reads (child : ℕ) (before asked : List ℕ) (kept : Kept) (answer :
     (events : List Event) : Type 0 where
   pub course : CourseOfCalls child (IsRewritten m.talk.written asked) m events
   pub gives : IfOk answer (λ bytes. AreOfLine bytes
-      × (length before < 1025 → IsRequest asked → Completes asked before bytes (moment_by child m events))
+      × (length before < LINE_BYTES → IsRequest asked → Completes asked before bytes (moment_by child m events))
       × Fits (unfinished (before ++ bytes)) kept.asked.items kept.life (moment_by child m events)
       × (kept.asked.items ≡ (if ends_with_byte 10 bytes then after_first is_feed asked else asked)))
   pub fell : IsErrOf answer Failed

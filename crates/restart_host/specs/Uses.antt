@@ -9,6 +9,7 @@ use Rattle.io_world.specs.declared.host.HostFault.{HostFault}
 use Rattle.io_world.specs.declared.host.HostFault.TheVariants.{Failed, Memory}
 use Rattle.restart_host.specs.Lives.{AreBringing, AreFetching, Brings, IsFetched, IsTooLong, Moment, moment_by, moment_of}
 use Rattle.restart_host.specs.Tries.{IsOn}
+use Rattle.gen_lines.specs.declared.line_buf.TheConstants.{LINE_BYTES}
 
 -- ---- how a child is used
 
@@ -91,10 +92,11 @@ abbrev pub IsWriting : {T : Type 0} → ℕ → List (List ℕ) → (asked bytes
 IsWriting child words asked bytes (Ok n) m events = Brings child words asked bytes m events
 IsWriting child words asked bytes (Err fault) m events = AreBringing child words asked bytes m events
 
--- What is read completes a line, which is fetched; or it makes 1,025 bytes without a line feed, and so it is below.
+-- What is read completes a line, which is fetched; or it makes LINE_BYTES bytes without a line feed, and so it is
+-- below.
 pub record Completes (text before bytes : List ℕ) (m : Moment) : Type 0 where
   pub line : (line : List ℕ) → lines_of (before ++ bytes) ≡ line ∷ [] → IsFetched text line m
-  pub long : lines_of (before ++ bytes) ≡ [] → length (before ++ bytes) ≡ 1025 → IsTooLong text m
+  pub long : lines_of (before ++ bytes) ≡ [] → length (before ++ bytes) ≡ LINE_BYTES → IsTooLong text m
 
 -- bytes of one line: there is no line feed among them but the last byte
 abbrev pub AreOfLine : List ℕ → Type 0
@@ -105,7 +107,7 @@ pub record IsReading (child : ℕ) (words : List (List ℕ)) (text before : List
     (m : Moment) (events : List Event) : Type 0 where
   pub fetching : AreFetching child words text m events
   pub one : IfOk answer AreOfLine
-  pub gives : IfOk answer (λ bytes. length before < 1025 → IsRequest text
+  pub gives : IfOk answer (λ bytes. length before < LINE_BYTES → IsRequest text
       → Completes text before bytes (moment_by child m events))
 
 -- A call, behind these calls on the host and those on the host below, is done by these. A start is done by starts; a

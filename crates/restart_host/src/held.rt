@@ -21,12 +21,14 @@ pub(crate) struct Held {
 
 impl Model for Held {
     ghost use Rattle.std.specs.Prelude.{ℕ, List, ◌≤◌, vec_len, vec_capacity};
+    ghost use Rattle.gen_lines.specs.declared.line_buf.TheConstants.{LINE_BYTES};
 
     ghost Value = { List ℕ };
 
     ghost view = { λ h. h.bytes.items };
 
-    ghost invariant = { λ h. (vec_len h.bytes ≤ 1025) × (1025 ≤ vec_capacity h.bytes) };
+    ghost invariant = { λ h. (vec_len h.bytes ≤ LINE_BYTES)
+        × (LINE_BYTES ≤ vec_capacity h.bytes) };
 }
 
 impl Held {

@@ -1,6 +1,7 @@
 // Room for children of a host, none of whom was started.
 ghost use Rattle.std.specs.Prelude.{◌≡◌, IfOk, vec_len};
 ghost use Rattle.restart_host.specs.Kept.{AreIdle};
+ghost use Rattle.io_world.specs.declared.host.TheConstants.{CHILDREN};
 
 use crate::kept::Kept;
 use io_world::CHILDREN;
@@ -10,7 +11,7 @@ use std::alloc::{AllocError, Global};
 #[derive(Drop)]
 pub struct IdleChildren {
     pub(crate) items: Vec<Kept>,
-    ghost all: { vec_len items ≡ 17 },
+    ghost all: { vec_len items ≡ CHILDREN },
     ghost idle: { AreIdle items.items },
 }
 
@@ -27,7 +28,7 @@ impl IdleChildren {
 
 /// Children that were never started.
 fn idle_children(alloc: Global) -> Result<Vec<Kept>, AllocError>
-    ensures all { IfOk result (λ children. vec_len children ≡ 17) }
+    ensures all { IfOk result (λ children. vec_len children ≡ CHILDREN) }
     ensures idle { IfOk result (λ children. AreIdle children.items) }
 {
     let mut children = Vec::new(alloc);

@@ -1,12 +1,12 @@
 // Calls on a child that are done on the host below and noted.
 ghost use Rattle.std.specs.Prelude.{◌≡◌, ◌<◌, ◌≤◌, ◌+◌, ◌++◌, ℕ, List, true, false, length, map, take, string_bytes, vec_len, is_ok, Ok, IfOk, OnOk, MatchResult};
 ghost use Rattle.io_world.specs.Faults.{last_count, Counts};
-ghost use Rattle.io_world.specs.Leads.{wants_memory};
+ghost use Rattle.io_world.specs.Leads.{wants_memory, IsLed};
 ghost use Rattle.io_world.specs.Logs.{Notes};
 ghost use Rattle.io_world.specs.Talks.{given, heard, started, stopped, wrote};
 ghost use Rattle.io_world.specs.declared.host.HostFault.TheVariants.{Failed};
 ghost use Rattle.restart_host.specs.Kept.{IsKeptChild, IsNew};
-ghost use Rattle.restart_host.specs.Noted.{IsLed, IsCallNoted, counted};
+ghost use Rattle.restart_host.specs.Noted.{IsCallNoted, counted};
 ghost use Rattle.restart_host.specs.Steps.{GivesBytes, HandsOut, IsBringing};
 ghost use Rattle.restart_host.specs.Tries.{CalledInner, Tried, refusals, seen_by_host};
 ghost use Rattle.restart_host.specs.Uses.{AreStarts, IsEnding};

@@ -6,6 +6,7 @@ ghost use Rattle.io_world.specs.Faults.{last_count};
 ghost use Rattle.io_world.specs.Logs.{calls_spell, no_calls, said_of, told_of};
 ghost use Rattle.restart_host.specs.Kept.{is_alive, is_on, runs_outside};
 ghost use Rattle.restart_host.specs.Tied.{IsTied};
+ghost use Rattle.io_world.specs.declared.host.TheConstants.{CHILDREN};
 
 use crate::idle::IdleChildren;
 use crate::kept::{Kept, copy_words};
@@ -26,7 +27,7 @@ pub struct RestartHost<'a, H: Host> {
     children: Vec<Kept>,
     log: CallLog,
     faults: FaultCount,
-    ghost all: { vec_len children ≡ 17 },
+    ghost all: { vec_len children ≡ CHILDREN },
     ghost ties: { (k : ℕ) → H.running host.now k ≡ is_alive children.items k },
     ghost room: { count_by is_on children.items ≤ log.kept },
     ghost over: { 0 < faults → left ≡ 0 },
@@ -73,7 +74,7 @@ impl<'a, H: Host> RestartHost<'a, H> {
 impl<'a, H: Host> Host for RestartHost<'a, H> {
     ghost use Rattle.std.proofs.Common.{refl, ◌∙◌};
     ghost use Rattle.restart_host.specs.Leads.{Carries, carries_none, carries_chain, carries_end, led_none, led_chain, led_end};
-    ghost use Rattle.restart_host.specs.Noted.{IsLed};
+    ghost use Rattle.io_world.specs.Leads.{IsLed};
     ghost use Rattle.restart_host.specs.Tries.{seen_by_host};
 
     ghost faults = { λ h. h.faults };

@@ -2,11 +2,11 @@
 use Rattle.std.proofs.Common.{◌≡◌, ◌≤◌, ◌∙◌, Bool, List, Option, ℕ, Result, Ok, Err, true, false, ap, arith, refl, subst, sym}
 use Rattle.std.proofs.lemmas.Result.{err_from_is_err_and}
 use Rattle.std.specs.Result.{IsErrAnd, OnOk}
-use Rattle.io_world.specs.Leads.{wants_memory}
+use Rattle.io_world.specs.Leads.{wants_memory, IsLed}
 use Rattle.io_world.specs.declared.host.Host as hosts
 use Rattle.io_world.specs.declared.host.HostFault.{HostFault}
 use Rattle.io_world.specs.declared.host.HostFault.TheVariants as host
-use Rattle.round_run.specs.Led.{IsLed, is_memory, stops_for_memory}
+use Rattle.round_run.specs.Led.{is_memory, stops_for_memory}
 use Rattle.round_run.specs.Rolling.{Goes, IsHostFault}
 use Rattle.round_run.specs.Told.{Became, HostTold, Stretch, became, host_told}
 use Rattle.round_run.specs.declared.fault.RunFault.{RunFault}

@@ -15,6 +15,7 @@ use Rattle.transcript_model.specs.Rounds.{IsRound}
 use Rattle.transcript_model.specs.declared.entry.Entry.{Entry}
 use Rattle.transcript_model.specs.declared.entry.Entry.TheVariants as entry
 use Rattle.lemmas.proofs.Members.{from_take}
+use Rattle.pools.specs.Pools.{IsChild}
 use Rattle.session_core.proofs.StateLemmas.{bad_is}
 use Rattle.session_core.proofs.SlotsLemmas.{children_of, children_kept, child_kept, map_at, own_slot, at_own, at_other}
 use Rattle.session_core.specs.Heard.{is_bad_at, number_at}
@@ -119,7 +120,7 @@ module _ (s : State) (running : ℕ → Bool) (place : ℕ) (r : IsRolling s run
       | inr there ↦ r.each_open k u there.1
     ];
     low = λ k u is. elim (changed_at s.slots place t sent_slot r.apart at k u is) [
-      | inl here ↦ subst (λ (v : Slot). v.child ≤ 16) (sym here.1) (r.low place t at)
+      | inl here ↦ subst (λ (v : Slot). IsChild v.child) (sym here.1) (r.low place t at)
       | inr there ↦ r.low k u there.1
     ];
     runs = λ k u is. elim (changed_at s.slots place t sent_slot r.apart at k u is) [
@@ -215,7 +216,7 @@ module _ (s : State) (running : ℕ → Bool) (sent place : ℕ) (r : IsRolling 
         | inr there ↦ r.each_open k u there.1 ∙ ap not (less_more k place there.0)
       ];
       low = λ k u is. elim (changed_at s.slots place t (heard_slot line) r.apart at k u is) [
-        | inl here ↦ subst (λ (v : Slot). v.child ≤ 16) (sym here.1) (r.low place t at)
+        | inl here ↦ subst (λ (v : Slot). IsChild v.child) (sym here.1) (r.low place t at)
         | inr there ↦ r.low k u there.1
       ];
       runs = λ k u is. elim (changed_at s.slots place t (heard_slot line) r.apart at k u is) [

@@ -6,7 +6,8 @@ use Rattle.io_world.specs.declared.host.HostFault.{HostFault}
 use Rattle.round_run.specs.Breaking.{LogHears}
 use Rattle.round_run.specs.Calls.{LogReads, LogStartsPart, LogStops, starts_of}
 use Rattle.round_run.specs.Held.{Held, is_child_running}
-use Rattle.round_run.specs.Led.{IsLed, stops_for_memory}
+use Rattle.io_world.specs.Leads.{IsLed}
+use Rattle.round_run.specs.Led.{stops_for_memory}
 use Rattle.round_run.specs.Resting.{KeepsSilent}
 use Rattle.round_run.specs.Rolling.{IsHostFault}
 use Rattle.round_run.specs.Starts.{AllWork}

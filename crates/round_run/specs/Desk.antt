@@ -9,7 +9,8 @@ use Rattle.round_run.specs.Breaking.{RunBreaks}
 use Rattle.round_run.specs.Calls.{Runs}
 use Rattle.round_run.specs.Dialogue.{workers_in}
 use Rattle.round_run.specs.Held.{Held, is_child_running}
-use Rattle.round_run.specs.Led.{IsLed, stops_for_memory}
+use Rattle.io_world.specs.Leads.{IsLed}
+use Rattle.round_run.specs.Led.{stops_for_memory}
 use Rattle.round_run.specs.Resting.{AreCaused, GoesInOrder, Rests}
 use Rattle.round_run.specs.Rolling.{Goes, Stopped}
 use Rattle.round_run.specs.Stops.{MayWrite}

@@ -19,6 +19,7 @@ use Rattle.transcript_model.specs.declared.entry.Entry.TheVariants as entry
 use Rattle.transcript_model.specs.declared.head.Head.{Head}
 use Rattle.round_run.specs.Stops.{MayHear}
 use Rattle.round_run.specs.declared.fault.RunFault.{RunFault}
+use Rattle.gen_lines.specs.declared.line_buf.TheConstants.{LINE_BYTES, LINE_LENGTH}
 
 -- ---- who is asked what
 
@@ -103,9 +104,9 @@ AreSaid task version requests replies child lines =
 abbrev pub raw_lines : List ℕ → List (List ℕ)
 raw_lines heard = ended (slice_split is_feed heard)
 
--- the line at this place has at most 1,024 bytes as it came
+-- the line at this place has no more bytes as it came than a line may have
 abbrev pub IsShortAt : List ℕ → ℕ → Type 0
-IsShortAt heard place = IfSome (slice_get (raw_lines heard) place) (λ line. length line ≤ 1024)
+IsShortAt heard place = IfSome (slice_get (raw_lines heard) place) (λ line. length line ≤ LINE_LENGTH)
 
 -- so have the first lines, so many
 abbrev pub AreShort : List ℕ → ℕ → Type 0
@@ -150,13 +151,13 @@ pub record BrokenOff (task : Task) (version : ℕ) (pools : List Workers) (Front
 
 -- ---- lines that are no answer
 
--- At this place of the bytes' lines stands one that is none, for this cause, and came with at most 1,024 bytes; or
--- 1,025 bytes without a line feed follow the lines before it.
+-- At this place of the bytes' lines stands one that is none, for this cause, and came with no more bytes than a line
+-- may have; or LINE_BYTES bytes without a line feed follow the lines before it.
 abbrev pub IsBadLine : List ℕ → ℕ → Wanted → Why → Type 0
 IsBadLine heard place wanted why =
     ((line : List ℕ) × (slice_get (lines_of heard) place ≡ Some line) × (reply_of line wanted ≡ bad why)
     × IsShortAt heard place)
-    ⊎ ((why ≡ TooLong) × (length (lines_of heard) ≡ place) × (length (unfinished heard) ≡ 1025))
+    ⊎ ((why ≡ TooLong) × (length (lines_of heard) ≡ place) × (length (unfinished heard) ≡ LINE_BYTES))
 
 -- Each request before the one of this number is answered, and the line that its child says next is no answer, for this
 -- cause.

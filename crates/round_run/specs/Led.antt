@@ -1,5 +1,5 @@
--- What calls made of a host, and whether one of them may have wanted memory.
-use Rattle.std.specs.Prelude.{◌≡◌, Bool, true, false, Result, Ok, Err}
+-- Whether a part of a run stops since memory is wanting.
+use Rattle.std.specs.Prelude.{Bool, true, false, Result, Ok, Err}
 use Rattle.round_run.specs.declared.fault.RunFault.{RunFault}
 use Rattle.round_run.specs.declared.fault.RunFault.TheVariants.{Answer, Generator, Write, Memory}
 
@@ -14,9 +14,3 @@ is_memory (Answer number why) = false
 abbrev pub stops_for_memory : {T : Type 0} → Result T RunFault → Bool
 stops_for_memory (Ok x) = false
 stops_for_memory (Err fault) = is_memory fault
-
--- Calls led there, of which one may have wanted memory only where this is said.
-pub record IsLed (Leads : Bool → Type 0) (memory : Bool) : Type 0 where
-  pub wanted : Bool
-  pub quiet : memory ≡ false → wanted ≡ false
-  pub leads : Leads wanted

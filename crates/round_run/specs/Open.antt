@@ -8,7 +8,8 @@ use Rattle.round_run.specs.Breaking.{LogBreaks}
 use Rattle.round_run.specs.Calls.{AddsCalls, LogStartsPart, starts_of}
 use Rattle.round_run.specs.Dialogue.{workers_in}
 use Rattle.round_run.specs.Held.{Held, is_child_running}
-use Rattle.round_run.specs.Led.{IsLed, stops_for_memory}
+use Rattle.io_world.specs.Leads.{IsLed}
+use Rattle.round_run.specs.Led.{stops_for_memory}
 use Rattle.round_run.specs.Resting.{AreCaused, GoesInOrder, HasStarted, IsFrontOfBatch, Listens, RanBatch, RanRound, Rolled, Stays, StaysIdle, Works}
 use Rattle.round_run.specs.Rolling.{Goes, IsFrontPart, Stopped, finished_round}
 use Rattle.round_run.specs.Stops.{MayHear}

@@ -1,5 +1,5 @@
 -- An open round: whose requests are sent, whose answers are heard, and what was printed of it.
-use Rattle.std.specs.Prelude.{◌≡◌, ℕ, ◌≤◌, ◌++◌, List, map, length, Bool, true, false, not, Option, Some, slice_get, is_none, nat_lt, unwrap_or}
+use Rattle.std.specs.Prelude.{◌≡◌, ℕ, ◌++◌, List, map, length, Bool, true, false, not, Option, Some, slice_get, is_none, nat_lt, unwrap_or}
 use Rattle.std.specs.Io.KnownBytes.{Appends}
 use Rattle.std.specs.List.{flat_map}
 use Rattle.io_world.specs.Talks.{Talk}
@@ -13,7 +13,7 @@ use Rattle.transcript_model.specs.declared.entry.Entry.{Entry}
 use Rattle.transcript_model.specs.declared.entry.Entry.TheVariants as entry
 use Rattle.session_core.specs.Slots.{Slot}
 use Rattle.session_core.specs.State.{State, with_slots}
-use Rattle.pools.specs.Pools.{Workers}
+use Rattle.pools.specs.Pools.{IsChild, Workers}
 use Rattle.round_run.specs.Dialogue.{BrokenOff, HasBadLine}
 use Rattle.round_run.specs.Stops.{StopsAt}
 use Rattle.round_run.specs.declared.fault.RunFault.{RunFault}
@@ -38,7 +38,7 @@ pub record IsRolling (s : State) (running : ℕ → Bool) (sent answered : ℕ) 
   pub each_sent : (k : ℕ) (t : Slot) → slice_get s.slots k ≡ Some t → t.sent ≡ nat_lt k sent
   pub each_open : (k : ℕ) (t : Slot) → slice_get s.slots k ≡ Some t
       → is_none t.answer ≡ not (nat_lt k answered)
-  pub low : (k : ℕ) (t : Slot) → slice_get s.slots k ≡ Some t → t.child ≤ 16
+  pub low : (k : ℕ) (t : Slot) → slice_get s.slots k ≡ Some t → IsChild t.child
   pub runs : (k : ℕ) (t : Slot) → slice_get s.slots k ≡ Some t → running t.child ≡ true
 
 -- nothing but the slots of the round has changed

@@ -18,7 +18,7 @@ abbrev pub NoneWorks : List Pool → (ℕ → Bool) → Type 0
 NoneWorks pools running =
     (k child : ℕ) (p : Pool) → slice_get pools k ≡ Some p → IsWorker p child → running child ≡ false
 
--- Pools have children of their own, with numbers up to 16, and words that start these.
+-- Pools have children of their own, which a host has, and words that start these.
 pub record AreStartable (pools : List Pool) : Type 0 where
   pub apart : (j k child : ℕ) (p q : Pool) → slice_get pools j ≡ Some p → slice_get pools k ≡ Some q
       → IsWorker p child

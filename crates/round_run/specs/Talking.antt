@@ -18,6 +18,7 @@ use Rattle.round_run.specs.Held.{Held}
 use Rattle.round_run.specs.Rolling.{finished_round}
 use Rattle.round_run.specs.declared.fault.RunFault.{RunFault}
 use Rattle.round_run.specs.declared.fault.RunFault.TheVariants.{Answer, Generator, Write, Memory}
+use Rattle.gen_lines.specs.declared.line_buf.TheConstants.{LINE_BYTES}
 
 -- ---- one child
 
@@ -90,12 +91,12 @@ pub record IsTalking (task : Task) (s : State) (sent answered : ℕ) (kept : ℕ
 
 -- ---- a line that is heard
 
--- Bytes of the child came and are kept behind the others: a line feed is among all these, or they are 1,025.
+-- Bytes of the child came and are kept behind the others: a line feed is among all these, or they are LINE_BYTES.
 pub record Fills (child : ℕ) (kept left : List ℕ) (before after : ℕ → Option Talk) : Type 0 where
   pub more : List ℕ
   pub heard : Hears child more before after
   pub rest : left ≡ kept ++ more
-  pub full : lines_of left ≡ [] → length left ≡ 1025
+  pub full : lines_of left ≡ [] → length left ≡ LINE_BYTES
 
 -- the line is no answer to the request of this number
 abbrev pub IsAnswerRefused : List Slot → ℕ → List ℕ → RunFault → Type 0
@@ -105,8 +106,8 @@ IsAnswerRefused slots child line Generator = ⊥
 IsAnswerRefused slots child line Memory = ⊥
 IsAnswerRefused slots child line Write = ⊥
 
--- Bytes of the child came, the first line of all that are kept of it is taken, and it is an answer, in at most 1,024
--- bytes as it came.
+-- Bytes of the child came, the first line of all that are kept of it is taken, and it is an answer, in no more bytes as
+-- it came than a line may have.
 pub record TakesAnswer (old : State) (child : ℕ) (new : State) (kept left : List ℕ)
     (was now : ℕ → Option Talk) : Type 0 where
   pub more : List ℕ
@@ -118,13 +119,13 @@ pub record TakesAnswer (old : State) (child : ℕ) (new : State) (kept left : Li
   pub good : is_bad_at old.slots child line ≡ false
   pub after : new ≡ after_line old child line false
 
--- the first line of these bytes, of at most 1,024 as it came, is no answer, for this cause; or they are 1,025 without a
--- line feed
+-- the first line of these bytes, no longer as it came than a line may be, is no answer, for this cause; or they are
+-- LINE_BYTES without a line feed
 abbrev pub IsBadFirst : List Slot → ℕ → List ℕ → ℕ → Why → Type 0
 IsBadFirst slots child bytes number why =
     ((line : List ℕ) × (lines_of bytes ≡ line ∷ lines_of (after_first is_feed bytes))
     × (heard_at slots child line ≡ heard.Bad number why) × IsFirstShort bytes)
-    ⊎ ((why ≡ TooLong) × (lines_of bytes ≡ []) × (length bytes ≡ 1025))
+    ⊎ ((why ≡ TooLong) × (lines_of bytes ≡ []) × (length bytes ≡ LINE_BYTES))
 
 -- why no answer of the child was taken, of which these bytes are known
 abbrev pub IsBlamed : List Slot → ℕ → List ℕ → RunFault → Type 0

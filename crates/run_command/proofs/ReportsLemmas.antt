@@ -1,12 +1,12 @@
 -- How a run stands, by what was heard of its children.
-use Rattle.std.proofs.Common.{◌≡◌, ℕ, List, refl, sym, subst, ap, ◌∙◌, inl, Option, Result, Ok, Err, IfErr, IfOk, IsErrAnd, IsErrOf}
+use Rattle.std.proofs.Common.{◌≡◌, ℕ, List, refl, sym, subst, ap, ◌∙◌, inl, Option, Result, Ok, Err, IsErrAnd, IsErrOf}
 use Rattle.command_files.specs.Inputs.{SolvesNothing}
 use Rattle.command_files.specs.Outside.{FilesSeen, Outside, Written, resting}
 use Rattle.command_files.specs.Stop.{IsOfInput}
 use Rattle.command_files.specs.declared.stop.Stop.{Stop}
 use Rattle.command_files.specs.declared.stop.Stop.TheVariants as stop
 use Rattle.command_line.specs.Words.{SolveWords}
-use Rattle.io_world.specs.Talks.{Event, LogGrows, Talk}
+use Rattle.io_world.specs.Talks.{Event, Talk}
 use Rattle.round_run.proofs.StoppedLemmas.{handed_err, same_err}
 use Rattle.round_run.specs.Told.{Course}
 use Rattle.round_run.specs.declared.fault.RunFault.{RunFault}

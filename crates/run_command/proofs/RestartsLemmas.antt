@@ -1,5 +1,5 @@
 -- What was heard of children that are started again where they fail.
-use Rattle.std.proofs.Common.{◌≡◌, ℕ, ◌<◌, arith, zero, suc, true, false, List, [], Option, Some, Result, Ok, Err, refl, sym, subst, ap, ◌∙◌, IfOk, IsErrOf}
+use Rattle.std.proofs.Common.{◌≡◌, ℕ, ◌<◌, arith, zero, suc, false, List, [], Option, Some, Result, Ok, Err, refl, sym, subst, ap, ◌∙◌, IfOk, IsErrOf}
 use Rattle.io_world.proofs.TalksLemmas.{extends_none}
 use Rattle.io_world.specs.Logs.{no_calls, said_of}
 use Rattle.io_world.specs.Talks.{Event, Talk}

@@ -11,7 +11,7 @@ use Rattle.instance_queue.specs.Level.{due_instances}
 use Rattle.instance_queue.specs.declared.due.Due.{Due}
 use Rattle.lemmas.proofs.Members.{member_at}
 use Rattle.pools.proofs.PoolsLemmas.{server_is, workers_fit}
-use Rattle.pools.specs.Pools.{AreFitPools, HasChild, Workers, child_for, has_stream, server, shares_of, asked_streams}
+use Rattle.pools.specs.Pools.{AreFitPools, HasChild, IsChild, Workers, child_for, has_stream, server, shares_of, asked_streams}
 use Rattle.task_model.specs.Known.{Known, IsCoherent}
 use Rattle.lemmas.specs.Lists.{AreDistinct}
 use Rattle.task_model.specs.Streams.{IsDue}
@@ -184,7 +184,7 @@ module _ (task : Task) (s : State) (dues : List Due) (works : s.failed ≡ false
       served_at task s.pools dues h.pools may.fit k d at (slice_get_within task.streams d.instance.stream due.stream due.named)
 
   pub children_fit : (k : ℕ) (d : Due) → slice_get dues k ≡ Some d
-      → child_for s.pools (asked_streams (take k dues)) d.instance.stream ≤ 16
+      → IsChild (child_for s.pools (asked_streams (take k dues)) d.instance.stream)
   children_fit k d at =
       let p = served k d at in omega (arith, p.child, p.inside, h.pools.few p.place p.pool p.at)
 

@@ -5,6 +5,7 @@ use Rattle.gen_lines.specs.Reply.{reply_of}
 use Rattle.lemmas.specs.Lists.{AreDistinct}
 use Rattle.transcript_model.specs.declared.entry.Entry.{Entry}
 use Rattle.session_core.specs.Slots.{Slot, sent_slot, heard_slot, at_child, answers_of, all_answered, replied_entry, reply_to, reply_fault, IsUnsent, IsAwaited}
+use Rattle.gen_lines.specs.declared.line_buf.TheConstants.{LINE_LENGTH}
 
 -- a request is written whole to a child, or a whole line is taken from it
 pub data SessionEvent : Type 0 where
@@ -24,7 +25,7 @@ after slots (e ∷ events) = after (map (change_by e) slots) events
 abbrev pub MayCome : List Slot → SessionEvent → Type 0
 MayCome slots (sends child) = IsUnsent slots child
 MayCome slots (says child line) =
-    (waits : IsAwaited slots child) × (length line ≤ 1024) × (reply_fault (reply_to line waits.slot) ≡ None)
+    (waits : IsAwaited slots child) × (length line ≤ LINE_LENGTH) × (reply_fault (reply_to line waits.slot) ≡ None)
 
 -- Each event may come after those before it, and in the end each request has its answer.
 abbrev pub IsPlayed : List Slot → List SessionEvent → Type 0

@@ -4,10 +4,11 @@ use Rattle.gen_lines.specs.Told.{IsNarrow}
 use Rattle.gen_lines.specs.declared.answer.Wanted.{Wanted}
 use Rattle.gen_lines.specs.declared.answer.Wanted.TheVariants.{Outputs, Number}
 use Rattle.transcript_model.specs.declared.entry.Entry.{Entry}
+use Rattle.gen_lines.specs.declared.spans.TheConstants.{YIELD_TUPLES}
 
 -- the most values that an answer may have
 abbrev pub most_values : Wanted → ℕ
-most_values (Outputs width several) = if several then 16 * width else width
+most_values (Outputs width several) = if several then YIELD_TUPLES * width else width
 most_values Number = 0
 
 -- there is room for so many values, unless an answer was heard

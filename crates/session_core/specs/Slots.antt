@@ -1,5 +1,5 @@
 -- The places of a round: what each due asks of which child, and what was heard.
-use Rattle.std.specs.Prelude.{◌≡◌, ℕ, ◌+◌, ◌≤◌, ◌==◌, List, [], ◌∷◌, ◌++◌, length, take, Bool, true, false, ◌&&◌, not, Option, None, Some, slice_get, is_none, if◌then◌else◌}
+use Rattle.std.specs.Prelude.{◌≡◌, ℕ, ◌+◌, ◌==◌, List, [], ◌∷◌, ◌++◌, length, take, Bool, true, false, ◌&&◌, not, Option, None, Some, slice_get, is_none, if◌then◌else◌}
 use Rattle.std.specs.List.{find, filter_map}
 use Rattle.gen_lines.specs.Reply as reply
 use Rattle.gen_lines.specs.Reply.{Reply, reply_of}
@@ -8,7 +8,7 @@ use Rattle.gen_lines.specs.declared.answer.Wanted.{Wanted}
 use Rattle.gen_lines.specs.declared.answer.Wanted.TheVariants as wanted
 use Rattle.gen_lines.specs.declared.answer.Why.{Why}
 use Rattle.instance_queue.specs.declared.due.Due.{Due}
-use Rattle.pools.specs.Pools.{Workers, child_for, asked_streams}
+use Rattle.pools.specs.Pools.{IsChild, Workers, child_for, asked_streams}
 use Rattle.task_model.specs.declared.stream.Stream.{Stream}
 use Rattle.task_model.specs.declared.task.Task.{Task}
 use Rattle.transcript_model.specs.Legal.{has_several}
@@ -67,10 +67,11 @@ module _ (task : Task) (names : List (List ℕ)) where
     slots_from number before (due ∷ dues) =
         slot_for number before due ∷ slots_from (number + 1) (before ++ due.instance.stream ∷ []) dues
 
--- each due has a child, whose number is at most 16
+-- each due has a child that a host has
 abbrev pub AreFitChildren : List Workers → List Due → Type 0
 AreFitChildren pools dues =
-    (k : ℕ) (d : Due) → slice_get dues k ≡ Some d → child_for pools (asked_streams (take k dues)) d.instance.stream ≤ 16
+    (k : ℕ) (d : Due) → slice_get dues k ≡ Some d
+    → IsChild (child_for pools (asked_streams (take k dues)) d.instance.stream)
 
 -- ---- what was heard
 

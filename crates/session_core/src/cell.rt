@@ -5,9 +5,10 @@ ghost use Rattle.gen_lines.specs.Told.{IsNarrow, SpansLieIn, texts};
 ghost use Rattle.gen_lines.specs.declared.answer.Answer.TheVariants as answer;
 ghost use Rattle.transcript_model.specs.declared.entry.Entry.TheVariants as entry;
 ghost use Rattle.session_core.specs.Room.{most_values, HasRoomForAnswer};
+ghost use Rattle.gen_lines.specs.declared.line_buf.TheConstants.{LINE_LENGTH};
 
 use crate::room::Room;
-use gen_lines::{Answer, Spans, Wanted, Why, answer_of};
+use gen_lines::{Answer, Spans, Wanted, Why, YIELD_TUPLES, answer_of};
 use std::alloc::{AllocError, Global};
 use std::marker::Model;
 use transcript_model::Entry;
@@ -49,7 +50,13 @@ fn most(wanted: Wanted) -> usize
     ensures { result ≡ most_values wanted }
 {
     match wanted {
-        Wanted::Outputs { width, several } => { if several { 16 * width } else { width } }
+        Wanted::Outputs { width, several } => {
+            if several {
+                YIELD_TUPLES as usize * width
+            } else {
+                width
+            }
+        }
         Wanted::Number => 0,
     }
 }
@@ -158,7 +165,7 @@ impl Cell {
     /// A line of its child was taken. Tells why it is no answer, if it is none.
     pub(crate) fn hear(&mut self, line: &[u8]) -> Option<Why>
         requires open { self.old.answer ≡ None }
-        requires line { length line.now ≤ 1024 }
+        requires line { length line.now ≤ LINE_LENGTH }
         ensures slot { self.new ≡ heard_slot line.now self.old }
         ensures fault { result ≡ reply_fault (reply_to line.now self.old) }
     {

@@ -4,7 +4,7 @@ ghost use Rattle.gen_lines.specs.Request.{IsNamed};
 ghost use Rattle.gen_lines.specs.Told.{IsNarrow};
 ghost use Rattle.instance_queue.specs.Level.{due_instances};
 ghost use Rattle.task_model.specs.Fit.{IsFit};
-ghost use Rattle.pools.specs.Pools.{child_for, asked_streams};
+ghost use Rattle.pools.specs.Pools.{IsChild, child_for, asked_streams};
 ghost use Rattle.session_core.specs.Slots.{wanted_at, ask_for as ask_of, asks_from, slots_from, slot_for, answers_of, slot_of, all_answered};
 ghost use Rattle.session_core.specs.Slots.{AreFitChildren};
 
@@ -83,8 +83,8 @@ fn ask_for(scene: &Scene<'_>, number: u32, due: &Due) -> Result<Entry, AllocErro
 fn cell_for(scene: &Scene<'_>, number: u32, before: &[Due], due: &Due) -> Result<Cell, AllocError>
     requires fit { IsFit scene.now.task.now }
     requires named { IsNamed scene.now.task.now scene.now.facts.now.known.names due.now.instance }
-    requires child { child_for scene.now.pools.now (asked_streams before.now)
-        due.now.instance.stream ≤ 16 }
+    requires child { IsChild (child_for scene.now.pools.now (asked_streams before.now)
+        due.now.instance.stream) }
     ensures { IfOk result (λ cell. cell
         ≡ slot_for scene.now.task.now scene.now.facts.now.known.names scene.now.version
         scene.now.pools.now number (asked_streams before.now) due.now) }

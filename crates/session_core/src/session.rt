@@ -51,6 +51,7 @@ impl Model for Session {
 impl Session {
     ghost use Rattle.std.specs.Prelude.{◌≡◌, ◌+◌, ◌<◌, ◌≤◌, ◌==◌, ℕ, List, true, false, length, take, drop, slice_get, Some, option_copied, IfSome, IfOk, IfErr, OnOk, OnErr, if◌then◌else◌};
     ghost use Rattle.fact_store.specs.Growth.{IsBetween, LiesBetween};
+    ghost use Rattle.gen_lines.specs.declared.line_buf.TheConstants.{LINE_LENGTH};
     ghost use Rattle.instance_queue.specs.Level as level;
     ghost use Rattle.instance_queue.specs.Level.{due_instances};
     ghost use Rattle.instance_queue.specs.declared.due.Due.{Due as AnyDue};
@@ -218,7 +219,7 @@ impl Session {
     pub fn line(&mut self, child: u8, bytes: &[u8]) -> Heard
         requires working { self.old.failed ≡ false }
         requires awaited { IsAwaited self.old.slots child }
-        requires few { length bytes.now ≤ 1024 }
+        requires few { length bytes.now ≤ LINE_LENGTH }
         ensures heard { result ≡ heard_at self.old.slots child bytes.now }
         ensures after { self.new ≡ after_line self.old child bytes.now
             (is_bad_at self.old.slots child bytes.now) }

@@ -1,7 +1,7 @@
 -- Tokens at the front of bytes.
-use Rattle.std.proofs.Common.{◌≡◌, ℕ, suc, ◌+◌, ◌<◌, ◌≤◌, Bool, true, false, cond, List, [], ◌∷◌, ◌++◌, map, length, drop, take, get_or, refl, subst, sym, ◌∙◌, ap, arith}
+use Rattle.std.proofs.Common.{◌≡◌, ℕ, suc, ◌+◌, ◌<◌, ◌≤◌, Bool, true, false, cond, ◌&&◌, ◌==◌, List, [], ◌∷◌, ◌++◌, map, length, drop, take, get_or, refl, subst, sym, ◌∙◌, ap, arith, eqb-true}
 use Rattle.std.specs.List.{take_while, prefix_len}
-use Rattle.std.proofs.Math.Seq.{drop-cons}
+use Rattle.std.proofs.Math.Seq.{drop-cons, take-suc}
 use Rattle.std.proofs.lemmas.List.{append_assoc, length-map}
 use Rattle.std.proofs.lemmas.List.Folds.{length-prefix_len}
 use Rattle.std.proofs.lemmas.List.Sums.{take_while-cons, prefix_len-le-length}
@@ -9,7 +9,7 @@ use Rattle.sexpr_text.specs.declared.class.Class.{Class}
 use Rattle.sexpr_text.specs.declared.class.Class.TheVariants.{Blank, Semicolon, Left, Right, Letter, Bad}
 use Rattle.sexpr_text.specs.declared.scanner.Lexeme.TheVariants as lexemes
 use Rattle.sexpr_text.specs.Tokens.{class_of, is_letter_class, folded, tokens, Token, token_then, letter_then, joined, begins_word, opens_comment}
-use Rattle.sexpr_text.specs.Scanning.{folded_word, BeginsWith}
+use Rattle.sexpr_text.specs.Scanning.{folded_word, BeginsWith, is_low}
 
 -- a word at a place and the tokens after it
 abbrev pub word_then : List ℕ → ℕ → List ℕ → List Token
@@ -47,6 +47,32 @@ letter_next bs ls ms i v within e letter so_far more =
     ∙ ap (λ cs. ls ++ cs) (folded_word-cons (get_or bs i 0) (drop (i + 1) bs) true (sym e ∙ letter))
     ∙ sym (append_assoc ls (folded (get_or bs i 0) ∷ []) (folded_word (drop (i + 1) bs)))
     ∙ ap (λ cs. cs ++ folded_word (drop (i + 1) bs)) (sym more)
+
+both_hold : (v w : Bool) → (v && w) ≡ true → (v ≡ true) × (w ≡ true)
+both_hold true w e = (refl, e)
+both_hold false w e = cc
+
+-- A letter that stands for itself is the next one of the word of which the bytes before it are the beginning.
+pub low_next : (bs : List ℕ) (i : ℕ) → i < length bs → is_low (get_or bs i 0) ≡ true
+    → folded_word bs ≡ take i bs ++ folded_word (drop i bs)
+    → folded_word bs ≡ take (i + 1) bs ++ folded_word (drop (i + 1) bs)
+low_next bs i within low so_far =
+    let b : ℕ = get_or bs i 0 in
+    let parts = both_hold (is_letter_class (class_of b)) (folded b == b) low in
+    let next : i + 1 ≡ suc i = omega arith in
+    letter_next bs (take i bs) (take (i + 1) bs) i true within (sym parts.0) refl so_far
+    (ap (λ k. take k bs) next ∙ take-suc bs i 0 within ∙ ap (λ c. take i bs ++ c ∷ []) (sym (eqb-true (folded b) b parts.1)))
+
+space_is_blank : (b : ℕ) → b ≡ 32 → class_of b ≡ Blank
+unfolding class_of
+space_is_blank b e = subst (λ m. class_of m ≡ Blank) (sym e) refl
+
+-- A space has no token.
+pub space_first : (bs : List ℕ) → 0 < length bs → get_or bs 0 0 ≡ 32 → (place : ℕ)
+    → tokens false place bs ≡ tokens false (place + 1) (drop 1 bs)
+space_first [] some e place = absurd (omega (arith, some))
+space_first (b ∷ bs) some e place =
+    ap (λ k. token_then k b place (begins_word bs) (tokens (opens_comment k) (place + 1) bs)) (space_is_blank b e)
 
 shifted : (b x place : ℕ) (ls bs : List ℕ)
     → tokens false (place + 1 + length ls) (drop (length ls) bs) ≡ tokens false (place + length (x ∷ ls)) (drop (length (x ∷ ls)) (b ∷ bs))

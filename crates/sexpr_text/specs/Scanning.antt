@@ -1,8 +1,8 @@
 -- What the scanner gives.
-use Rattle.std.specs.Prelude.{◌≡◌, ℕ, ◌+◌, ◌≤◌, false, List, [], ◌∷◌, Option, Some, None, length, drop, map}
+use Rattle.std.specs.Prelude.{◌≡◌, ℕ, ◌+◌, ◌≤◌, ◌==◌, ◌&&◌, Bool, true, false, List, [], ◌∷◌, Option, Some, None, length, drop, map}
 use Rattle.std.specs.List.{take_while}
 use Rattle.sexpr_text.specs.declared.class.Class.{Class}
-use Rattle.sexpr_text.specs.declared.class.Class.TheVariants.{Blank, Semicolon}
+use Rattle.sexpr_text.specs.declared.class.Class.TheVariants.{Blank, Semicolon, Left, Right, Letter}
 use Rattle.sexpr_text.specs.declared.scanner.Lexeme.{Lexeme}
 use Rattle.sexpr_text.specs.declared.scanner.Lexeme.TheVariants as lexemes
 use Rattle.sexpr_text.specs.declared.scanner.Placed.{Placed}
@@ -12,6 +12,16 @@ abbrev pub IsToken : Class → Type 0
 IsToken Blank = ⊥
 IsToken Semicolon = ⊥
 IsToken _ = Unit {0}
+
+abbrev pub is_word_or_parenthesis : Class → Bool
+is_word_or_parenthesis Left = true
+is_word_or_parenthesis Right = true
+is_word_or_parenthesis Letter = true
+is_word_or_parenthesis _ = false
+
+-- a byte of a word that stands for itself
+abbrev pub is_low : ℕ → Bool
+is_low b = is_letter_class (class_of b) && (folded b == b)
 
 -- bytes outside comments that begin with a token, if there are any
 abbrev pub IsAtToken : List ℕ → Type 0

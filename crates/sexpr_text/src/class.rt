@@ -1,5 +1,6 @@
 //! What a byte does in a text.
 ghost use Rattle.std.specs.Prelude.{◌≡◌};
+ghost use Rattle.sexpr_text.specs.Scanning as scanning;
 ghost use Rattle.sexpr_text.specs.Tokens as specs;
 
 /// What a byte outside comments does.
@@ -20,6 +21,7 @@ pub enum Class {
 }
 
 /// What this byte does outside comments.
+#[inline(always)]
 #[tactic(auto, unfolding(crate::specs::Tokens::class_of))]
 pub fn class_of(byte: u8) -> Class
     ensures { result ≡ specs.class_of byte }
@@ -40,6 +42,21 @@ pub fn is_letter(byte: u8) -> bool
     ensures { result ≡ specs.is_letter_class (specs.class_of byte) }
 {
     b'!' <= byte && byte <= b'~' && byte != b'(' && byte != b')' && byte != b';'
+}
+
+/// Whether a word or a parenthesis begins with this byte, outside comments.
+#[tactic(auto, unfolding(crate::specs::Tokens::class_of))]
+pub fn begins_token(byte: u8) -> bool
+    ensures { result ≡ scanning.is_word_or_parenthesis (specs.class_of byte) }
+{
+    b'!' <= byte && byte <= b'~' && byte != b';'
+}
+
+/// Whether this byte belongs to a word, outside comments, and is no letter `A` to `Z`.
+pub fn is_low(byte: u8) -> bool
+    ensures { result ≡ scanning.is_low byte }
+{
+    is_letter(byte) && folded(byte) == byte
 }
 
 /// The byte, and in place of `A` to `Z` the letter in lower case.

@@ -1,10 +1,11 @@
 //! The words and parentheses of a text, one after the other.
-ghost use Rattle.std.specs.Prelude.{◌≡◌, ℕ, ◌+◌, ◌<◌, ◌≤◌, List, false, drop, length, IfOk};
+ghost use Rattle.std.specs.Prelude.{◌≡◌, ℕ, ◌+◌, ◌<◌, ◌≤◌, ◌++◌, List, false, drop, take, length, IfOk};
 ghost use Rattle.std.below.core.specs.declared.int.usize.TheConstants.{MAX};
+ghost use Rattle.sexpr_text.specs.Tokens as specs;
 ghost use Rattle.sexpr_text.specs.Tokens.{Token, tokens, tokens_of};
 ghost use Rattle.sexpr_text.specs.Scanning.{IsAtToken, BeginsWith, TakesToken, folded_word};
 
-use crate::class::{Class, class_of, folded, is_letter};
+use crate::class::{Class, begins_token, class_of, folded, is_letter, is_low};
 use crate::text::Text;
 use smallvec::SmallVec;
 use std::alloc::{AllocError, Global};
@@ -59,6 +60,7 @@ impl<'a> Scanner<'a> {
     }
 
     /// Takes the next token, if there is one. After an error the scanner may be anywhere.
+    #[inline(always)]
     pub fn next(&mut self, alloc: Global) -> Result<Option<Placed>, AllocError>
         ensures { IfOk result (λ found. TakesToken self.old found self.new) }
     {
@@ -77,8 +79,24 @@ impl<'a> Scanner<'a> {
     }
 }
 
-/// How many bytes stand before the first token: white space and comments.
+/// How many bytes stand before the first token: white space and comments. Mostly there is none, or
+/// one space.
 fn blanks_before(rest: &[u8]) -> usize
+    ensures within { result ≤ length rest.now }
+    ensures same { (place : ℕ) → tokens false place rest.now
+        ≡ tokens false (place + result) (drop result rest.now) }
+    ensures stops { IsAtToken (drop result rest.now) }
+{
+    match rest {
+        [first, ..] if begins_token(*first) => 0,
+        [first, next, ..] if *first == b' ' && begins_token(*next) => 1,
+        _ => all_blanks_before(rest),
+    }
+}
+
+/// The same, byte by byte.
+#[inline(never)]
+fn all_blanks_before(rest: &[u8]) -> usize
     ensures within { result ≤ length rest.now }
     ensures same { (place : ℕ) → tokens false place rest.now
         ≡ tokens false (place + result) (drop result rest.now) }
@@ -117,8 +135,45 @@ fn first_lexeme(alloc: Global, rest: &[u8]) -> Result<(Lexeme, usize), AllocErro
     }
 }
 
-/// The letters at the front of these bytes, in lower case.
+/// How many bytes at the front of these belong to a word and stand for themselves.
+fn low_length(rest: &[u8]) -> usize
+    ensures within { result ≤ length rest.now }
+    ensures same { folded_word rest.now
+        ≡ take result rest.now ++ folded_word (drop result rest.now) }
+{
+    for (length, byte) in rest.iter().enumerate() {
+        if !is_low(*byte) {
+            return length;
+        }
+    }
+    rest.len()
+}
+
+/// Whether a letter stands first.
+fn begins_word(rest: &[u8]) -> bool
+    ensures { result ≡ specs.begins_word rest.now }
+{
+    match rest {
+        [] => false,
+        [first, ..] => is_letter(*first),
+    }
+}
+
+/// The letters at the front of these bytes, in lower case. Where all are so, they are copied.
 fn first_word(alloc: Global, rest: &[u8]) -> Result<Text, AllocError>
+    ensures { IfOk result (λ word. word ≡ folded_word rest.now) }
+{
+    let length = low_length(rest);
+    if begins_word(&rest[length..]) {
+        return any_word(alloc, rest);
+    }
+    let letters = SmallVec::from_slice(alloc, &rest[..length])?;
+    Ok(Text::new(letters))
+}
+
+/// The letters at the front of these bytes, each in lower case.
+#[inline(never)]
+fn any_word(alloc: Global, rest: &[u8]) -> Result<Text, AllocError>
     ensures { IfOk result (λ word. word ≡ folded_word rest.now) }
 {
     let mut letters = SmallVec::new(alloc);

@@ -5,6 +5,7 @@ ghost use Rattle.plan_check.specs.declared.fault.StepFault.TheVariants.{Memory};
 ghost use Rattle.task_model.specs.Fit.{IsFit, is_fit_action};
 ghost use Rattle.task_model.specs.State.{with_atoms, without_atoms};
 ghost use Rattle.task_model.specs.Steps.{IsStep, effect_of};
+ghost use Rattle.task_model.specs.declared.limits.TheConstants.{SLOTS};
 
 use crate::cells::SpreadState;
 use crate::truth::{Scene, truth};
@@ -60,7 +61,7 @@ fn judged<'a, L: Look>(
     ensures ok { IfOk result (λ found. IsStep task.now (L.known look.now) state.now step.now
         (effect_of found.0.now step.now.args state.now) found.1) }
     ensures fit { IfOk result (λ found. is_fit_action task.now.domain found.0.now ≡ true) }
-    ensures few { IfOk result (λ _. length step.now.args ≤ 16) }
+    ensures few { IfOk result (λ _. length step.now.args ≤ SLOTS) }
     ensures err { IfErr result (StepFails task.now (L.known look.now) state.now step.now) }
     ensures small { IfOk result (λ found. found.1 ≤ 262144000000) }
 {

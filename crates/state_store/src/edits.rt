@@ -6,8 +6,7 @@ ghost use Rattle.task_model.specs.AtomOrder.{atom_cmp};
 ghost use Rattle.task_model.specs.State.{insert, remove, with_atoms, without_atoms};
 ghost use Rattle.state_store.specs.Rows.{AddsAtoms, IsRow, row_atoms, state_of};
 
-use crate::rows::number_of;
-use indexmap::IndexSet;
+use crate::rows::{AtomSet, number_of};
 use std::alloc::AllocError;
 use std::cmp::Ordering;
 use task_model::Atom;
@@ -58,7 +57,7 @@ pub(crate) fn take_out(numbered: &[Atom], row: &mut Vec<u32>, atoms: &[Atom])
 
 /// Puts the atom into the row. Fails only where memory is wanting, or where there are 2^32 other
 /// atoms.
-fn put_one(numbered: &mut IndexSet<Atom>, row: &mut Vec<u32>, atom: &Atom) -> Result<(), AllocError>
+fn put_one(numbered: &mut AtomSet, row: &mut Vec<u32>, atom: &Atom) -> Result<(), AllocError>
     requires numbered { AreDistinct numbered.old.keys }
     requires row { IsRow numbered.old.keys row.old.items }
     ensures row { OnOk result (IsRow numbered.new.keys row.new.items) }
@@ -77,7 +76,7 @@ fn put_one(numbered: &mut IndexSet<Atom>, row: &mut Vec<u32>, atom: &Atom) -> Re
 /// Puts the atoms into the row; those that are new are put behind the others that have numbers.
 /// Fails only where memory is wanting, or where there are 2^32 other atoms.
 pub(crate) fn put_in(
-    numbered: &mut IndexSet<Atom>,
+    numbered: &mut AtomSet,
     row: &mut Vec<u32>,
     atoms: &[Atom],
 ) -> Result<(), AllocError>

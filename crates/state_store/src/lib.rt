@@ -5,5 +5,5 @@ mod edits;
 mod rows;
 mod store;
 
-pub use rows::numbers_of;
+pub use rows::{AtomSet, numbers_of};
 pub use store::StateStore;

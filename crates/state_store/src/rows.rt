@@ -5,10 +5,14 @@ ghost use Rattle.state_store.specs.Rows.{AddsAtoms, row_atoms as atoms_with};
 
 use indexmap::IndexSet;
 use std::alloc::{AllocError, Global};
-use task_model::Atom;
+use std::hash::BuildHasherDefault;
+use task_model::{Atom, NumberHasher};
+
+/// Atoms that are known by their places.
+pub type AtomSet = IndexSet<Atom, BuildHasherDefault<NumberHasher>>;
 
 /// The place of an atom among those that have numbers, behind which it is put where it is new.
-fn place_of(numbered: &mut IndexSet<Atom>, atom: &Atom) -> Result<usize, AllocError>
+fn place_of(numbered: &mut AtomSet, atom: &Atom) -> Result<usize, AllocError>
     requires { AreDistinct numbered.old.keys }
     ensures place { IfOk result (λ place. slice_get numbered.new.keys place ≡ Some atom.now) }
     ensures grows { AddsAtoms numbered.old.keys numbered.new.keys }
@@ -23,7 +27,7 @@ fn place_of(numbered: &mut IndexSet<Atom>, atom: &Atom) -> Result<usize, AllocEr
 
 /// The number of an atom, which is put behind the others where it is new. Fails only where memory
 /// is wanting, or where there are 2^32 other atoms.
-pub(crate) fn number_of(numbered: &mut IndexSet<Atom>, atom: &Atom) -> Result<u32, AllocError>
+pub(crate) fn number_of(numbered: &mut AtomSet, atom: &Atom) -> Result<u32, AllocError>
     requires { AreDistinct numbered.old.keys }
     ensures number { IfOk result (λ number. slice_get numbered.new.keys number ≡ Some atom.now) }
     ensures grows { AddsAtoms numbered.old.keys numbered.new.keys }
@@ -39,7 +43,7 @@ pub(crate) fn number_of(numbered: &mut IndexSet<Atom>, atom: &Atom) -> Result<u3
 /// where memory is wanting, or where there are 2^32 other atoms.
 pub fn numbers_of(
     alloc: Global,
-    numbered: &mut IndexSet<Atom>,
+    numbered: &mut AtomSet,
     atoms: &[Atom],
 ) -> Result<Vec<u32>, AllocError>
     requires { AreDistinct numbered.old.keys }
@@ -55,6 +59,19 @@ pub fn numbers_of(
     Ok(row)
 }
 
+/// A copy of the row, with room for so many more numbers. Fails only where memory is wanting.
+pub(crate) fn copy_with_room(
+    alloc: Global,
+    row: &[u32],
+    more: usize,
+) -> Result<Vec<u32>, AllocError>
+    ensures items { IfOk result (λ copy. copy.items ≡ row.now) }
+{
+    let mut copy = Vec::with_capacity(alloc, row.len().saturating_add(more))?;
+    copy.extend_from_slice(row)?;
+    Ok(copy)
+}
+
 /// The atoms that have these numbers. Fails only where memory is wanting.
 pub(crate) fn atoms_of(
     alloc: Global,
@@ -66,7 +83,7 @@ pub(crate) fn atoms_of(
 {
     let mut atoms = Vec::with_capacity(alloc, row.len())?;
     for number in row {
-        atoms.push(numbered[*number as usize].copy()?)?;
+        atoms.push_reserved(numbered[*number as usize].copy()?);
     }
     Ok(atoms)
 }

@@ -4,11 +4,12 @@ ghost use Rattle.lemmas.specs.Lists.{AreDistinct};
 ghost use Rattle.state_store.specs.Changed.{state_after};
 
 use crate::edits::{put_in, take_out};
-use crate::rows::{atoms_of, numbers_of};
+use crate::rows::{AtomSet, atoms_of, copy_with_room, numbers_of};
 use indexmap::IndexSet;
 use std::alloc::{AllocError, Global};
+use std::hash::BuildHasherDefault;
 use std::marker::Model;
-use task_model::{Atom, State};
+use task_model::{Atom, NumberHasher, State};
 
 /// A list of distinct states, at most 200,001. A state is known by its place in the list, from 0,
 /// which never changes.
@@ -17,8 +18,8 @@ use task_model::{Atom, State};
 /// in the order of the atoms. Rows are found by their hash.
 #[derive(Drop)]
 pub struct StateStore {
-    atoms: IndexSet<Atom>,
-    rows: IndexSet<Vec<u32>>,
+    atoms: AtomSet,
+    rows: IndexSet<Vec<u32>, BuildHasherDefault<NumberHasher>>,
     alloc: Global,
 }
 
@@ -43,8 +44,8 @@ impl StateStore {
         ensures { IfOk result (λ store. store ≡ []) }
     {
         Ok(StateStore {
-            atoms: IndexSet::new(alloc),
-            rows: IndexSet::new(alloc),
+            atoms: IndexSet::with_hasher(alloc, BuildHasherDefault::new()),
+            rows: IndexSet::with_hasher(alloc, BuildHasherDefault::new()),
             alloc,
         })
     }
@@ -97,7 +98,8 @@ impl StateStore {
         ensures err { OnErr result (self.new ≡ self.old) }
     {
         let old = self.rows.as_slice()[from as usize].as_slice();
-        let mut row = Vec::from_slice(self.alloc, old)?;
+        let more = come.len().saturating_sub(gone.len());
+        let mut row = copy_with_room(self.alloc, old, more)?;
         take_out(self.atoms.as_slice(), &mut row, gone);
         put_in(&mut self.atoms, &mut row, come)?;
         let (place, is_new) = self.rows.insert_full(row)?;
@@ -111,6 +113,6 @@ impl StateStore {
     {
         let row = &self.rows.as_slice()[id as usize];
         let atoms = atoms_of(self.alloc, self.atoms.as_slice(), row.as_slice())?;
-        Ok(State::from_atoms(atoms))
+        Ok(State::from_ascending(atoms))
     }
 }

@@ -3,6 +3,7 @@ use Rattle.std.specs.Prelude.{◌≡◌, ℕ, suc, ◌+◌, ◌<◌, List, [], �
 use Rattle.transcript_model.specs.declared.head.Pool.{Pool}
 use Rattle.stream_map.specs.Spelled.{Spelled, begins_grid}
 use Rattle.stream_map.specs.Faults.{is_grid, own_workers, stream_places}
+use Rattle.stream_map.specs.declared.pools.TheConstants.{GRID_CHILD}
 
 -- a pool with its words as lists of bytes
 pub record PlainPool : Type 0 where
@@ -15,13 +16,13 @@ abbrev pub plain : Pool → PlainPool
 plain pool = record
     { first = pool.first; workers = pool.workers; streams = pool.streams; words = map string_bytes pool.argv }
 
--- The generator in the process is child 16; the others take the numbers from this one on, in their order.
+-- The generator in the process is the grid's child; the others take the numbers from this one on, in their order.
 abbrev pub numbered_pools : List (List ℕ) → ℕ → List Spelled → List PlainPool
 numbered_pools names next [] = []
 numbered_pools names next (pool ∷ pools) =
     record {
       first =
-          if is_grid pool then 16 else next;
+          if is_grid pool then GRID_CHILD else next;
       workers = pool.workers;
       streams = stream_places names pool;
       words = pool.run;

@@ -20,3 +20,4 @@ mod workers;
 pub use fault::MapFault;
 pub use grid::{grid_path, with_grid};
 pub use map::{one_pool, read_map};
+pub use pools::GRID_CHILD;

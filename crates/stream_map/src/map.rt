@@ -18,7 +18,7 @@ use transcript_model::Pool;
 /// The pools that a map's text spells, in the map's order, or its first fault in the order of
 /// `MapFault`. Names of streams are read in lower case, a number of workers that isn't given is 1,
 /// and of a key that stands twice the last value counts. The pool of the words `["@grid", FILE]`
-/// has the child 16; the others have those from 0 on.
+/// has the child [`GRID_CHILD`](crate::GRID_CHILD); the others have those from 0 on.
 pub fn read_map(alloc: Global, bytes: &[u8], task: &Task) -> Result<Seq<Pool>, MapFault>
     requires fit { IsFit task.now }
     ensures pools { IfOk result (λ pools. AcceptedMap task.now bytes.now pools) }

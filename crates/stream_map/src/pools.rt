@@ -18,7 +18,7 @@ use task_model::{Name, Seq, Task};
 use transcript_model::Pool;
 
 /// The child that is the generator in the process.
-const GRID_CHILD: u8 = 16;
+pub const GRID_CHILD: u8 = 16;
 
 /// The places of streams with these names.
 fn places_of(alloc: Global, names: &StreamNames, wanted: &[Name]) -> Result<Seq<u32>, MapFault>

@@ -21,7 +21,7 @@ use Rattle.task_model.specs.declared.task.Task.{Task}
 use Rattle.transcript_model.specs.Dreaming.{Sent}
 use Rattle.transcript_model.specs.Legal.{IsLegal, asks_of, is_answer, is_mark}
 use Rattle.transcript_model.specs.Rounds as rounds
-use Rattle.transcript_model.specs.Rounds.{AreAnswers, AreRounds, AreRoundsRun, IsBatch, Limits, calls_left, fits, limits_of, requests, requests_from}
+use Rattle.transcript_model.specs.Rounds.{AreAnswers, AreRounds, AreRoundsRun, IsBatch, Limits, calls_left, fits, limits_of, requests}
 use Rattle.transcript_model.specs.Turns.{AreBatches, AreTurns, AreTurnsOf, IsDreamTurn, IsEmptyTurn, IsFallback, IsFirstBatch, IsLevel, IsPickTurn, Kept, Stage, cut_off, finished, further, inside, last, level, none_left, reset, retiring, stopped, whole}
 use Rattle.transcript_model.specs.declared.entry.Call.{Call}
 use Rattle.transcript_model.specs.declared.entry.Entry.{Entry}

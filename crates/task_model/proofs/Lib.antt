@@ -7,3 +7,4 @@ pub mod TruthLemmas
 pub mod StateOrderLemmas
 pub mod FitLemmas
 pub mod NumbersLemmas
+pub mod ObjectsLemmas

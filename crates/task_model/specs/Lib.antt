@@ -5,6 +5,7 @@ pub mod Edges
 pub mod Examples
 pub mod Falls
 pub mod Fit
+pub mod Hashes
 pub mod Initial
 pub mod Known
 pub mod Laws

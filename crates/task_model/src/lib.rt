@@ -11,6 +11,7 @@ mod limits;
 mod look;
 mod name;
 mod number;
+mod number_hasher;
 mod object;
 mod seq;
 mod state;
@@ -25,6 +26,7 @@ pub use limits::{LARGEST_COUNT, LARGEST_NUMBER, MOST_DUE, MOST_STATES, MOST_SUPP
 pub use look::Look;
 pub use name::{Name, is_name};
 pub use number::{are_digits, is_number, number_of};
+pub use number_hasher::NumberHasher;
 pub use object::{Obj, Objects, Row, Wide};
 pub use seq::Seq;
 pub use state::State;

@@ -1,10 +1,15 @@
 //! Names.
-ghost use Rattle.std.specs.Prelude.{◌≡◌, IfOk, length, ◌≤◌, IsOk};
+ghost use Rattle.std.specs.Prelude.{◌≡◌, IfOk, length, ◌≤◌, IsOk, nat_eq, [], ◌∷◌};
+ghost use Rattle.std.specs.Cmp.{nat_eq_equiv, partial_equiv_from_equiv};
+ghost use Rattle.std.specs.Cmp.Lexicographic.{pointwise, lists_per, lists_equiv};
+ghost use Rattle.std.specs.Hash.{same_Alike};
 ghost use Rattle.std.specs.List.{list_all};
+ghost use Rattle.std.proofs.lemmas.Slice.Eq.{bytes_eq-Decides};
 ghost use Rattle.task_model.specs.Fit as fit;
 
 use smallvec::SmallVec;
 use std::alloc::{AllocError, Global};
+use std::hash::{Hash, Hasher};
 use std::marker::Model;
 
 /// The longest name of a task, in bytes.
@@ -59,6 +64,31 @@ impl Name {
         ensures { IfOk result (λ name. name ≡ self.now) }
     {
         Name::from_slice(alloc, self.bytes())
+    }
+}
+
+impl PartialEq for Name {
+    ghost eq = { pointwise nat_eq };
+
+    ghost laws = { lists_per (partial_equiv_from_equiv nat_eq_equiv) };
+
+    fn eq(&self, other: &Name) -> bool {
+        self.bytes() == other.bytes()
+    }
+}
+
+impl Eq for Name {
+    ghost laws = { lists_equiv nat_eq_equiv };
+}
+
+impl Hash for Name {
+    ghost hash_input = { λ n. n ∷ [] };
+
+    ghost respects_eq = { (same_Alike (λ n. n ∷ []) bytes_eq-Decides).fed };
+
+    /// Hashes the bytes at once: with no other list behind it a name needs no length.
+    fn hash<H: Hasher>(&self, state: &mut H) {
+        state.write(self.bytes());
     }
 }
 

@@ -115,13 +115,42 @@ impl<const N: usize> Objects<N> {
     }
 }
 
+/// Whether the objects are the same, place by place.
+fn are_equal(ours: &[Obj], others: &[Obj]) -> bool
+    ensures { result ≡ pointwise nat_eq ours.now others.now }
+{
+    if ours.len() != others.len() {
+        return false;
+    }
+    for index in 0..ours.len() {
+        if ours[index].place() != others[index].place() {
+            return false;
+        }
+    }
+    true
+}
+
+/// The order of the first two objects that differ, and else of the lengths.
+fn compared(ours: &[Obj], others: &[Obj]) -> Ordering
+    ensures { result ≡ slice_cmp nat_cmp ours.now others.now }
+{
+    let common = ours.len().min(others.len());
+    for index in 0..common {
+        let order = ours[index].place().cmp(&others[index].place());
+        if order.is_ne() {
+            return order;
+        }
+    }
+    ours.len().cmp(&others.len())
+}
+
 impl<const N: usize> PartialEq for Objects<N> {
     ghost eq = { pointwise nat_eq };
 
     ghost laws = { lists_per (partial_equiv_from_equiv nat_eq_equiv) };
 
     fn eq(&self, other: &Objects<N>) -> bool {
-        self.as_slice() == other.as_slice()
+        are_equal(self.as_slice(), other.as_slice())
     }
 }
 
@@ -150,7 +179,7 @@ impl<const N: usize> Ord for Objects<N> {
     ghost matches_eq = { lists_ties nat_cmp unsigned_ties };
 
     fn cmp(&self, other: &Objects<N>) -> Ordering {
-        self.as_slice().cmp(&other.as_slice())
+        compared(self.as_slice(), other.as_slice())
     }
 }
 

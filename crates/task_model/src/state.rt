@@ -1,5 +1,7 @@
 //! States.
 ghost use Rattle.std.specs.Prelude.{◌≡◌, ◌<◌, not, slice_get, Some, IfOk, OnOk, OnErr};
+ghost use Rattle.std.specs.List.Sorted.{IsStrictlySortedBy};
+ghost use Rattle.task_model.specs.AtomOrder.{atom_cmp};
 ghost use Rattle.task_model.specs.State as set;
 
 use crate::fact::Atom;
@@ -47,6 +49,14 @@ impl State {
         let mut atoms = atoms;
         atoms.sort_unstable();
         atoms.dedup();
+        State { atoms }
+    }
+
+    /// The state of these atoms, which ascend, each once. It compares none and takes no memory.
+    pub fn from_ascending(atoms: Vec<Atom>) -> State
+        requires { IsStrictlySortedBy atom_cmp atoms.items }
+        ensures { result ≡ set.from_list atoms.items }
+    {
         State { atoms }
     }
 

@@ -12,7 +12,8 @@ use Rattle.round_run.proofs.CallsRunLemmas.{stops_none}
 use Rattle.round_run.proofs.GoingLemmas.{between}
 use Rattle.round_run.proofs.LedLemmas.{StillHost, alone, led_end, led_none}
 use Rattle.round_run.specs.Children.{StopsAll}
-use Rattle.round_run.specs.Led.{IsLed, is_memory}
+use Rattle.io_world.specs.Leads.{IsLed}
+use Rattle.round_run.specs.Led.{is_memory}
 use Rattle.round_run.specs.Told.{Became, HostTold, Stretch, Told}
 use Rattle.task_model.specs.declared.task.Task.{Task}
 use Rattle.transcript_model.specs.declared.head.Head.{Head}

@@ -7,7 +7,8 @@ use Rattle.turn_run.specs.Reports.{IsBroken, IsReported}
 use Rattle.round_run.specs.Told.{Stretch, HostTold}
 use Rattle.turn_run.specs.declared.whole_run.Ran.{Ran}
 use Rattle.round_run.specs.Held.{is_child_running}
-use Rattle.round_run.specs.Led.{IsLed, stops_for_memory}
+use Rattle.io_world.specs.Leads.{IsLed}
+use Rattle.round_run.specs.Led.{stops_for_memory}
 use Rattle.round_run.specs.Resting.{AreCaused, IsAtRest}
 use Rattle.round_run.specs.Batches.{IsRunnable}
 use Rattle.round_run.specs.declared.fault.RunFault.{RunFault}

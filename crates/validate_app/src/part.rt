@@ -6,6 +6,7 @@ ghost use Rattle.task_model.specs.Condition.{parts_of};
 ghost use Rattle.task_model.specs.Fit.{IsFit};
 ghost use Rattle.validate_app.specs.Parts as specs;
 ghost use Rattle.validate_app.specs.Parts.{holds_with as holds_in};
+ghost use Rattle.task_model.specs.declared.limits.TheConstants.{SLOTS};
 
 use crate::step::Scene;
 use condition_text::Naming;
@@ -78,7 +79,7 @@ impl Scene<'_> {
     ) -> Result<Seq<u8>, AllocError>
         requires fit { IsFit self.now.task.now }
         requires readable { is_readable self.now.task.now.domain formula.now ≡ true }
-        requires few { length objects.now ≤ 16 }
+        requires few { length objects.now ≤ SLOTS }
         ensures { IfOk result (λ text. text ≡ specs.false_text self.now.task.now
             self.now.facts.now.known state.now formula.now objects.now) }
     {

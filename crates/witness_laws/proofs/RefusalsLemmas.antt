@@ -1,5 +1,5 @@
 -- What the definitions refuse, at the first worked task.
-use Rattle.std.proofs.Common.{◌≡◌, ℕ, zero, suc, ◌+◌, ◌<◌, ◌⊎◌, inl, inr, List, [], ◌∷◌, ◌++◌, codes, drop, length, map, refl, sym, ap, subst, ◌∙◌, arith, Option, None, Some, slice_get, take, true, Contains}
+use Rattle.std.proofs.Common.{◌≡◌, ℕ, zero, suc, ◌+◌, ◌<◌, inl, inr, List, [], ◌∷◌, ◌++◌, codes, drop, length, map, refl, sym, ap, subst, ◌∙◌, arith, Option, Some, slice_get, take, true, Contains}
 use Rattle.std.proofs.lemmas.List.{length-map}
 use Rattle.std.proofs.lemmas.Bool.{false≢true}
 use Rattle.std.proofs.lemmas.Option.{same_Some}

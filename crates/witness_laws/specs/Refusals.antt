@@ -1,5 +1,5 @@
 -- What the definitions refuse, at the first worked task. Each is a clause of a public function of `refusals.rt`.
-use Rattle.std.specs.Prelude.{◌≡◌, ℕ, List, [], ◌∷◌, ◌++◌, codes, Bool}
+use Rattle.std.specs.Prelude.{ℕ, List, [], ◌∷◌, ◌++◌, codes, Bool}
 use Rattle.turn_laws.specs.Lazy.{IsLazy}
 use Rattle.task_model.specs.Examples.{call as grip_of}
 use Rattle.task_model.specs.Streams.{IsDue}

@@ -1,9 +1,10 @@
 //! Real children, alone and as members of a host.
 ghost use Rattle.std.specs.Prelude.{◌≡◌, ◌<◌, ℕ, true, false, length, is_ok, IfOk};
 ghost use Rattle.io_world.specs.Talks.{Becomes, Same};
+ghost use Rattle.io_world.specs.declared.host.TheConstants.{CHILDREN};
 
 use gen_host::{BoxHost, ChildGen, Generator, add_idle};
-use io_world::{Host, HostFault, hear_line, send_all};
+use io_world::{CHILDREN, Host, HostFault, hear_line, send_all};
 use std::alloc::{AllocError, Global};
 use std::process::Abort;
 use std::test::Fail;
@@ -101,7 +102,7 @@ fn a_write_to_a_program_that_is_gone_fails(rt: HostRuntime) -> Result<(), Fail> 
 
 /// Starts a child of a host.
 fn start<H: Host>(rt: &impl Abort, host: &mut H, child: u8, argv: &[String])
-    requires number { child < 17 }
+    requires number { child < CHILDREN }
     requires words { 0 < length argv.now }
     requires idle { H.running host.old child ≡ false }
     ensures { Becomes child true (H.running host.old) (H.running host.new) }
@@ -112,7 +113,7 @@ fn start<H: Host>(rt: &impl Abort, host: &mut H, child: u8, argv: &[String])
 
 /// Writes a line to a child of a host, and hears the same.
 fn converse<H: Host>(rt: &impl Abort, host: &mut H, child: u8, line: &[u8])
-    requires number { child < 17 }
+    requires number { child < CHILDREN }
     requires runs { H.running host.old child ≡ true }
     ensures { Same (H.running host.old) (H.running host.new) }
 {
@@ -142,13 +143,13 @@ fn keep_apart<H: Host>(rt: &impl Abort, host: &mut H, argv: &[String])
 fn children_of_a_host_are_kept_apart(rt: HostRuntime) -> Result<(), Fail> {
     let alloc = rt.alloc();
     let mut members = Vec::new(alloc);
-    for _ in 0..17 {
+    for _ in 0..CHILDREN {
         add_idle(
             &mut members,
             Box::new(alloc, ChildGen::new(alloc, rt.clone()?))?,
         )?;
     }
-    assert_eq!(rt; members.len(), 17);
+    assert_eq!(rt; members.len(), CHILDREN);
     let mut host = BoxHost::new(members);
     let cat = shell(alloc, "exec cat")?;
     keep_apart(&rt, &mut host, &cat);
@@ -160,13 +161,13 @@ fn children_of_a_host_are_kept_apart(rt: HostRuntime) -> Result<(), Fail> {
 fn a_host_adds_up_the_faults_of_its_children(rt: HostRuntime) -> Result<(), Fail> {
     let alloc = rt.alloc();
     let mut members = Vec::new(alloc);
-    for _ in 0..17 {
+    for _ in 0..CHILDREN {
         add_idle(
             &mut members,
             Box::new(alloc, ChildGen::new(alloc, rt.clone()?))?,
         )?;
     }
-    assert_eq!(rt; members.len(), 17);
+    assert_eq!(rt; members.len(), CHILDREN);
     let mut host = BoxHost::new(members);
     let words = vec![in alloc; String::from_str(alloc, "/no/such/program")?]?;
     assert_eq!(rt; host.start(3, &words), Err(HostFault::Failed));

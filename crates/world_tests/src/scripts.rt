@@ -1,6 +1,7 @@
 //! Children that play scripts, and children that answer by a function.
 ghost use Rattle.std.specs.Prelude.{◌≡◌, ◌<◌, true, false, length, IfOk};
 ghost use Rattle.io_world.specs.Talks.{Becomes, Same};
+ghost use Rattle.io_world.specs.declared.host.TheConstants.{CHILDREN};
 
 use io_world::{AnswerBy, Host, HostFault, Script, ScriptHost, SureHost, hear_line, send_all};
 use std::alloc::{AllocError, Global};
@@ -9,7 +10,7 @@ use std::test::Fail;
 
 /// Starts a child.
 fn begin<H: Host>(rt: &impl Abort, host: &mut H, child: u8, argv: &[String])
-    requires number { child < 17 }
+    requires number { child < CHILDREN }
     requires words { 0 < length argv.now }
     requires idle { H.running host.old child ≡ false }
     ensures { Becomes child true (H.running host.old) (H.running host.new) }
@@ -26,7 +27,7 @@ fn tell<H: Host>(
     bytes: &[u8],
     want: Result<usize, HostFault>,
 )
-    requires number { child < 17 }
+    requires number { child < CHILDREN }
     requires some { 0 < length bytes.now }
     requires runs { H.running host.old child ≡ true }
     ensures { Same (H.running host.old) (H.running host.new) }
@@ -37,7 +38,7 @@ fn tell<H: Host>(
 
 /// Reads from a child, which is to give this.
 fn hear<H: Host>(rt: &impl Abort, host: &mut H, child: u8, want: &[u8])
-    requires number { child < 17 }
+    requires number { child < CHILDREN }
     requires runs { H.running host.old child ≡ true }
     ensures { Same (H.running host.old) (H.running host.new) }
 {
@@ -49,7 +50,7 @@ fn hear<H: Host>(rt: &impl Abort, host: &mut H, child: u8, want: &[u8])
 
 /// Reads from a child, which is to fail.
 fn miss<H: Host>(rt: &impl Abort, host: &mut H, child: u8)
-    requires number { child < 17 }
+    requires number { child < CHILDREN }
     requires runs { H.running host.old child ≡ true }
     ensures { Same (H.running host.old) (H.running host.new) }
 {

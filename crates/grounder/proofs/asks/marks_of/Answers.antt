@@ -1,4 +1,4 @@
-use Rattle.std.proofs.Common.{◌≡◌, ◌+◌, ◌++◌, ◌∷◌, [], ◌||◌, Bool, true, false, true≢false, set, take, map, length, replicate, refl, sym, ap, ◌∙◌, subst}
+use Rattle.std.proofs.Common.{◌≡◌, ◌+◌, ◌++◌, ◌∷◌, [], ◌||◌, Bool, true, false, true≢false, set, take, map, length, replicate, refl, sym, ap, ◌∙◌}
 use Rattle.std.proofs.lemmas.List.{take_all}
 use Rattle.std.proofs.lemmas.Simd.{splat_is_map}
 use Rattle.std.proofs.lemmas.List.Folds.{list_any_at}
@@ -13,7 +13,6 @@ use Rattle.state_store.proofs.RowsLemmas.{place_is}
 use Rattle.task_model.proofs.StateLemmas.{atoms_total}
 use Rattle.task_model.proofs.StateOrderLemmas.{same_atom, ties}
 use Rattle.task_model.specs.AtomOrder.{atom_cmp}
-use Rattle.task_model.specs.State.{contains, items}
 use Rattle.task_model.specs.declared.fact.Atom.{Atom}
 use Rattle.grounder.proofs.AsksLemmas.{any_pushed, mark_none, mark_there}
 use Rattle.grounder.proofs.asks.marks_of.Goals as goal

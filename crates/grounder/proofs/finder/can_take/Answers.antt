@@ -1,4 +1,4 @@
-use Rattle.std.proofs.Common.{◌≡◌, ◌&&◌, is_some, length, ap, sym, ◌∙◌, arith}
+use Rattle.std.proofs.Common.{◌&&◌, is_some, ap, sym, ◌∙◌, arith}
 use Rattle.lemmas.proofs.Members.{member_at}
 use Rattle.plan_check.proofs.ReadableLemmas.{fit_action, readable_action}
 use Rattle.task_model.proofs.TruthLemmas.{have_types-length}

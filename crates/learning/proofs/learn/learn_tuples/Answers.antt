@@ -3,6 +3,7 @@ use Rattle.std.proofs.Math.ListN.{length-drop}
 use Rattle.std.proofs.lemmas.List.{length-map, length-take-le}
 use Rattle.learning.proofs.OutputsLemmas.{all_in_names_kept, names_grow}
 use Rattle.learning.proofs.TuplesLemmas.{teaches_grows}
+use Rattle.learning.specs.Learning.{asked_by}
 use Rattle.learning.specs.Outputs.{AreNamed}
 use Rattle.learning.specs.Tuples.{with_tuple}
 use Rattle.fact_store.proofs.GrowthLemmas.{grows_then}
@@ -18,15 +19,23 @@ use Rattle.learning.proofs.LearningTupleLemmas.{lies_then, none_left, one_less, 
 use Rattle.learning.proofs.learn.learn_tuples.Goals as goal
 use Rattle.task_model.proofs.KnownLemmas.{length_with_names}
 
-pub learn_tuple-requires-clause-stream : goal.learn_tuple-requires-clause-stream
-learn_tuple-requires-clause-stream c =
-    fit_stream_at c.args.task.now c.args.instance.now.stream c.args.stream.now c.requires.may.fit c.requires.may.streamed
+pub learn_tuple-requires-clause-may : goal.learn_tuple-requires-clause-may
+learn_tuple-requires-clause-may c =
+    let inputs = c.as_slice-inputs.ensures in
+    record {
+      fit_domain = c.requires.may.fit.domain;
+      fit_stream = fit_stream_at c.args.task.now c.args.asked.now.instance.now.stream c.args.asked.now.stream.now c.requires.may.fit
+          c.requires.may.streamed;
+      many = ap length inputs ∙ c.requires.may.many;
+      named = subst (All (IsIn c.loop.facts.known.names)) (sym inputs) c.loop.invariant.named;
+      constants = c.loop.invariant.constants;
+    }
 
 pub loop-preserved : goal.loop-preserved
 loop-preserved c =
     let task = c.args.task.now in
-    let a : Asked = record { stream = c.args.stream.now; instance = c.args.instance.now } in
-    let width = length c.args.stream.now.outputs in
+    let a : Asked = asked_by c.args.asked.now in
+    let width = length c.args.asked.now.stream.now.outputs in
     let rest = c.loop.rest.now in
     let n = c.args.tuples - (c.loop.counter + 1) in
     let left : c.args.tuples - c.loop.counter ≡ suc n = one_less c.args.tuples c.loop.counter c.loop-test.true in
@@ -42,7 +51,7 @@ loop-preserved c =
     subst (AreNamed after.names outputs) front c.in_ok-learn_tuple.ensures.all.outputs_named in
     let facts : after.facts ≡ with_facts known.facts (certified_by task.domain a.stream a.instance.inputs outputs) =
     c.in_ok-learn_tuple.ensures.all.facts
-    ∙ ap (λ is. with_facts known.facts (certified_by task.domain a.stream is outputs)) c.as_slice.ensures in
+    ∙ ap (λ is. with_facts known.facts (certified_by task.domain a.stream is outputs)) c.as_slice-inputs.ensures in
     let short : length (take width rest) ≡ width = length-take-le width rest (omega (arith, long)) in
     let later : length (drop width rest) ≡ n * width = omega (arith, length-drop width rest, long) in
     record {
@@ -52,11 +61,11 @@ loop-preserved c =
           ∙ ap (λ m. known_with task known a (entry.Got 0 m rest)) (sym left)
           ∙ c.loop.invariant.known;
       grown = grows_then c.args.facts.now.known known after c.loop.invariant.grown
-          (teaches_grows task.domain c.args.stream.now c.as_slice.result.now c.split_at.result.0.now known after outputs
+          (teaches_grows task.domain c.args.asked.now.stream.now c.as_slice-inputs.result.now c.split_at.result.0.now known after outputs
           c.in_ok-learn_tuple.ensures.all);
       long = ap length back ∙ later;
-      named = subst (λ ns. All (IsIn ns) c.args.instance.now.inputs)
-          (sym names) (all_in_names_kept known.names (map generated (take width rest)) c.args.instance.now.inputs c.loop.invariant.named);
+      named = subst (λ ns. All (IsIn ns) c.args.asked.now.instance.now.inputs)
+          (sym names) (all_in_names_kept known.names (map generated (take width rest)) c.args.asked.now.instance.now.inputs c.loop.invariant.named);
       constants =
           subst (λ ns. length task.domain.constants ≤ length ns)
           (sym names) (omega (arith, c.loop.invariant.constants, names_grow known.names (map generated (take width rest))));
@@ -76,11 +85,11 @@ loop-preserved c =
 pub returns-clause-known : goal.returns-clause-known
 returns-clause-known c =
     let task = c.args.task.now in
-    let a : Asked = record { stream = c.args.stream.now; instance = c.args.instance.now } in
+    let a : Asked = asked_by c.args.asked.now in
     let rest = c.loop.rest.now in
     let done : c.args.tuples - c.loop.counter ≡ 0 = omega (arith, c.loop-test.false) in
-    let none : length rest ≡ 0 * length c.args.stream.now.outputs =
-    c.loop.invariant.long ∙ ap (λ m. m * length c.args.stream.now.outputs) done in
+    let none : length rest ≡ 0 * length c.args.asked.now.stream.now.outputs =
+    c.loop.invariant.long ∙ ap (λ m. m * length c.args.asked.now.stream.now.outputs) done in
     none_left task c.loop.facts.known a rest (omega (arith, none))
     ∙ ap (λ m. known_with task c.loop.facts.known a (entry.Got 0 m rest)) (sym done)
     ∙ c.loop.invariant.known
@@ -88,17 +97,17 @@ returns-clause-known c =
 pub returns-in_err-learn_tuple-clause-part : goal.returns-in_err-learn_tuple-clause-part
 returns-in_err-learn_tuple-clause-part c =
     let task = c.args.task.now in
-    let a : Asked = record { stream = c.args.stream.now; instance = c.args.instance.now } in
-    let width = length c.args.stream.now.outputs in
+    let a : Asked = asked_by c.args.asked.now in
+    let width = length c.args.asked.now.stream.now.outputs in
     let rest = c.loop.rest.now in
     let n = c.args.tuples - (c.loop.counter + 1) in
     let left = one_less c.args.tuples c.loop.counter c.loop-test.true in
     let front : c.split_at.result.0.now ≡ take width rest = c.split_at.ensures.front ∙ ap (λ m. take m rest) c.len.ensures in
     let known = c.loop.facts.known in
     let last = known_with task c.args.facts.now.known a (entry.Got 0 c.args.tuples c.args.values.now) in
-    let next = with_tuple task.domain c.args.stream.now c.as_slice.result.now c.split_at.result.0.now known in
+    let next = with_tuple task.domain c.args.asked.now.stream.now c.as_slice-inputs.result.now c.split_at.result.0.now known in
     let is : next ≡ with_tuple task.domain a.stream a.instance.inputs (take width rest) known =
-    λ i. with_tuple task.domain a.stream (c.as_slice.ensures i) (front i) known in
+    λ i. with_tuple task.domain a.stream (c.as_slice-inputs.ensures i) (front i) known in
     let all : known_with task known a (entry.Got 0 (suc n) rest) ≡ last =
     ap (λ m. known_with task known a (entry.Got 0 m rest)) (sym left) ∙ c.loop.invariant.known in
     let later : Grows next last =

@@ -1,4 +1,6 @@
-use Rattle.std.proofs.Common.{◌≡◌, ap, sym, subst, ◌∙◌, All, [], ◌∷◌, drop, map}
+use Rattle.std.proofs.Common.{◌≡◌, ◌≤◌, ap, sym, subst, ◌∙◌, All, [], ◌∷◌, drop, length, map, true}
+use Rattle.std.specs.List.{list_all}
+use Rattle.formula_eval.specs.Readable.{is_readable_term}
 use Rattle.learning.proofs.OutputsLemmas.{atoms_more}
 use Rattle.fact_store.proofs.GrowthLemmas.{between_same, facts_grow, facts_left, front_then}
 use Rattle.lemmas.proofs.Results.{on_err}
@@ -7,11 +9,23 @@ use Rattle.learning.proofs.tuple.learn_atoms.Goals as goal
 use Rattle.task_model.specs.Known.{IsIn, with_fact, with_facts, atom_fact}
 use Rattle.task_model.specs.Truth.{slots_of, objects_at}
 
+pub objects_at-row-requires-clause-short : goal.objects_at-row-requires-clause-short
+objects_at-row-requires-clause-short c =
+    subst (λ ts. length ts ≤ 8) (sym c.as_slice.ensures)
+    (subst (λ p. length p.args ≤ 8) (sym c.pattern-item.is)
+    (c.requires.plain.short c.loop-pattern.pattern-index c.pattern-item.result c.loop-pattern-test.true))
+
+pub objects_at-row-requires-clause-readable : goal.objects_at-row-requires-clause-readable
+objects_at-row-requires-clause-readable c =
+    subst (λ ts. list_all is_readable_term ts ≡ true) (sym c.as_slice.ensures)
+    (subst (λ p. list_all is_readable_term p.args ≡ true) (sym c.pattern-item.is)
+    (c.requires.plain.readable c.loop-pattern.pattern-index c.pattern-item.result c.loop-pattern-test.true))
+
 pub add-requires : goal.add-requires
 add-requires c =
     let row : c.objects_at-row.result ≡ objects_at (slots_of c.args.args.now) c.pattern-item.result.args =
     c.objects_at-row.ensures ∙ (λ i. objects_at (c.new-env.ensures i) (c.as_slice.ensures i)) in
-    let named = c.requires.named c.loop-pattern.pattern-index c.pattern-item.result c.loop-pattern-test.true in
+    let named = c.requires.plain.named c.loop-pattern.pattern-index c.pattern-item.result c.loop-pattern-test.true in
     let here : All (IsIn c.args.facts.now.known.names) (objects_at (slots_of c.args.args.now) c.pattern-item.result.args) =
     subst (λ p. All (IsIn c.args.facts.now.known.names) (objects_at (slots_of c.args.args.now) p.args)) (sym c.pattern-item.is) named in
     let there : All (IsIn c.args.facts.now.known.names) c.objects_at-row.result =

@@ -1,5 +1,5 @@
 use Rattle.std.proofs.Common.{◌≡◌, ◌++◌, sym, subst, ◌∙◌, All, map, length, ◌≤◌, arith}
-use Rattle.learning.proofs.FitStreamLemmas.{ArePlain, fit_parts, few_args, plain_certified}
+use Rattle.learning.proofs.FitStreamLemmas.{fit_parts, few_args, plain_certified}
 use Rattle.learning.proofs.OutputsLemmas.{named_in, named_long, all_in_names_kept, names_grow}
 use Rattle.learning.proofs.TuplesLemmas.{AreGiven, atoms_part, some_named, types_part, types_whole}
 use Rattle.learning.proofs.tuple.learn_tuple.Goals as goal
@@ -10,6 +10,7 @@ use Rattle.task_model.specs.Known.{IsIn, with_facts, with_names}
 use Rattle.task_model.specs.Streams.{output_types, fact_of}
 use Rattle.task_model.specs.Truth.{slots_of}
 use Rattle.learning.specs.Outputs.{AreNamed}
+use Rattle.learning.specs.Tuples.{ArePlain}
 
 pub learn_types-requires-clause-named : goal.learn_types-requires-clause-named
 learn_types-requires-clause-named c =
@@ -33,7 +34,7 @@ module _ (c : goal.After-as_slice-5) where
   inputs_named : All (IsIn c.learn_types.new.facts.known.names) c.args.inputs.now
   inputs_named =
       subst (λ ns. All (IsIn ns) c.args.inputs.now) (sym names_are)
-      (all_in_names_kept c.args.facts.now.known.names (map generated c.args.values.now) c.args.inputs.now c.requires.named)
+      (all_in_names_kept c.args.facts.now.known.names (map generated c.args.values.now) c.args.inputs.now c.requires.may.named)
 
   outputs_named : All (IsIn c.learn_types.new.facts.known.names) c.in_ok-outputs.outputs
   outputs_named =
@@ -43,31 +44,25 @@ module _ (c : goal.After-as_slice-5) where
   constants_there : length c.args.domain.now.constants ≤ length c.learn_types.new.facts.known.names
   constants_there =
       subst (λ ns. length c.args.domain.now.constants ≤ length ns)
-      (sym names_are) (omega (arith, c.requires.constants, names_grow c.args.facts.now.known.names (map generated c.args.values.now)))
+      (sym names_are) (omega (arith, c.requires.may.constants, names_grow c.args.facts.now.known.names (map generated c.args.values.now)))
 
   plain : ArePlain c.learn_types.new.facts.known.names c.as_slice-5.result.now c.as_slice-4.result.now
   plain =
       subst (λ ps. ArePlain c.learn_types.new.facts.known.names c.as_slice-5.result.now ps) (sym c.as_slice-4.ensures)
       (subst (λ os. ArePlain c.learn_types.new.facts.known.names os c.args.stream.now.certified) (sym args_are)
-      (plain_certified c.args.domain.now c.requires.domain c.learn_types.new.facts.known.names constants_there c.args.stream.now
-      (fit_parts c.args.domain.now c.args.stream.now c.requires.stream) c.args.inputs.now c.in_ok-outputs.outputs c.requires.inputs many
+      (plain_certified c.args.domain.now c.requires.may.fit_domain c.learn_types.new.facts.known.names constants_there c.args.stream.now
+      (fit_parts c.args.domain.now c.args.stream.now c.requires.may.fit_stream) c.args.inputs.now c.in_ok-outputs.outputs c.requires.may.many many
       inputs_named outputs_named))
 
 pub learn_atoms-requires-clause-few : goal.learn_atoms-requires-clause-few
 learn_atoms-requires-clause-few c =
     subst (λ os. length os ≤ 16) (sym (args_are c))
-    (few_args c.args.domain.now c.requires.domain c.learn_types.new.facts.known.names (constants_there c) c.args.stream.now
-    (fit_parts c.args.domain.now c.args.stream.now c.requires.stream) c.args.inputs.now c.in_ok-outputs.outputs c.requires.inputs
+    (few_args c.args.domain.now c.requires.may.fit_domain c.learn_types.new.facts.known.names (constants_there c) c.args.stream.now
+    (fit_parts c.args.domain.now c.args.stream.now c.requires.may.fit_stream) c.args.inputs.now c.in_ok-outputs.outputs c.requires.may.many
     (many c))
 
-pub learn_atoms-requires-clause-short : goal.learn_atoms-requires-clause-short
-learn_atoms-requires-clause-short c = (plain c).short
-
-pub learn_atoms-requires-clause-readable : goal.learn_atoms-requires-clause-readable
-learn_atoms-requires-clause-readable c = (plain c).readable
-
-pub learn_atoms-requires-clause-named : goal.learn_atoms-requires-clause-named
-learn_atoms-requires-clause-named c = (plain c).named
+pub learn_atoms-requires-clause-plain : goal.learn_atoms-requires-clause-plain
+learn_atoms-requires-clause-plain c = plain c
 
 pub returns-clause-all : goal.returns-clause-all
 returns-clause-all c =

@@ -1,9 +1,8 @@
-use Rattle.std.proofs.Common.{◌≡◌, List, ℕ, ap, sym, ◌∙◌}
+use Rattle.std.proofs.Common.{ap, sym, ◌∙◌}
 use Rattle.std.specs.List.{list_all}
-use Rattle.name_tables.specs.Vocabulary.{vocabulary_of}
 use Rattle.sexpr_text.specs.Trees.{trees}
 use Rattle.problem_reader.proofs.FitObjects.{names_typed, types_tested}
-use Rattle.problem_reader.specs.Tables.{has_type, with_objects}
+use Rattle.problem_reader.specs.Tables.{has_type}
 use Rattle.problem_reader.proofs.tables.put_objects.Goals as goal
 
 pub returns-in_ok-typed-clause-names : goal.returns-in_ok-typed-clause-names

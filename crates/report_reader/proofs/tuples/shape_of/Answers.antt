@@ -2,8 +2,8 @@ use Rattle.std.proofs.Common.{arith}
 use Rattle.report_reader.proofs.TuplesLemmas.{too_many, no_parts, no_wide}
 use Rattle.report_reader.proofs.tuples.shape_of.Goals as goal
 
-pub returns-then-bars-ge-MOST_TUPLES : goal.returns-then-bars-ge-MOST_TUPLES
-returns-then-bars-ge-MOST_TUPLES c =
+pub returns-then-bars : goal.returns-then-bars
+returns-then-bars c =
     too_many c.args.version c.bars_of-bars.result c.args.fields.now c.bars_of-bars.ensures.bars (omega arith)
 
 pub returns-then-many-bars-ne0 : goal.returns-then-many-bars-ne0

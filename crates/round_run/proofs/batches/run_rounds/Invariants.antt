@@ -5,7 +5,7 @@ use Rattle.round_run.proofs.BatchLemmas.{SoFar}
 use Rattle.round_run.proofs.batches.run_rounds.Given as goal
 use Rattle.round_run.specs.Calls.{AddsCalls}
 use Rattle.round_run.specs.Dialogue.{workers_in}
-use Rattle.round_run.specs.Led.{IsLed}
+use Rattle.io_world.specs.Leads.{IsLed}
 use Rattle.round_run.specs.Rolling.{Goes}
 use Rattle.round_run.specs.Resting.{Stays, Works}
 use Rattle.round_run.specs.Batches.{AllRun}

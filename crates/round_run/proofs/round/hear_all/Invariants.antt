@@ -3,7 +3,7 @@ use Rattle.session_core.specs.Session.{IsSession}
 use Rattle.task_model.specs.declared.task.Task.{Task}
 use Rattle.round_run.proofs.round.hear_all.Given as goal
 use Rattle.round_run.specs.Calls.{AddsCalls}
-use Rattle.round_run.specs.Led.{IsLed}
+use Rattle.io_world.specs.Leads.{IsLed}
 use Rattle.round_run.specs.Resting.{Rolled, StaysIdle}
 use Rattle.round_run.specs.Rolling.{Goes, finished_round}
 use Rattle.round_run.specs.Talking.{IsTalking, held_of}

@@ -1,4 +1,4 @@
-use Rattle.std.proofs.Common.{◌≡◌, ◌∙◌, ap, refl, subst, [], Some}
+use Rattle.std.proofs.Common.{◌∙◌, ap, refl, subst}
 use Rattle.io_world.specs.Logs.{Calls, said_of, told_of}
 use Rattle.restart_host.proofs.ChildrenLemmas.{idle_below}
 use Rattle.restart_host.specs.Leads.{AreDoneBelow}

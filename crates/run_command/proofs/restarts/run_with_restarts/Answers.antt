@@ -1,4 +1,4 @@
-use Rattle.std.proofs.Common.{◌≡◌, arith, ap, Err, inl, refl, [], Result}
+use Rattle.std.proofs.Common.{arith, ap, Err, inl, refl, []}
 use Rattle.io_world.proofs.TalksLemmas.{extends_none}
 use Rattle.report_text.proofs.PrintsLemmas.{appends_none}
 use Rattle.round_run.proofs.StoppedLemmas.{handed_err}

@@ -5,7 +5,7 @@ use Rattle.fact_store.proofs.fact_table.FactTable.insert.Goals as goal
 
 pub invariant_of-self-2 : goal.invariant_of-self-2
 invariant_of-self-2 c =
-    let kept = all_kept c.self.inside.facts.keys c.insert.new.self.keys c.args.fact c.self.inside.objects c.self.inside.atoms
+    let kept = all_kept c.self.inside.facts.keys c.insert.new.self.keys c.args.fact c.self.inside.objects
     c.self.inside.atoms_at.items
     (inl (c.in_ok-fresh.ensures.keys ∙ fact_put c.self.inside.facts.keys c.args.fact)) c.self.invariant in
-    record { objects = kept.objects; atoms = kept.atoms; atoms_at = c.add_tables.ensures c.insert.new.self.keys kept.atoms_at }
+    record { objects = kept.objects; atoms_at = c.add_tables.ensures c.insert.new.self.keys kept.atoms_at }

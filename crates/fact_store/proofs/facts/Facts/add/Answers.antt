@@ -6,7 +6,7 @@ use Rattle.std.proofs.lemmas.Result.{on_err_weaker}
 
 pub invariant_of-self-inside : goal.invariant_of-self-inside
 invariant_of-self-inside c = (
-  fact_kept (record { names = c.self.inside.names.items; facts = c.self.inside.facts; values = c.self.inside.values }) c.insert.new.self
+  fact_kept (record { names = c.self.inside.names.keys; facts = c.self.inside.facts; values = c.self.inside.values }) c.insert.new.self
       c.args.fact
       (subst (λ ns. All (IsIn ns) c.args.fact.args) (sym (ap (λ s. s.known.names) c.self.view_is)) c.requires)
       (grown c.insert.result c.self.inside.facts _

@@ -6,7 +6,7 @@ use Rattle.std.proofs.lemmas.Result.{on_err_weaker}
 
 pub invariant_of-self-inside : goal.invariant_of-self-inside
 invariant_of-self-inside c = (
-  value_kept (record { names = c.self.inside.names.items; facts = c.self.inside.facts; values = c.self.inside.values }) c.insert.new.self
+  value_kept (record { names = c.self.inside.names.keys; facts = c.self.inside.facts; values = c.self.inside.values }) c.insert.new.self
       (record { func = c.args.func; args = c.args.args; value = c.args.value })
       c.requires.cost
       (grown c.insert.result c.self.inside.values _

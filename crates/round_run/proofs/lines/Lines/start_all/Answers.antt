@@ -13,7 +13,7 @@ use Rattle.round_run.proofs.lines.Lines.start_all.Goals as goal
 use Rattle.round_run.proofs.lines.Lines.start_all.Goals.{in-Some+in_ok-start_child, in_default}
 use Rattle.round_run.specs.Calls.{start_at, start_in}
 use Rattle.round_run.specs.Held.{Held, is_child_running}
-use Rattle.round_run.specs.Led.{IsLed}
+use Rattle.io_world.specs.Leads.{IsLed}
 use Rattle.round_run.specs.Resting.{KeepsSilent}
 use Rattle.round_run.specs.Rolling.{IsHostFault}
 

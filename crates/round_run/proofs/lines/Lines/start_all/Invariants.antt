@@ -7,7 +7,7 @@ use Rattle.round_run.proofs.StartsLemmas.{IdleFrom, RunBefore}
 use Rattle.round_run.proofs.lines.Lines.start_all.Given as goal
 use Rattle.round_run.specs.Calls.{start_at}
 use Rattle.round_run.specs.Held.{is_child_running}
-use Rattle.round_run.specs.Led.{IsLed}
+use Rattle.io_world.specs.Leads.{IsLed}
 use Rattle.round_run.specs.Resting.{KeepsSilent}
 
 -- the workers before this child run, and no others do

@@ -1,7 +1,7 @@
-use Rattle.std.proofs.Common.{◌≡◌, ap, sym, subst, ◌∙◌, ◌+◌, ◌≤◌, false, length, [], take, vec_len, vec_capacity, arith}
+use Rattle.std.proofs.Common.{◌≡◌, ap, sym, subst, ◌∙◌, ◌+◌, false, length, [], take, vec_len, vec_capacity, arith}
 use Rattle.session_core.proofs.RoundBeginLemmas.{the_state, named_all, children_fit, begun_sound, begun_fresh, begin_kept}
 use Rattle.session_core.specs.Events.{IsFresh}
-use Rattle.pools.specs.Pools.{child_for, asked_streams}
+use Rattle.pools.specs.Pools.{IsChild, child_for, asked_streams}
 use Rattle.session_core.specs.Session.{IsSession, MayBeginRound}
 use Rattle.session_core.specs.Shown.{shown_session}
 use Rattle.session_core.specs.Slots.{asks_from, slots_from}
@@ -22,7 +22,7 @@ round_of-requires-clause-children c = λ k d at.
     let dues = c.args.dues.now in
     let s = shown_session c.self.inside in
     let may = subst (λ (t : State). t.failed ≡ false → MayBeginRound task t dues) (sym c.self.view_is) c.requires.round c.if-self.false in
-    subst (λ ps. child_for ps (asked_streams (take k dues)) d.instance.stream ≤ 16) (sym c.as_slice.ensures.value)
+    subst (λ ps. IsChild (child_for ps (asked_streams (take k dues)) d.instance.stream)) (sym c.as_slice.ensures.value)
     (children_fit task s dues c.if-self.false may (subst (IsSession task) (sym c.self.view_is) c.requires.session) k d at)
 
 pub invariant_of-self-2 : goal.invariant_of-self-2
