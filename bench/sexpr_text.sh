@@ -12,7 +12,7 @@ trap 'rm -rf "$work"' EXIT
 mkdir -p "$work/crates/read_bench/src"
 cp -r "$root/crates/sexpr_text" "$work/crates/"
 rm -rf "$work/crates/sexpr_text/out"
-printf 'sexpr_text: thiserror\nread_bench: anyhow sexpr_text\n' > "$work/crates.txt"
+printf 'sexpr_text: smallvec thiserror\nread_bench: anyhow sexpr_text\n' > "$work/crates.txt"
 cat > "$work/crates/read_bench/src/main.rt" <<'PROGRAM'
 // Reads standard input as a tree, and prints the microseconds that it took.
 #![tactic(auto)]

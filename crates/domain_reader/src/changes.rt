@@ -5,7 +5,7 @@ ghost use Rattle.domain_reader.specs.Effects as specs;
 
 use form_reader::{EffectHead, effect_head_of, head_of, inner_of, tail_of};
 use name_tables::{Scope, Vocabulary, declared_place, pattern_of, terms_of};
-use sexpr_text::{Front, Tree, front_of};
+use sexpr_text::{Front, Node, front_of};
 use std::alloc::{AllocError, Global};
 use std::marker::Model;
 use task_model::{CostTerm, Pattern, Seq, number_of};
@@ -48,7 +48,7 @@ fn cost_of(
     alloc: Global,
     names: &Vocabulary,
     scope: &Scope,
-    items: &[Tree],
+    items: &[Node],
 ) -> Result<CostTerm, AllocError>
     ensures { IfOk result (λ t. t ≡ specs.cost_term_of names.now scope.now (trees items.now)) }
 {
@@ -73,7 +73,7 @@ pub(crate) fn note_effect(
     names: &Vocabulary,
     scope: &Scope,
     changes: &mut Changes,
-    items: &[Tree],
+    items: &[Node],
 ) -> Result<(), AllocError>
     ensures { OnOk result (changes.new
         ≡ specs.after_effect names.now scope.now changes.old (trees items.now)) }
@@ -109,7 +109,7 @@ fn note_effects(
     names: &Vocabulary,
     scope: &Scope,
     changes: &mut Changes,
-    items: &[Tree],
+    items: &[Node],
 ) -> Result<(), AllocError>
     ensures { OnOk result (changes.new
         ≡ specs.after_effects names.now scope.now changes.old (trees items.now)) }

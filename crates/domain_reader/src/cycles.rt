@@ -11,7 +11,7 @@ use name_tables::{
     Candidate, NameTable, NumberLists, Signatures, ascending, is_named, named_sorts, number,
     reached_from, sort_of,
 };
-use sexpr_text::{Front, Tree, front_of};
+use sexpr_text::{Front, Node, front_of};
 use std::alloc::{AllocError, Global};
 use task_model::{Name, Seq, Sort};
 
@@ -60,7 +60,7 @@ fn add_row(
     alloc: Global,
     edges: &mut NumberLists,
     sorts: &NameTable,
-    items: &[Tree],
+    items: &[Node],
 ) -> Result<(), AllocError>
     ensures { OnOk result (edges.new
         ≡ specs.edges_each sorts.now edges.old (named_words Start (trees items.now))
@@ -91,7 +91,7 @@ fn add_types(
     alloc: Global,
     edges: &mut NumberLists,
     sorts: &NameTable,
-    items: &[Tree],
+    items: &[Node],
 ) -> Result<(), AllocError>
     ensures { OnOk result (edges.new
         ≡ specs.edges_in sorts.now edges.old (trees items.now)) }
@@ -115,7 +115,7 @@ fn add_types(
 pub(crate) fn type_edges(
     alloc: Global,
     sorts: &NameTable,
-    body: &[Tree],
+    body: &[Node],
 ) -> Result<Vec<Seq<u32>>, AllocError>
     ensures { IfOk result (λ edges. edges.items ≡ specs.type_edges sorts.now (trees body.now)) }
 {
@@ -129,7 +129,7 @@ fn list_row(
     sorts: &NameTable,
     seen: &mut NameTable,
     listed: &mut Vec<Candidate>,
-    items: &[Tree],
+    items: &[Node],
 ) -> Result<(), AllocError>
     ensures listed { OnOk result (listed.new.items ≡ listed.old.items
         ++ specs.listed_row sorts.now seen.old Start (trees items.now)) }
@@ -154,7 +154,7 @@ fn list_row(
 pub(crate) fn listed_types(
     alloc: Global,
     sorts: &NameTable,
-    body: &[Tree],
+    body: &[Node],
 ) -> Result<Vec<Candidate>, AllocError>
     ensures { IfOk result (λ listed. listed.items ≡ specs.listed_in sorts.now [] (trees body.now)) }
 {
@@ -215,7 +215,7 @@ fn add_mentions(
     predicates: &Signatures,
     edges: &mut NumberLists,
     from: usize,
-    items: &[Tree],
+    items: &[Node],
 ) -> Result<(), AllocError>
     ensures { OnOk result (edges.new
         ≡ specs.mentions_in predicates.now.names edges.old from (trees items.now)) }
@@ -246,7 +246,7 @@ fn no_edges(alloc: Global, predicates: &Signatures) -> Result<NumberLists, Alloc
 }
 
 /// The predicate of a `:derived` item, if it is there.
-fn derived_place(predicates: &Signatures, items: &[Tree]) -> Option<usize>
+fn derived_place(predicates: &Signatures, items: &[Node]) -> Option<usize>
     ensures { result ≡ specs.derived_place predicates.now.names (trees items.now) }
 {
     if is_derived(TextKind::Domain.item_of(head_of(items))) {
@@ -261,7 +261,7 @@ fn put_body(
     predicates: &Signatures,
     edges: &mut NumberLists,
     place: Option<usize>,
-    body: &[Tree],
+    body: &[Node],
 ) -> Result<(), AllocError>
     ensures { OnOk result (edges.new
         ≡ specs.body_put predicates.now.names edges.old place (trees body.now)) }
@@ -276,7 +276,7 @@ fn put_body(
 pub(crate) fn derived_edges(
     alloc: Global,
     predicates: &Signatures,
-    body: &[Tree],
+    body: &[Node],
 ) -> Result<Vec<Seq<u32>>, AllocError>
     ensures { IfOk result (λ edges. edges.items
         ≡ specs.derived_edges predicates.now.names (trees body.now)) }
@@ -300,7 +300,7 @@ pub(crate) fn derived_edges(
 pub(crate) fn derived_items(
     alloc: Global,
     predicates: &Signatures,
-    body: &[Tree],
+    body: &[Node],
 ) -> Result<Vec<Candidate>, AllocError>
     ensures { IfOk result (λ list. list.items
         ≡ specs.derived_in predicates.now.names (trees body.now)) }

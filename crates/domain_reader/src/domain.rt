@@ -25,7 +25,7 @@ use name_tables::{
     NameTable, Scope, TypedNames, Vocabulary, body_of, check_cycles, condition_of, declare_groups,
     declared_place, enter, named_sorts, single_of, value_at,
 };
-use sexpr_text::{Front, Tree, front_of};
+use sexpr_text::{Front, Node, Tree, front_of};
 use std::alloc::{AllocError, Global};
 use task_model::{Action, Declared, Derived, Domain, Name, Seq};
 
@@ -41,7 +41,7 @@ fn add_constants(
     alloc: Global,
     sorts: &NameTable,
     names: &mut TypedNames,
-    items: &[Tree],
+    items: &[Node],
 ) -> Result<(), AllocError>
     ensures { OnOk result (names.new ≡ specs.constants_in sorts.now names.old (trees items.now)) }
 {
@@ -61,7 +61,7 @@ fn add_constants(
 }
 
 /// The variables of a row as a scope.
-fn scope_of(alloc: Global, items: &[Tree]) -> Result<Scope, AllocError>
+fn scope_of(alloc: Global, items: &[Node]) -> Result<Scope, AllocError>
     ensures { IfOk result (λ scope. scope ≡ named_words Start (trees items.now)) }
 {
     let mut scope = Scope::new(alloc);
@@ -74,7 +74,7 @@ fn done_by(
     alloc: Global,
     names: &Vocabulary,
     scope: &Scope,
-    keys: &[Tree],
+    keys: &[Node],
 ) -> Result<Changes, AllocError>
     ensures { IfOk result (λ done. done
         ≡ after_effect names.now scope.now specs.nothing_done
@@ -92,7 +92,7 @@ fn done_by(
 }
 
 /// The action that stands behind `:action`. Fails only where memory is wanting.
-fn action_of(alloc: Global, names: &Vocabulary, items: &[Tree]) -> Result<Action, AllocError>
+fn action_of(alloc: Global, names: &Vocabulary, items: &[Node]) -> Result<Action, AllocError>
     ensures { IfOk result (λ action. action ≡ specs.action_of names.now (trees items.now)) }
 {
     let name = Name::from_slice(alloc, head_of(items))?;
@@ -117,7 +117,7 @@ fn action_of(alloc: Global, names: &Vocabulary, items: &[Tree]) -> Result<Action
 }
 
 /// The actions of items. Fails only where memory is wanting.
-fn actions_of(alloc: Global, names: &Vocabulary, items: &[Tree]) -> Result<Vec<Action>, AllocError>
+fn actions_of(alloc: Global, names: &Vocabulary, items: &[Node]) -> Result<Vec<Action>, AllocError>
     ensures { IfOk result (λ list. list.items ≡ specs.actions_of names.now (trees items.now)) }
 {
     let mut list = Vec::new(alloc);
@@ -137,7 +137,7 @@ fn actions_of(alloc: Global, names: &Vocabulary, items: &[Tree]) -> Result<Vec<A
 }
 
 /// The rule that stands behind `:derived`. Fails only where memory is wanting.
-fn rule_of(alloc: Global, names: &Vocabulary, items: &[Tree]) -> Result<Derived, AllocError>
+fn rule_of(alloc: Global, names: &Vocabulary, items: &[Node]) -> Result<Derived, AllocError>
     ensures { IfOk result (λ rule. rule ≡ specs.rule_of names.now (trees items.now)) }
 {
     let head = inner_of(items);
@@ -150,7 +150,7 @@ fn rule_of(alloc: Global, names: &Vocabulary, items: &[Tree]) -> Result<Derived,
 }
 
 /// The rules of items. Fails only where memory is wanting.
-fn rules_of(alloc: Global, names: &Vocabulary, items: &[Tree]) -> Result<Vec<Derived>, AllocError>
+fn rules_of(alloc: Global, names: &Vocabulary, items: &[Node]) -> Result<Vec<Derived>, AllocError>
     ensures { IfOk result (λ list. list.items ≡ specs.rules_of names.now (trees items.now)) }
 {
     let mut list = Vec::new(alloc);
@@ -173,7 +173,7 @@ fn rules_of(alloc: Global, names: &Vocabulary, items: &[Tree]) -> Result<Vec<Der
 fn constants_of(
     alloc: Global,
     sorts: &NameTable,
-    body: &[Tree],
+    body: &[Node],
 ) -> Result<Vec<Declared>, AllocError>
     ensures { IfOk result (λ list. list.items ≡ specs.constants_of sorts.now (trees body.now)) }
 {
@@ -239,7 +239,7 @@ pub(crate) fn domain_of(
 }
 
 /// The name faults of a domain's items, each by itself. Fails only where memory is wanting.
-fn check_each(alloc: Global, names: &Vocabulary, body: &[Tree]) -> Result<Option<Fault>, AllocError>
+fn check_each(alloc: Global, names: &Vocabulary, body: &[Node]) -> Result<Option<Fault>, AllocError>
     ensures { IfOk result (λ f. f ≡ first None
         (items_names names.now (heads_in [] (trees body.now)) (trees body.now))) }
 {
@@ -252,7 +252,7 @@ fn check_each(alloc: Global, names: &Vocabulary, body: &[Tree]) -> Result<Option
 pub(crate) fn check_plain(
     alloc: Global,
     names: &Vocabulary,
-    body: &[Tree],
+    body: &[Node],
 ) -> Result<Option<Fault>, AllocError>
     ensures { IfOk result (λ f. f ≡ least_fault (specs.plain_names names.now (trees body.now))) }
 {
@@ -268,7 +268,7 @@ pub(crate) fn check_plain(
 pub(crate) fn check_types(
     alloc: Global,
     names: &Vocabulary,
-    body: &[Tree],
+    body: &[Node],
     so_far: Option<Fault>,
 ) -> Result<Option<Fault>, AllocError>
     ensures { IfOk result (λ f. specs.AnswersTypes names.now (trees body.now) so_far f) }
@@ -288,7 +288,7 @@ pub(crate) fn check_types(
 pub(crate) fn check_derived(
     alloc: Global,
     names: &Vocabulary,
-    body: &[Tree],
+    body: &[Node],
     so_far: Option<Fault>,
 ) -> Result<Option<Fault>, AllocError>
     ensures { IfOk result (λ f. specs.AnswersDerived names.now (trees body.now) so_far f) }

@@ -8,7 +8,7 @@ ghost use Rattle.domain_reader.specs.Effects as specs;
 
 use form_reader::{EffectHead, Fault, InputKind, effect_head_of, head_of, tail_of};
 use name_tables::{NameTable, Scope, Vocabulary, check_application, unless};
-use sexpr_text::{Front, Tree, front_of};
+use sexpr_text::{Front, Node, front_of};
 use std::alloc::AllocError;
 
 /// Whether a predicate is there and is derived.
@@ -24,7 +24,7 @@ fn check_changed(
     heads: &NameTable,
     scope: &Scope,
     place: usize,
-    items: &[Tree],
+    items: &[Node],
     so_far: Option<Fault>,
 ) -> Result<Option<Fault>, AllocError>
     ensures { IfOk result (λ f. f ≡ first so_far
@@ -47,7 +47,7 @@ fn check_negated(
     names: &Vocabulary,
     heads: &NameTable,
     scope: &Scope,
-    items: &[Tree],
+    items: &[Node],
     so_far: Option<Fault>,
 ) -> Result<Option<Fault>, AllocError>
     ensures { IfOk result (λ f. f ≡ first so_far
@@ -65,7 +65,7 @@ fn check_negated(
 fn check_cost(
     names: &Vocabulary,
     scope: &Scope,
-    items: &[Tree],
+    items: &[Node],
     so_far: Option<Fault>,
 ) -> Result<Option<Fault>, AllocError>
     ensures { IfOk result (λ f. f ≡ first so_far
@@ -93,7 +93,7 @@ pub(crate) fn check_effect(
     heads: &NameTable,
     scope: &Scope,
     place: usize,
-    items: &[Tree],
+    items: &[Node],
     so_far: Option<Fault>,
 ) -> Result<Option<Fault>, AllocError>
     ensures { IfOk result (λ f. f ≡ first so_far
@@ -117,7 +117,7 @@ fn check_effects(
     names: &Vocabulary,
     heads: &NameTable,
     scope: &Scope,
-    items: &[Tree],
+    items: &[Node],
     so_far: Option<Fault>,
 ) -> Result<Option<Fault>, AllocError>
     ensures { IfOk result (λ f. f ≡ first so_far

@@ -14,7 +14,7 @@ use name_tables::{
     NameTable, Scope, Vocabulary, check_condition, check_conditions, check_doubles, check_repeated,
     check_scope, check_types, check_use, check_variables, enter, unless, value_at,
 };
-use sexpr_text::{Front, Tree, front_of};
+use sexpr_text::{Front, Node, front_of};
 use std::alloc::{AllocError, Global};
 
 /// How many arguments a declaration may give.
@@ -25,7 +25,7 @@ fn check_declaration(
     alloc: Global,
     sorts: &NameTable,
     place: usize,
-    vars: &[Tree],
+    vars: &[Node],
     so_far: Option<Fault>,
 ) -> Result<Option<Fault>, AllocError>
     ensures { IfOk result (λ f. f ≡ first so_far
@@ -42,7 +42,7 @@ fn check_declaration(
 fn check_predicates(
     alloc: Global,
     sorts: &NameTable,
-    items: &[Tree],
+    items: &[Node],
     so_far: Option<Fault>,
 ) -> Result<Option<Fault>, AllocError>
     ensures { IfOk result (λ f. f ≡ first so_far
@@ -65,7 +65,7 @@ fn check_predicates(
 /// The total cost is declared without arguments, if the list at this place declares it.
 fn check_total_cost(
     place: usize,
-    items: &[Tree],
+    items: &[Node],
     so_far: Option<Fault>,
 ) -> Result<Option<Fault>, AllocError>
     ensures { IfOk result (λ f. f ≡ first so_far (specs.total_cost_names place (trees items.now))) }
@@ -82,7 +82,7 @@ fn check_total_cost(
 fn check_functions(
     alloc: Global,
     sorts: &NameTable,
-    items: &[Tree],
+    items: &[Node],
     so_far: Option<Fault>,
 ) -> Result<Option<Fault>, AllocError>
     ensures { IfOk result (λ f. f ≡ first so_far
@@ -104,7 +104,7 @@ fn check_functions(
 }
 
 /// The place of the first tree, or 0.
-fn first_place(items: &[Tree]) -> usize
+fn first_place(items: &[Node]) -> usize
     ensures { result ≡ place_of_first (trees items.now) }
 {
     match front_of(items) {
@@ -118,7 +118,7 @@ fn check_head(
     alloc: Global,
     names: &Vocabulary,
     place: usize,
-    items: &[Tree],
+    items: &[Node],
     so_far: Option<Fault>,
 ) -> Result<Option<Fault>, AllocError>
     ensures { IfOk result (λ f. f ≡ first so_far
@@ -135,7 +135,7 @@ fn check_head(
 fn check_derived(
     alloc: Global,
     names: &Vocabulary,
-    items: &[Tree],
+    items: &[Node],
     so_far: Option<Fault>,
 ) -> Result<Option<Fault>, AllocError>
     ensures { IfOk result (λ f. f ≡ first so_far
@@ -153,7 +153,7 @@ fn check_derived(
 }
 
 /// The parameters of an action with these keys.
-pub(crate) fn parameters_of<'a>(keys: &'a [Tree]) -> &'a [Tree]
+pub(crate) fn parameters_of<'a>(keys: &'a [Node]) -> &'a [Node]
     ensures { trees result.now ≡ specs.parameters_of (trees keys.now) }
 {
     value_at(b":parameters", keys)
@@ -168,7 +168,7 @@ fn check_value(
     scope: &mut Scope,
     key: Key,
     place: usize,
-    items: &[Tree],
+    items: &[Node],
     so_far: Option<Fault>,
 ) -> Result<Option<Fault>, AllocError>
     ensures faults { IfOk result (λ f. f
@@ -196,7 +196,7 @@ fn check_keys(
     names: &Vocabulary,
     heads: &NameTable,
     scope: &mut Scope,
-    items: &[Tree],
+    items: &[Node],
     so_far: Option<Fault>,
 ) -> Result<Option<Fault>, AllocError>
     ensures { IfOk result (λ f. f ≡ first so_far
@@ -225,7 +225,7 @@ fn check_action(
     alloc: Global,
     names: &Vocabulary,
     heads: &NameTable,
-    keys: &[Tree],
+    keys: &[Node],
     so_far: Option<Fault>,
 ) -> Result<Option<Fault>, AllocError>
     ensures { IfOk result (λ f. f ≡ first so_far
@@ -244,7 +244,7 @@ fn check_body(
     names: &Vocabulary,
     heads: &NameTable,
     item: Item,
-    items: &[Tree],
+    items: &[Node],
     so_far: Option<Fault>,
 ) -> Result<Option<Fault>, AllocError>
     ensures { IfOk result (λ f. f ≡ first so_far
@@ -275,7 +275,7 @@ pub(crate) fn check_items(
     alloc: Global,
     names: &Vocabulary,
     heads: &NameTable,
-    items: &[Tree],
+    items: &[Node],
     so_far: Option<Fault>,
 ) -> Result<Option<Fault>, AllocError>
     ensures { IfOk result (λ f. f ≡ first so_far

@@ -9,7 +9,7 @@ ghost use Rattle.domain_reader.specs.Names as specs;
 use crate::tables::{headed, is_derived};
 use form_reader::{Fault, InputKind, Item, TextKind, head_of, tail_of};
 use name_tables::{NameTable, Signatures, unless};
-use sexpr_text::{Front, Tree, front_of};
+use sexpr_text::{Front, Node, front_of};
 use std::alloc::{AllocError, Global};
 
 /// What declarations declare.
@@ -82,7 +82,7 @@ fn check_once(
 pub fn check_second_items(
     alloc: Global,
     text: TextKind,
-    items: &[Tree],
+    items: &[Node],
     so_far: Option<Fault>,
 ) -> Result<Option<Fault>, AllocError>
     ensures { IfOk result (λ f. f ≡ first so_far (specs.second_items text [] (trees items.now))) }
@@ -114,7 +114,7 @@ pub(crate) fn is_action(item: Item) -> bool
 /// Second actions of a name.
 pub(crate) fn check_second_actions(
     alloc: Global,
-    items: &[Tree],
+    items: &[Node],
     so_far: Option<Fault>,
 ) -> Result<Option<Fault>, AllocError>
     ensures { IfOk result (λ f. f ≡ first so_far (specs.second_actions [] (trees items.now))) }
@@ -138,7 +138,7 @@ pub(crate) fn check_second_actions(
 /// Second declarations of a name in a row. What is seen grows by the row.
 fn check_second_declared(
     seen: &mut NameTable,
-    items: &[Tree],
+    items: &[Node],
     so_far: Option<Fault>,
 ) -> Result<Option<Fault>, AllocError>
     ensures faults { IfOk result (λ f. f
@@ -163,7 +163,7 @@ fn check_second_declared(
 pub(crate) fn check_second_signatures(
     alloc: Global,
     declared: Declared,
-    items: &[Tree],
+    items: &[Node],
     so_far: Option<Fault>,
 ) -> Result<Option<Fault>, AllocError>
     ensures { IfOk result (λ f. f ≡ first so_far
@@ -190,7 +190,7 @@ pub(crate) fn check_second_signatures(
 const MAX_DERIVED: usize = 64;
 
 /// Whether a list is a `:derived` item of a predicate that is there.
-fn counts_as_derived(predicates: &Signatures, items: &[Tree]) -> bool
+fn counts_as_derived(predicates: &Signatures, items: &[Node]) -> bool
     ensures { result ≡ specs.counts_as_derived predicates.now.names (trees items.now) }
 {
     is_derived(TextKind::Domain.item_of(head_of(items))) && predicates.has(headed(items))
@@ -220,7 +220,7 @@ fn check_crowded(
 pub(crate) fn check_derived_count(
     alloc: Global,
     predicates: &Signatures,
-    items: &[Tree],
+    items: &[Node],
     so_far: Option<Fault>,
 ) -> Result<Option<Fault>, AllocError>
     ensures { IfOk result (λ f. f ≡ first so_far

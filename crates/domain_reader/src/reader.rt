@@ -9,7 +9,7 @@ use crate::domain::{check_derived, check_plain, check_types, domain_of};
 use crate::tables::vocabulary_of;
 use form_reader::{Fault, InputFault, TextKind, check_form};
 use name_tables::{Vocabulary, body_of};
-use sexpr_text::Tree;
+use sexpr_text::{Node, Tree};
 use std::alloc::{AllocError, Global};
 use task_model::Domain;
 
@@ -18,7 +18,7 @@ use task_model::Domain;
 fn check_names(
     alloc: Global,
     names: &Vocabulary,
-    body: &[Tree],
+    body: &[Node],
 ) -> Result<Option<Fault>, AllocError>
     ensures { IfOk result (λ f. specs.AnswersNames names.now (trees body.now) f) }
 {

@@ -8,7 +8,7 @@ ghost use Rattle.domain_reader.specs.Tables as specs;
 
 use form_reader::{Item, Spot, TextKind, head_of, inner_of, is_dash, is_total_cost, tail_of};
 use name_tables::{NameTable, Signatures, Vocabulary, is_named, next, text_of};
-use sexpr_text::{Front, Tree, front_of};
+use sexpr_text::{Front, Node, Tree, front_of};
 use std::alloc::{AllocError, Global};
 
 /// A text's name, the second word of its title, or no letters where there is none.
@@ -19,7 +19,7 @@ pub fn name_of<'a>(text: &'a Tree) -> &'a [u8]
 }
 
 /// Adds the types of a `:types` item.
-fn add_types(names: &mut NameTable, items: &[Tree]) -> Result<(), AllocError>
+fn add_types(names: &mut NameTable, items: &[Node]) -> Result<(), AllocError>
     ensures { OnOk result (names.new ≡ specs.types_in names.old (trees items.now)) }
 {
     let mut left = items;
@@ -38,7 +38,7 @@ fn add_types(names: &mut NameTable, items: &[Tree]) -> Result<(), AllocError>
 }
 
 /// Adds the names, or the variables, of groups. Fails only where memory is wanting.
-pub fn add_named(names: &mut NameTable, items: &[Tree]) -> Result<(), AllocError>
+pub fn add_named(names: &mut NameTable, items: &[Node]) -> Result<(), AllocError>
     ensures { OnOk result (names.new ≡ seen_after names.old Start (trees items.now)) }
 {
     let mut left = items;
@@ -56,7 +56,7 @@ pub fn add_named(names: &mut NameTable, items: &[Tree]) -> Result<(), AllocError
 }
 
 /// How many variables there are. Fails only where they can't be counted.
-pub(crate) fn count_named(items: &[Tree]) -> Result<usize, AllocError>
+pub(crate) fn count_named(items: &[Node]) -> Result<usize, AllocError>
     ensures { IfOk result (λ n. n ≡ length (named_words Start (trees items.now))) }
 {
     let mut left = items;
@@ -75,7 +75,7 @@ pub(crate) fn count_named(items: &[Tree]) -> Result<usize, AllocError>
 }
 
 /// How many arguments a declared function takes; the total cost takes none.
-fn declared_arity(name: &[u8], vars: &[Tree]) -> Result<usize, AllocError>
+fn declared_arity(name: &[u8], vars: &[Node]) -> Result<usize, AllocError>
     ensures { IfOk result (λ n. n ≡ specs.declared_arity name.now (trees vars.now)) }
 {
     if is_total_cost(name) {
@@ -85,7 +85,7 @@ fn declared_arity(name: &[u8], vars: &[Tree]) -> Result<usize, AllocError>
 }
 
 /// Declares the predicates of a row.
-fn add_predicates(signatures: &mut Signatures, items: &[Tree]) -> Result<(), AllocError>
+fn add_predicates(signatures: &mut Signatures, items: &[Node]) -> Result<(), AllocError>
     ensures { OnOk result (signatures.new ≡ specs.predicates_in signatures.old (trees items.now)) }
 {
     let mut left = items;
@@ -103,7 +103,7 @@ fn add_predicates(signatures: &mut Signatures, items: &[Tree]) -> Result<(), All
 }
 
 /// Declares the functions of a row.
-fn add_functions(signatures: &mut Signatures, items: &[Tree]) -> Result<(), AllocError>
+fn add_functions(signatures: &mut Signatures, items: &[Node]) -> Result<(), AllocError>
     ensures { OnOk result (signatures.new ≡ specs.functions_in signatures.old (trees items.now)) }
 {
     let mut left = items;
@@ -122,7 +122,7 @@ fn add_functions(signatures: &mut Signatures, items: &[Tree]) -> Result<(), Allo
 }
 
 /// Adds what one item of a domain declares.
-fn add_item(names: &mut Vocabulary, item: Item, items: &[Tree]) -> Result<(), AllocError>
+fn add_item(names: &mut Vocabulary, item: Item, items: &[Node]) -> Result<(), AllocError>
     ensures { OnOk result (names.new ≡ specs.with_item names.old item (trees items.now)) }
 {
     match item {
@@ -146,7 +146,7 @@ fn add_item(names: &mut Vocabulary, item: Item, items: &[Tree]) -> Result<(), Al
 }
 
 /// Adds what items declare, and the total cost.
-fn add_all(names: &mut Vocabulary, items: &[Tree]) -> Result<(), AllocError>
+fn add_all(names: &mut Vocabulary, items: &[Node]) -> Result<(), AllocError>
     ensures { OnOk result (names.new
         ≡ with_total_cost (specs.with_items names.old (trees items.now))) }
 {
@@ -156,7 +156,7 @@ fn add_all(names: &mut Vocabulary, items: &[Tree]) -> Result<(), AllocError>
 }
 
 /// The names of a domain with these items. Fails only where memory is wanting.
-pub(crate) fn vocabulary_of(alloc: Global, body: &[Tree]) -> Result<Vocabulary, AllocError>
+pub(crate) fn vocabulary_of(alloc: Global, body: &[Node]) -> Result<Vocabulary, AllocError>
     ensures { IfOk result (λ names. names ≡ specs.vocabulary_in (trees body.now)) }
 {
     let mut names = no_names(alloc)?;
@@ -179,7 +179,7 @@ fn no_names(alloc: Global) -> Result<Vocabulary, AllocError>
 }
 
 /// Adds what items declare.
-fn add_items(names: &mut Vocabulary, items: &[Tree]) -> Result<(), AllocError>
+fn add_items(names: &mut Vocabulary, items: &[Node]) -> Result<(), AllocError>
     ensures { OnOk result (names.new ≡ specs.with_items names.old (trees items.now)) }
 {
     let mut left = items;
@@ -204,14 +204,14 @@ pub(crate) fn is_derived(item: Item) -> bool
 }
 
 /// The predicate that a list heads, if it is a `:derived` item.
-pub(crate) fn headed<'a>(items: &'a [Tree]) -> &'a [u8]
+pub(crate) fn headed<'a>(items: &'a [Node]) -> &'a [u8]
     ensures { result.now ≡ specs.headed (trees items.now) }
 {
     head_of(inner_of(tail_of(items)))
 }
 
 /// Adds the predicates that `:derived` items head.
-pub(crate) fn add_heads(names: &mut NameTable, items: &[Tree]) -> Result<(), AllocError>
+pub(crate) fn add_heads(names: &mut NameTable, items: &[Node]) -> Result<(), AllocError>
     ensures { OnOk result (names.new ≡ specs.heads_in names.old (trees items.now)) }
 {
     let mut left = items;

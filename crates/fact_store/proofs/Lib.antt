@@ -7,3 +7,4 @@ pub mod ScanLemmas
 pub mod LeastLemmas
 pub mod LookupLemmas
 pub mod TablesLemmas
+pub mod ListPlaceLemmas

@@ -18,7 +18,7 @@ use Rattle.fact_store.specs.declared.table.Table.{Table}
 
 -- ---- the places of a key
 
-keys_same : (a b : Key) → same_key a b ≡ true → a ≡ b
+pub keys_same : (a b : Key) → same_key a b ≡ true → a ≡ b
 keys_same a b e =
     λ i. (eqb-true a.0 b.0 (first_so (a.0 == b.0) (a.1 == b.1) e) i, eqb-true a.1 b.1 (second_so (a.0 == b.0) (a.1 == b.1) e) i)
 

@@ -97,15 +97,25 @@ impl FactTable {
         ensures facts { OnOk result (self.new ≡ with_fact self.old fact) }
         ensures err { OnErr result (self.new ≡ self.old) }
     {
-        let arity = fact.args.as_slice().len();
-        let fresh = self.facts.insert(fact)?;
-        add_tables(self.alloc, &mut self.atoms_at, arity);
+        let fresh = self.insert_uncovered(fact)?;
         self.cover();
         Ok(fresh)
     }
 
+    /// The same, where the tables needn't cover the fact yet: it is searched until they do.
+    pub(crate) fn insert_uncovered(&mut self, fact: Fact) -> Result<bool, AllocError>
+        ensures fresh { IfOk result (λ fresh. fresh ≡ not (is_fact self.old fact)) }
+        ensures facts { OnOk result (self.new ≡ with_fact self.old fact) }
+        ensures err { OnErr result (self.new ≡ self.old) }
+    {
+        let arity = fact.args.as_slice().len();
+        let fresh = self.facts.insert(fact)?;
+        add_tables(self.alloc, &mut self.atoms_at, arity);
+        Ok(fresh)
+    }
+
     /// Lets each table cover the facts up to the last, or as far as memory reaches.
-    fn cover(&mut self)
+    pub(crate) fn cover(&mut self)
         ensures { self.new ≡ self.old }
     {
         let facts = self.facts.as_slice();

@@ -4,14 +4,14 @@ ghost use Rattle.task_model.specs.declared.limits.TheConstants.{LARGEST_NUMBER};
 ghost use Rattle.fact_store.specs.Store.{coherent_prop};
 
 use crate::fact_table::FactTable;
-use crate::initial::{add_names, add_objects, add_static, add_values};
+use crate::initial::{add_names, add_objects, add_static, add_values, type_count};
 use crate::scan::place_in;
 use crate::value_table::ValueTable;
 use indexmap::IndexSet;
 use std::alloc::{AllocError, Global};
 use std::hash::BuildHasherDefault;
 use std::marker::Model;
-use task_model::{Fact, Look, Name, NumberHasher, Obj, Row, Task, Valued};
+use task_model::{Fact, Look, Name, NumberHasher, Obj, Problem, Row, Task, Valued};
 
 /// The most names of objects, 2^32 - 2^18: the place of each is an object.
 pub const MOST_NAMES: usize = (1 << 32) - (1 << 18);
@@ -72,11 +72,12 @@ impl Facts {
         ensures { OnOk result (self.new.known ≡ initial_known task.now) }
     {
         let problem = &task.problem;
-        self.reserve(problem.objects.len(), problem.init.len())?;
+        self.reserve(problem)?;
         add_names(alloc, self, problem.objects.as_slice())?;
         add_objects(alloc, self, &task.domain, problem.objects.as_slice())?;
         add_static(self, &task.domain, problem.init.as_slice())?;
         add_values(self, &task.domain, problem.values.as_slice())?;
+        self.cover();
         Ok(())
     }
 
@@ -92,14 +93,13 @@ impl Facts {
         }
     }
 
-    /// Takes room for so many objects, each with two facts, and for so many facts more. Fails only
-    /// where memory is wanting.
-    fn reserve(&mut self, objects: usize, facts: usize) -> Result<(), AllocError>
+    /// Takes room for the problem's objects and facts. Fails only where memory is wanting.
+    fn reserve(&mut self, problem: &Problem) -> Result<(), AllocError>
         ensures { self.new ≡ self.old }
     {
-        self.names.reserve(objects)?;
-        self.facts
-            .reserve(objects.saturating_mul(2).saturating_add(facts))
+        let types = type_count(problem.objects.as_slice());
+        self.names.reserve(problem.objects.len())?;
+        self.facts.reserve(types.saturating_add(problem.init.len()))
     }
 
     /// The facts, with the tables by which they are found.
@@ -186,7 +186,28 @@ impl Facts {
         ensures values { self.new.known.values ≡ self.old.known.values }
         ensures err { OnErr result (self.new ≡ self.old) }
     {
-        self.facts.insert(fact)
+        let fresh = self.add_uncovered(fact)?;
+        self.cover();
+        Ok(fresh)
+    }
+
+    /// The same, where no table needs to find the fact yet: `cover` lets them.
+    pub(crate) fn add_uncovered(&mut self, fact: Fact) -> Result<bool, AllocError>
+        requires { All (IsIn self.old.known.names) fact.args }
+        ensures fresh { IfOk result (λ fresh. fresh ≡ not (is_fact self.old.known.facts fact)) }
+        ensures facts { OnOk result (self.new.known.facts ≡ with_fact self.old.known.facts fact) }
+        ensures names { self.new.known.names ≡ self.old.known.names }
+        ensures values { self.new.known.values ≡ self.old.known.values }
+        ensures err { OnErr result (self.new ≡ self.old) }
+    {
+        self.facts.insert_uncovered(fact)
+    }
+
+    /// Lets the tables find all facts, or as many as memory reaches for.
+    pub(crate) fn cover(&mut self)
+        ensures { self.new ≡ self.old }
+    {
+        self.facts.cover();
     }
 
     /// Puts the value of a function's term behind the others, and answers true, or answers false

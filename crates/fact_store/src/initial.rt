@@ -13,6 +13,16 @@ use crate::facts::Facts;
 use std::alloc::{AllocError, Global};
 use task_model::{Declared, Domain, Fact, Kind, Obj, Role, Row, Valued, supertypes};
 
+/// How many facts say what types the objects have, where no type but `object` has supertypes. Only
+/// room rests on it.
+pub(crate) fn type_count(objects: &[Declared]) -> usize {
+    let mut count = objects.len();
+    for declared in objects {
+        count = count.saturating_add(declared.sorts.len());
+    }
+    count
+}
+
 /// Gives the declared objects their numbers, in a store that has no names.
 pub(crate) fn add_names(
     alloc: Global,
@@ -43,7 +53,7 @@ fn add_type(alloc: Global, facts: &mut Facts, sort: u32, object: Obj) -> Result<
     ensures values { facts.new.known.values ≡ facts.old.known.values }
 {
     let args = Row::new(alloc, &[object])?;
-    facts.add(Fact {
+    facts.add_uncovered(Fact {
         kind: Kind::Sort,
         name: sort,
         args,
@@ -75,10 +85,8 @@ fn has_object(sort: u32, above: &[u32]) -> bool
     sort == 0 || above.contains(&0)
 }
 
-/// Puts behind the facts that the object has the type, with all supertypes and `object`. The object
-/// has a name. Fails only where memory is wanting; then the first of these facts may be known, and
-/// nothing else has changed.
-pub fn add_supertypes(
+/// The same as `add_supertypes`, where no table needs to find the facts yet.
+fn add_each_type(
     alloc: Global,
     facts: &mut Facts,
     domain: &Domain,
@@ -100,6 +108,29 @@ pub fn add_supertypes(
         return Ok(());
     }
     add_type(alloc, facts, 0, object)
+}
+
+/// Puts behind the facts that the object has the type, with all supertypes and `object`. The object
+/// has a name. Fails only where memory is wanting; then the first of these facts may be known, and
+/// nothing else has changed.
+pub fn add_supertypes(
+    alloc: Global,
+    facts: &mut Facts,
+    domain: &Domain,
+    sort: u32,
+    object: Obj,
+) -> Result<(), AllocError>
+    requires { IsIn facts.old.known.names object }
+    ensures facts { OnOk result (facts.new.known.facts
+        ≡ with_facts facts.old.known.facts (type_facts domain.now sort object)) }
+    ensures part { OnErr result (IsBetween facts.old.known.facts facts.new.known.facts
+        (with_facts facts.old.known.facts (type_facts domain.now sort object))) }
+    ensures names { facts.new.known.names ≡ facts.old.known.names }
+    ensures values { facts.new.known.values ≡ facts.old.known.values }
+{
+    let added = add_each_type(alloc, facts, domain, sort, object);
+    facts.cover();
+    added
 }
 
 /// Whether there is a type among these, and nothing above `object`.
@@ -127,12 +158,12 @@ fn add_object(
     ensures values { OnOk result (facts.new.known.values ≡ facts.old.known.values) }
 {
     for sort in declared.sorts.as_slice() {
-        add_supertypes(alloc, facts, domain, *sort, object)?;
+        add_each_type(alloc, facts, domain, *sort, object)?;
     }
     if is_typed(domain, declared.sorts.as_slice()) {
         return Ok(());
     }
-    add_supertypes(alloc, facts, domain, 0, object)
+    add_each_type(alloc, facts, domain, 0, object)
 }
 
 /// The types of the declared objects, which are the first of the table of names.
@@ -198,7 +229,7 @@ pub(crate) fn add_static(
 {
     for fact in init {
         if is_static_fact(domain, fact) {
-            facts.add(fact.copy()?)?;
+            facts.add_uncovered(fact.copy()?)?;
         }
     }
     Ok(())

@@ -1,5 +1,6 @@
 //! A table by which facts are found.
-ghost use Rattle.std.specs.Prelude.{◌≡◌, ◌+◌, ◌<◌, ◌^◌, ◌∷◌, ◌++◌, [], true, length, slice_get, if◌then◌else◌, OnOk, OnErr};
+ghost use Rattle.std.specs.Prelude.{◌≡◌, ◌+◌, ◌<◌, ◌^◌, ◌∷◌, ◌++◌, [], true, length, slice_get, if◌then◌else◌, None, Some, IfSome, IfNone, OnOk, OnErr};
+ghost use Rattle.indexmap.specs.IndexMap.{get, keys};
 ghost use Rattle.fact_store.specs.Tables.{Covers, Key, facts_with, same_key, places_in};
 ghost use Rattle.fact_store.specs.Tables as tables;
 
@@ -56,6 +57,38 @@ pub(crate) fn has_key(group: Group, key: Key, fact: &Fact) -> bool
     }
 }
 
+/// Where the key's list would stand if the lists were made for objects in their order, as they are
+/// where the facts about objects that were declared together came in that order.
+fn guess(lists: &Lists, key: Key) -> usize {
+    match lists.get_index(0) {
+        Some(((_, first), _)) => key.1.wrapping_sub(*first) as usize,
+        None => 0,
+    }
+}
+
+/// Whether the list at this place is surely the key's.
+fn is_at(lists: &Lists, at: usize, key: Key) -> bool
+    ensures { result ≡ true → slice_get (keys lists.now) at ≡ Some key }
+{
+    match lists.get_index(at) {
+        Some((found, _)) => *found == key,
+        None => false,
+    }
+}
+
+/// The place of the key's list, if it has one.
+fn list_of(lists: &Lists, key: Key) -> Option<usize>
+    ensures found { IfSome result (λ at. slice_get (keys lists.now) at ≡ Some key) }
+    ensures none { IfNone result (get same_key lists.now key ≡ None) }
+{
+    let at = guess(lists, key);
+    if is_at(lists, at, key) {
+        return Some(at);
+    }
+    let (at, _, _) = lists.get_full(&key)?;
+    Some(at)
+}
+
 /// Puts a place behind the others of the key. Fails only where memory is wanting, and then each key
 /// has its places still.
 fn put(alloc: Global, lists: &mut Lists, key: Key, place: u32) -> Result<(), AllocError>
@@ -63,8 +96,11 @@ fn put(alloc: Global, lists: &mut Lists, key: Key, place: u32) -> Result<(), All
         ≡ (if same_key key q then places_in lists.old q ++ place ∷ [] else places_in lists.old q)) }
     ensures err { OnErr result ((q : Key) → places_in lists.new q ≡ places_in lists.old q) }
 {
-    if let Some(list) = lists.get_mut(&key) {
-        list.push(place)?;
+    if let Some(at) = list_of(lists, key) {
+        match lists.get_index_mut(at) {
+            Some(list) => list.push(place)?,
+            None => unreachable!(),
+        }
         return Ok(());
     }
     let mut list = SmallVec::new(alloc);
@@ -92,9 +128,12 @@ impl Table {
     fn places(&self, key: Key) -> &[u32]
         ensures { result.now ≡ places_in self.now.lists key }
     {
-        match self.lists.get(&key) {
-            Some(list) => list.as_slice(),
-            None => &[],
+        let Some(at) = list_of(&self.lists, key) else {
+            return &[];
+        };
+        match self.lists.get_index(at) {
+            Some((_, list)) => list.as_slice(),
+            None => unreachable!(),
         }
     }
 

@@ -1,3 +1,4 @@
 pub mod FaultsFirstLemmas
 pub mod FaultsLeastLemmas
+pub mod ItemsLemmas
 pub mod RowsLemmas

@@ -11,11 +11,11 @@ use crate::fault::{Fault, sooner};
 use crate::groups::{check_application, check_end};
 use crate::refused::is_end;
 use crate::words::{WordSort, is_word};
-use sexpr_text::{Front, Tree, front_of};
+use sexpr_text::{Front, Node, front_of};
 use task_model::is_number;
 
 /// A number, in the list at this place.
-fn check_number(place: usize, items: &[Tree], so_far: Option<Fault>) -> Option<Fault>
+fn check_number(place: usize, items: &[Node], so_far: Option<Fault>) -> Option<Fault>
     ensures { result ≡ first so_far (specs.number_faults place (trees items.now)) }
 {
     match front_of(items) {
@@ -27,7 +27,7 @@ fn check_number(place: usize, items: &[Tree], so_far: Option<Fault>) -> Option<F
 }
 
 /// A function term and a number, in the list at this place.
-fn check_valued(place: usize, items: &[Tree], so_far: Option<Fault>) -> Option<Fault>
+fn check_valued(place: usize, items: &[Node], so_far: Option<Fault>) -> Option<Fault>
     ensures { result ≡ first so_far (specs.valued_faults place (trees items.now)) }
 {
     match front_of(items) {
@@ -45,7 +45,7 @@ fn check_valued(place: usize, items: &[Tree], so_far: Option<Fault>) -> Option<F
 }
 
 /// The fact that the list at this place is.
-fn check_fact(place: usize, items: &[Tree], so_far: Option<Fault>) -> Option<Fault>
+fn check_fact(place: usize, items: &[Node], so_far: Option<Fault>) -> Option<Fault>
     ensures { result ≡ first so_far (specs.fact_faults place (trees items.now)) }
 {
     match front_of(items) {
@@ -61,7 +61,7 @@ fn check_fact(place: usize, items: &[Tree], so_far: Option<Fault>) -> Option<Fau
 }
 
 /// Facts in a row.
-pub(crate) fn check_facts(items: &[Tree], so_far: Option<Fault>) -> Option<Fault>
+pub(crate) fn check_facts(items: &[Node], so_far: Option<Fault>) -> Option<Fault>
     ensures { result ≡ first so_far (specs.facts_faults (trees items.now)) }
 {
     let mut left = items;
@@ -80,7 +80,7 @@ pub(crate) fn check_facts(items: &[Tree], so_far: Option<Fault>) -> Option<Fault
 
 /// The atoms of a stream that the list at this place is.
 #[cycle(atoms)]
-pub(crate) fn check_atoms(place: usize, items: &[Tree], so_far: Option<Fault>) -> Option<Fault>
+pub(crate) fn check_atoms(place: usize, items: &[Node], so_far: Option<Fault>) -> Option<Fault>
     ensures { result ≡ first so_far (specs.atoms_faults place (trees items.now)) }
 {
     match front_of(items) {
@@ -95,7 +95,7 @@ pub(crate) fn check_atoms(place: usize, items: &[Tree], so_far: Option<Fault>) -
 
 /// Atoms in a row.
 #[cycle(atoms)]
-fn check_atom_rows(items: &[Tree], so_far: Option<Fault>) -> Option<Fault>
+fn check_atom_rows(items: &[Node], so_far: Option<Fault>) -> Option<Fault>
     ensures { result ≡ first so_far (specs.atom_rows_faults (trees items.now)) }
 {
     let mut left = items;
@@ -113,7 +113,7 @@ fn check_atom_rows(items: &[Tree], so_far: Option<Fault>) -> Option<Fault>
 }
 
 /// Whether this is the word `total-cost` alone.
-pub fn is_total_cost_alone(items: &[Tree]) -> bool
+pub fn is_total_cost_alone(items: &[Node]) -> bool
     ensures { result ≡ specs.is_total_cost_alone (trees items.now) }
 {
     match front_of(items) {
@@ -123,7 +123,7 @@ pub fn is_total_cost_alone(items: &[Tree]) -> bool
 }
 
 /// The function term that a cost stream gives a value, as the list at this place.
-pub(crate) fn check_worth(place: usize, items: &[Tree], so_far: Option<Fault>) -> Option<Fault>
+pub(crate) fn check_worth(place: usize, items: &[Node], so_far: Option<Fault>) -> Option<Fault>
     ensures { result ≡ first so_far (specs.worth_faults place (trees items.now)) }
 {
     if is_total_cost_alone(items) {

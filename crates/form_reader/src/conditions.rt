@@ -9,11 +9,11 @@ ghost use Rattle.form_reader.specs.Faults.{first};
 use crate::fault::{Fault, sooner};
 use crate::groups::{check_application, check_end, check_groups, check_two};
 use crate::words::{ConditionHead, WordSort, condition_head_of};
-use sexpr_text::{Front, Tree, front_of};
+use sexpr_text::{Front, Node, front_of};
 
 /// The condition that the list at this place is.
 #[cycle(conditions)]
-pub(crate) fn check_condition(place: usize, items: &[Tree], so_far: Option<Fault>) -> Option<Fault>
+pub(crate) fn check_condition(place: usize, items: &[Node], so_far: Option<Fault>) -> Option<Fault>
     ensures { result ≡ first so_far (specs.condition_faults place (trees items.now)) }
 {
     match front_of(items) {
@@ -34,7 +34,7 @@ pub(crate) fn check_condition(place: usize, items: &[Tree], so_far: Option<Fault
 
 /// Conditions in a row.
 #[cycle(conditions)]
-fn check_conditions(items: &[Tree], so_far: Option<Fault>) -> Option<Fault>
+fn check_conditions(items: &[Node], so_far: Option<Fault>) -> Option<Fault>
     ensures { result ≡ first so_far (specs.conditions_faults (trees items.now)) }
 {
     let mut left = items;
@@ -53,7 +53,7 @@ fn check_conditions(items: &[Tree], so_far: Option<Fault>) -> Option<Fault>
 
 /// One condition, in the list at this place.
 #[cycle(conditions)]
-pub(crate) fn check_single(place: usize, items: &[Tree], so_far: Option<Fault>) -> Option<Fault>
+pub(crate) fn check_single(place: usize, items: &[Node], so_far: Option<Fault>) -> Option<Fault>
     ensures { result ≡ first so_far (specs.single_faults place (trees items.now)) }
 {
     match front_of(items) {
@@ -69,7 +69,7 @@ pub(crate) fn check_single(place: usize, items: &[Tree], so_far: Option<Fault>) 
 
 /// Variables and one condition, in the list at this place.
 #[cycle(conditions)]
-fn check_exists(place: usize, items: &[Tree], so_far: Option<Fault>) -> Option<Fault>
+fn check_exists(place: usize, items: &[Node], so_far: Option<Fault>) -> Option<Fault>
     ensures { result ≡ first so_far (specs.exists_faults place (trees items.now)) }
 {
     match front_of(items) {

@@ -9,7 +9,7 @@ ghost use Rattle.form_reader.specs.Faults.{first};
 use crate::fault::{Fault, sooner};
 use crate::groups::{check_application, check_end};
 use crate::words::{EffectHead, WordSort, effect_head_of};
-use sexpr_text::{Front, Tree, front_of};
+use sexpr_text::{Front, Node, front_of};
 use task_model::{is_name, is_number};
 
 /// Whether the word is `total-cost`.
@@ -21,7 +21,7 @@ pub fn is_total_cost(word: &[u8]) -> bool
 
 /// The effect that the list at this place is.
 #[cycle(effects)]
-pub(crate) fn check_effect(place: usize, items: &[Tree], so_far: Option<Fault>) -> Option<Fault>
+pub(crate) fn check_effect(place: usize, items: &[Node], so_far: Option<Fault>) -> Option<Fault>
     ensures { result ≡ first so_far (specs.effect_faults place (trees items.now)) }
 {
     match front_of(items) {
@@ -41,7 +41,7 @@ pub(crate) fn check_effect(place: usize, items: &[Tree], so_far: Option<Fault>) 
 
 /// Effects in a row.
 #[cycle(effects)]
-fn check_effects(items: &[Tree], so_far: Option<Fault>) -> Option<Fault>
+fn check_effects(items: &[Node], so_far: Option<Fault>) -> Option<Fault>
     ensures { result ≡ first so_far (specs.effects_faults (trees items.now)) }
 {
     let mut left = items;
@@ -59,7 +59,7 @@ fn check_effects(items: &[Tree], so_far: Option<Fault>) -> Option<Fault>
 }
 
 /// The atom that `not` takes away, in the list at this place.
-fn check_negated(place: usize, items: &[Tree], so_far: Option<Fault>) -> Option<Fault>
+fn check_negated(place: usize, items: &[Node], so_far: Option<Fault>) -> Option<Fault>
     ensures { result ≡ first so_far (specs.negated_faults place (trees items.now)) }
 {
     match front_of(items) {
@@ -77,7 +77,7 @@ fn check_negated(place: usize, items: &[Tree], so_far: Option<Fault>) -> Option<
 }
 
 /// What `increase` takes, in the list at this place.
-fn check_increase(place: usize, items: &[Tree], so_far: Option<Fault>) -> Option<Fault>
+fn check_increase(place: usize, items: &[Node], so_far: Option<Fault>) -> Option<Fault>
     ensures { result ≡ first so_far (specs.increase_faults place (trees items.now)) }
 {
     match front_of(items) {
@@ -95,7 +95,7 @@ fn check_increase(place: usize, items: &[Tree], so_far: Option<Fault>) -> Option
 }
 
 /// Whether a list begins with the name of a function other than `total-cost`.
-fn is_other_function(items: &[Tree]) -> bool
+fn is_other_function(items: &[Node]) -> bool
     ensures { result ≡ specs.is_other_function (trees items.now) }
 {
     match front_of(items) {
@@ -105,7 +105,7 @@ fn is_other_function(items: &[Tree]) -> bool
 }
 
 /// The word `total-cost`, in the list at this place.
-fn check_total_cost(place: usize, items: &[Tree], so_far: Option<Fault>) -> Option<Fault>
+fn check_total_cost(place: usize, items: &[Node], so_far: Option<Fault>) -> Option<Fault>
     ensures { result ≡ first so_far (specs.total_cost_faults place (trees items.now)) }
 {
     match front_of(items) {
@@ -118,7 +118,7 @@ fn check_total_cost(place: usize, items: &[Tree], so_far: Option<Fault>) -> Opti
 }
 
 /// A number or a function term, in the list at this place.
-fn check_cost(place: usize, items: &[Tree], so_far: Option<Fault>) -> Option<Fault>
+fn check_cost(place: usize, items: &[Node], so_far: Option<Fault>) -> Option<Fault>
     ensures { result ≡ first so_far (specs.cost_faults place (trees items.now)) }
 {
     match front_of(items) {

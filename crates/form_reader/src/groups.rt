@@ -7,7 +7,7 @@ ghost use Rattle.form_reader.specs.declared.groups.Spot.TheVariants.{Start};
 
 use crate::fault::{Fault, sooner};
 use crate::words::WordSort;
-use sexpr_text::{Front, Tree, front_of};
+use sexpr_text::{Front, Node, front_of};
 
 /// Where a word or a list stands in groups of names or variables with types.
 #[derive(Clone, Copy, Debug, PartialEq, Eq)]
@@ -52,7 +52,7 @@ pub fn is_dash(word: &[u8]) -> bool
 }
 
 /// The word that a list begins with, or no letters.
-pub fn head_of<'a>(items: &'a [Tree]) -> &'a [u8]
+pub fn head_of<'a>(items: &'a [Node]) -> &'a [u8]
     ensures { result.now ≡ specs.head_of (trees items.now) }
 {
     match front_of(items) {
@@ -62,7 +62,7 @@ pub fn head_of<'a>(items: &'a [Tree]) -> &'a [u8]
 }
 
 /// The trees behind the first.
-pub fn tail_of<'a>(items: &'a [Tree]) -> &'a [Tree]
+pub fn tail_of<'a>(items: &'a [Node]) -> &'a [Node]
     ensures { trees result.now ≡ specs.tail_of (trees items.now) }
 {
     match front_of(items) {
@@ -72,7 +72,7 @@ pub fn tail_of<'a>(items: &'a [Tree]) -> &'a [Tree]
 }
 
 /// The trees in the first, if that is a list.
-pub fn inner_of<'a>(items: &'a [Tree]) -> &'a [Tree]
+pub fn inner_of<'a>(items: &'a [Node]) -> &'a [Node]
     ensures { trees result.now ≡ specs.inner_of (trees items.now) }
 {
     match front_of(items) {
@@ -82,7 +82,7 @@ pub fn inner_of<'a>(items: &'a [Tree]) -> &'a [Tree]
 }
 
 /// Nothing more may stand.
-pub(crate) fn check_end(items: &[Tree], so_far: Option<Fault>) -> Option<Fault>
+pub(crate) fn check_end(items: &[Node], so_far: Option<Fault>) -> Option<Fault>
     ensures { result ≡ first so_far (specs.end_faults (trees items.now)) }
 {
     match front_of(items) {
@@ -95,7 +95,7 @@ pub(crate) fn check_end(items: &[Tree], so_far: Option<Fault>) -> Option<Fault>
 }
 
 /// Words of one sort.
-pub(crate) fn check_row(sort: WordSort, items: &[Tree], so_far: Option<Fault>) -> Option<Fault>
+pub(crate) fn check_row(sort: WordSort, items: &[Node], so_far: Option<Fault>) -> Option<Fault>
     ensures { result ≡ first so_far (specs.row_faults sort (trees items.now)) }
 {
     let mut left = items;
@@ -117,7 +117,7 @@ pub(crate) fn check_row(sort: WordSort, items: &[Tree], so_far: Option<Fault>) -
 pub(crate) fn check_one(
     sort: WordSort,
     place: usize,
-    items: &[Tree],
+    items: &[Node],
     so_far: Option<Fault>,
 ) -> Option<Fault>
     ensures { result ≡ first so_far (specs.one_faults sort place (trees items.now)) }
@@ -135,7 +135,7 @@ pub(crate) fn check_one(
 pub(crate) fn check_two(
     sort: WordSort,
     place: usize,
-    items: &[Tree],
+    items: &[Node],
     so_far: Option<Fault>,
 ) -> Option<Fault>
     ensures { result ≡ first so_far (specs.two_faults sort place (trees items.now)) }
@@ -154,7 +154,7 @@ pub(crate) fn check_application(
     head: WordSort,
     args: WordSort,
     place: usize,
-    items: &[Tree],
+    items: &[Node],
     so_far: Option<Fault>,
 ) -> Option<Fault>
     ensures { result ≡ first so_far (specs.application_faults head args place (trees items.now)) }
@@ -169,7 +169,7 @@ pub(crate) fn check_application(
 }
 
 /// The fault of a list in groups of names or variables.
-pub(crate) fn list_fault(spot: Spot, items: &[Tree], place: usize) -> Fault
+pub(crate) fn list_fault(spot: Spot, items: &[Node], place: usize) -> Fault
     ensures { result ≡ specs.list_fault spot (trees items.now) place }
 {
     match spot {
@@ -192,7 +192,7 @@ pub(crate) fn check_cut(place: usize, spot: Spot, so_far: Option<Fault>) -> Opti
 pub(crate) fn check_groups(
     sort: WordSort,
     place: usize,
-    items: &[Tree],
+    items: &[Node],
     so_far: Option<Fault>,
 ) -> Option<Fault>
     ensures { result ≡ first so_far (specs.groups_faults sort place Start (trees items.now)) }
@@ -228,7 +228,7 @@ pub(crate) fn check_groups(
 pub(crate) fn check_declaration(
     head: WordSort,
     place: usize,
-    items: &[Tree],
+    items: &[Node],
     so_far: Option<Fault>,
 ) -> Option<Fault>
     ensures { result ≡ first so_far (specs.declaration_faults head place (trees items.now)) }

@@ -17,7 +17,7 @@ use crate::groups::{
 use crate::keys::{Keyed, check_keyed, check_missing_value};
 use crate::refused::{Region, check_refused, is_end};
 use crate::words::{WordSort, is_keyword};
-use sexpr_text::{Front, Tree, front_of};
+use sexpr_text::{Front, Node, front_of};
 
 /// What a text is read as.
 #[derive(Clone, Copy, Debug, PartialEq, Eq)]
@@ -157,7 +157,7 @@ fn stream_item_of(word: &[u8]) -> Item
 }
 
 /// Declarations of predicates.
-fn check_predicates(items: &[Tree], so_far: Option<Fault>) -> Option<Fault>
+fn check_predicates(items: &[Node], so_far: Option<Fault>) -> Option<Fault>
     ensures { result ≡ first so_far (specs.predicates_faults (trees items.now)) }
 {
     let mut left = items;
@@ -197,7 +197,7 @@ fn after_function_word(spot: Spot) -> Spot
 }
 
 /// Declarations of functions, in the list at this place.
-fn check_functions(place: usize, items: &[Tree], so_far: Option<Fault>) -> Option<Fault>
+fn check_functions(place: usize, items: &[Node], so_far: Option<Fault>) -> Option<Fault>
     ensures { result ≡ first so_far (specs.functions_faults place Start (trees items.now)) }
 {
     let mut left = items;
@@ -234,7 +234,7 @@ fn check_functions(place: usize, items: &[Tree], so_far: Option<Fault>) -> Optio
 }
 
 /// The head and the body of a derived predicate, in the list at this place.
-fn check_derived(place: usize, items: &[Tree], so_far: Option<Fault>) -> Option<Fault>
+fn check_derived(place: usize, items: &[Node], so_far: Option<Fault>) -> Option<Fault>
     ensures { result ≡ first so_far (specs.derived_faults place (trees items.now)) }
 {
     match front_of(items) {
@@ -252,7 +252,7 @@ fn check_derived(place: usize, items: &[Tree], so_far: Option<Fault>) -> Option<
 }
 
 /// Whether this is `total-cost` or `(total-cost)`.
-fn is_measure(items: &[Tree]) -> bool
+fn is_measure(items: &[Node]) -> bool
     ensures { result ≡ specs.is_measure (trees items.now) }
 {
     match front_of(items) {
@@ -263,7 +263,7 @@ fn is_measure(items: &[Tree]) -> bool
 }
 
 /// Whether this is `minimize` and the total cost.
-fn is_metric(items: &[Tree]) -> bool
+fn is_metric(items: &[Node]) -> bool
     ensures { result ≡ specs.is_metric (trees items.now) }
 {
     match front_of(items) {
@@ -273,7 +273,7 @@ fn is_metric(items: &[Tree]) -> bool
 }
 
 /// The metric, in the list at this place.
-fn check_metric(place: usize, items: &[Tree], so_far: Option<Fault>) -> Option<Fault>
+fn check_metric(place: usize, items: &[Node], so_far: Option<Fault>) -> Option<Fault>
     ensures { result ≡ first so_far (specs.metric_faults place (trees items.now)) }
 {
     if is_metric(items) {
@@ -284,7 +284,7 @@ fn check_metric(place: usize, items: &[Tree], so_far: Option<Fault>) -> Option<F
 }
 
 /// The facts of `:init`.
-fn check_init(items: &[Tree], so_far: Option<Fault>) -> Option<Fault>
+fn check_init(items: &[Node], so_far: Option<Fault>) -> Option<Fault>
     ensures { result ≡ first so_far (specs.init_faults (trees items.now)) }
 {
     let found = check_refused(Region::Init, items, so_far);
@@ -292,7 +292,7 @@ fn check_init(items: &[Tree], so_far: Option<Fault>) -> Option<Fault>
 }
 
 /// A cost stream, in the list at this place.
-fn check_cost_stream(place: usize, items: &[Tree], so_far: Option<Fault>) -> Option<Fault>
+fn check_cost_stream(place: usize, items: &[Node], so_far: Option<Fault>) -> Option<Fault>
     ensures { result ≡ first so_far (specs.cost_stream_faults place (trees items.now)) }
 {
     let found = check_missing_value(place, items, so_far);
@@ -304,7 +304,7 @@ fn check_body(
     item: Item,
     place: usize,
     at: usize,
-    items: &[Tree],
+    items: &[Node],
     so_far: Option<Fault>,
 ) -> Option<Fault>
     ensures { result ≡ first so_far (specs.body_faults item place at (trees items.now)) }
@@ -330,7 +330,7 @@ fn check_body(
 }
 
 /// The item that the list at this place is.
-fn check_item(text: TextKind, place: usize, items: &[Tree], so_far: Option<Fault>) -> Option<Fault>
+fn check_item(text: TextKind, place: usize, items: &[Node], so_far: Option<Fault>) -> Option<Fault>
     ensures { result ≡ first so_far (specs.item_faults text place (trees items.now)) }
 {
     match front_of(items) {
@@ -345,7 +345,7 @@ fn check_item(text: TextKind, place: usize, items: &[Tree], so_far: Option<Fault
 }
 
 /// Items in a row.
-pub(crate) fn check_items(text: TextKind, items: &[Tree], so_far: Option<Fault>) -> Option<Fault>
+pub(crate) fn check_items(text: TextKind, items: &[Node], so_far: Option<Fault>) -> Option<Fault>
     ensures { result ≡ first so_far (specs.items_faults text (trees items.now)) }
 {
     let mut left = items;

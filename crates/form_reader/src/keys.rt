@@ -13,7 +13,7 @@ use crate::fault::{Fault, sooner};
 use crate::groups::check_groups;
 use crate::refused::{Region, check_refused, check_refused_here};
 use crate::words::{WordSort, is_keyword};
-use sexpr_text::{Front, Tree, front_of};
+use sexpr_text::{Front, Node, front_of};
 
 /// What has keys behind its name.
 #[derive(Clone, Copy, Debug, PartialEq, Eq)]
@@ -126,7 +126,7 @@ fn cost_stream_key_of(word: &[u8]) -> Key
 }
 
 /// The atoms of a stream that the list at this place is.
-fn check_stream_atoms(place: usize, items: &[Tree], so_far: Option<Fault>) -> Option<Fault>
+fn check_stream_atoms(place: usize, items: &[Node], so_far: Option<Fault>) -> Option<Fault>
     ensures { result ≡ first so_far (specs.stream_atoms_faults place (trees items.now)) }
 {
     let here = check_refused_here(Region::Atoms, place, items, so_far);
@@ -135,7 +135,7 @@ fn check_stream_atoms(place: usize, items: &[Tree], so_far: Option<Fault>) -> Op
 }
 
 /// The value of a key, which is the list at this place.
-fn check_value(key: Key, place: usize, items: &[Tree], so_far: Option<Fault>) -> Option<Fault>
+fn check_value(key: Key, place: usize, items: &[Node], so_far: Option<Fault>) -> Option<Fault>
     ensures { result ≡ first so_far (specs.value_faults key place (trees items.now)) }
 {
     match key {
@@ -151,7 +151,7 @@ fn check_value(key: Key, place: usize, items: &[Tree], so_far: Option<Fault>) ->
 }
 
 /// Keys with their values, in the list at this place.
-fn check_keys(keyed: Keyed, place: usize, items: &[Tree], so_far: Option<Fault>) -> Option<Fault>
+fn check_keys(keyed: Keyed, place: usize, items: &[Node], so_far: Option<Fault>) -> Option<Fault>
     ensures { result ≡ first so_far (specs.keys_faults keyed place (trees items.now)) }
 {
     let mut left = items;
@@ -189,7 +189,7 @@ fn check_keys(keyed: Keyed, place: usize, items: &[Tree], so_far: Option<Fault>)
 pub(crate) fn check_keyed(
     keyed: Keyed,
     place: usize,
-    items: &[Tree],
+    items: &[Node],
     so_far: Option<Fault>,
 ) -> Option<Fault>
     ensures { result ≡ first so_far (specs.keyed_faults keyed place (trees items.now)) }
@@ -208,7 +208,7 @@ pub(crate) fn check_keyed(
 /// A cost stream has a value.
 pub(crate) fn check_missing_value(
     place: usize,
-    items: &[Tree],
+    items: &[Node],
     so_far: Option<Fault>,
 ) -> Option<Fault>
     ensures { result ≡ first so_far (specs.missing_value_faults place (trees items.now)) }
@@ -221,7 +221,7 @@ pub(crate) fn check_missing_value(
 }
 
 /// Whether this word is among the trees.
-fn has_word(word: &[u8], items: &[Tree]) -> bool
+fn has_word(word: &[u8], items: &[Node]) -> bool
     ensures { result ≡ specs.has_word word.now (trees items.now) }
 {
     let mut left = items;

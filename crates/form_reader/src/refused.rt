@@ -9,7 +9,7 @@ ghost use Rattle.form_reader.specs.Refused as specs;
 use crate::fault::{Fault, sooner};
 use crate::groups::head_of;
 use crate::words::{begins_with_digit, is_refused_in_atoms, is_word};
-use sexpr_text::{Front, Tree, front_of};
+use sexpr_text::{Front, Node, front_of};
 
 /// Where lists are looked at.
 #[derive(Clone, Copy, PartialEq, Eq)]
@@ -22,7 +22,7 @@ pub(crate) enum Region {
 
 impl Region {
     /// Whether the list of these trees is left out here.
-    fn refuses(self, items: &[Tree]) -> bool
+    fn refuses(self, items: &[Node]) -> bool
         ensures { result ≡ specs.is_refused self (trees items.now) }
     {
         match self {
@@ -33,7 +33,7 @@ impl Region {
 }
 
 /// Whether this is `at`, a time and a list.
-fn is_timed(items: &[Tree]) -> bool
+fn is_timed(items: &[Node]) -> bool
     ensures { result ≡ specs.is_timed (trees items.now) }
 {
     match front_of(items) {
@@ -42,7 +42,7 @@ fn is_timed(items: &[Tree]) -> bool
     }
 }
 
-fn is_time_and_list(items: &[Tree]) -> bool
+fn is_time_and_list(items: &[Node]) -> bool
     ensures { result ≡ specs.is_time_and_list (trees items.now) }
 {
     match front_of(items) {
@@ -51,7 +51,7 @@ fn is_time_and_list(items: &[Tree]) -> bool
     }
 }
 
-fn is_one_list(items: &[Tree]) -> bool
+fn is_one_list(items: &[Node]) -> bool
     ensures { result ≡ specs.is_one_list (trees items.now) }
 {
     match front_of(items) {
@@ -61,7 +61,7 @@ fn is_one_list(items: &[Tree]) -> bool
 }
 
 /// Whether no tree is left.
-pub(crate) fn is_end(items: &[Tree]) -> bool
+pub(crate) fn is_end(items: &[Node]) -> bool
     ensures { result ≡ specs.is_end (trees items.now) }
 {
     matches!(front_of(items), Front::End)
@@ -71,7 +71,7 @@ pub(crate) fn is_end(items: &[Tree]) -> bool
 pub(crate) fn check_refused_here(
     region: Region,
     place: usize,
-    items: &[Tree],
+    items: &[Node],
     so_far: Option<Fault>,
 ) -> Option<Fault>
     ensures { result ≡ first so_far (specs.refused_here region place (trees items.now)) }
@@ -84,7 +84,7 @@ pub(crate) fn check_refused_here(
 }
 
 /// All lists in a row, and those in them.
-pub(crate) fn check_refused(region: Region, items: &[Tree], so_far: Option<Fault>) -> Option<Fault>
+pub(crate) fn check_refused(region: Region, items: &[Node], so_far: Option<Fault>) -> Option<Fault>
     ensures { result ≡ first so_far (specs.refused_faults region (trees items.now)) }
 {
     let mut left = items;

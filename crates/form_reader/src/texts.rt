@@ -10,7 +10,7 @@ use crate::fault::{Fault, sooner};
 use crate::groups::{check_one, head_of};
 use crate::items::{TextKind, check_items};
 use crate::words::WordSort;
-use sexpr_text::{Front, Tree, alone, front_of};
+use sexpr_text::{Front, Node, Tree, alone, front_of};
 
 /// The form fault of a text that is answered, if it has one: of all its form faults the one with
 /// the least place, and at one place `Shape` last.
@@ -47,7 +47,7 @@ fn title_of(text: TextKind) -> &'static [u8]
 }
 
 /// The title, as the list at this place.
-fn check_title(text: TextKind, place: usize, items: &[Tree], so_far: Option<Fault>) -> Option<Fault>
+fn check_title(text: TextKind, place: usize, items: &[Node], so_far: Option<Fault>) -> Option<Fault>
     ensures { result ≡ first so_far (specs.title_faults text place (trees items.now)) }
 {
     match front_of(items) {
@@ -67,7 +67,7 @@ fn check_title(text: TextKind, place: usize, items: &[Tree], so_far: Option<Faul
 fn check_titled(
     text: TextKind,
     place: usize,
-    items: &[Tree],
+    items: &[Node],
     so_far: Option<Fault>,
 ) -> Option<Fault>
     ensures { result ≡ first so_far (specs.titled_faults text place (trees items.now)) }
@@ -87,7 +87,7 @@ fn check_titled(
 fn check_define(
     text: TextKind,
     place: usize,
-    items: &[Tree],
+    items: &[Node],
     so_far: Option<Fault>,
 ) -> Option<Fault>
     ensures { result ≡ first so_far (specs.define_faults text place (trees items.now)) }
@@ -109,7 +109,7 @@ fn check_define(
 fn check_missing(
     text: TextKind,
     place: usize,
-    items: &[Tree],
+    items: &[Node],
     so_far: Option<Fault>,
 ) -> Option<Fault>
     ensures { result ≡ first so_far (specs.missing_faults text place (trees items.now)) }
@@ -127,7 +127,7 @@ fn check_missing(
 }
 
 /// Whether a list that begins with this word is among the trees.
-fn has_item(word: &[u8], items: &[Tree]) -> bool
+fn has_item(word: &[u8], items: &[Node]) -> bool
     ensures { result ≡ specs.has_item word.now (trees items.now) }
 {
     let mut left = items;

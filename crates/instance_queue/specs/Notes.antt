@@ -1,5 +1,5 @@
 -- The notes that a queue keeps, and what they say of each instance.
-use Rattle.std.specs.Prelude.{◌≡◌, List, map, Bool, true, false, Option, None, Some}
+use Rattle.std.specs.Prelude.{◌≡◌, ◌<◌, List, [], map, length, get_or, All, Bool, true, false, Option, None, Some}
 use Rattle.std.specs.List.{list_any}
 use Rattle.indexmap.specs.IndexMap.{IndexMap, get}
 use Rattle.task_model.specs.Streams.{Note, Yielded, Ended, same_instance, yields_of, is_end_of}
@@ -7,15 +7,24 @@ use Rattle.task_model.specs.declared.stream.Instance.{Instance}
 use Rattle.instance_queue.specs.declared.queue.Noted.{Noted}
 use Rattle.instance_queue.specs.declared.queue.Tally.{Tally}
 
-abbrev pub note_held : Noted → Note
-note_held noted = of noted.ended
-  where
-    of : Bool → Note
-    of true = Ended noted.instance
-    of false = Yielded noted.instance
+-- where no instance stands
+abbrev pub no_instance : Instance
+no_instance = record { stream = 0; inputs = [] }
 
-abbrev pub notes_in : List Noted → List Note
-notes_in = map note_held
+abbrev pub note_of : Bool → Instance → Note
+note_of true instance = Ended instance
+note_of false instance = Yielded instance
+
+-- the note of the instance at its place
+abbrev pub note_held : List Instance → Noted → Note
+note_held instances noted = note_of noted.ended (get_or instances noted.place no_instance)
+
+abbrev pub notes_in : List Instance → List Noted → List Note
+notes_in instances = map (note_held instances)
+
+-- each of the notes has the place of an instance
+abbrev pub ArePlaced : List Instance → List Noted → Type 0
+ArePlaced instances = All (λ (noted : Noted). noted.place < length instances)
 
 -- how many tuples the instance gave, and whether it ended
 abbrev pub tally_of : List Note → Instance → Tally

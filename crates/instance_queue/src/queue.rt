@@ -13,10 +13,11 @@ use std::hash::BuildHasherDefault;
 use std::marker::Model;
 use task_model::{Instance, NumberHasher, Stream, Task};
 
-/// What an instance was told: a tuple, or that nothing more comes.
+/// What an instance was told, by its place among those that were told something: a tuple, or that
+/// nothing more comes.
 #[derive(Drop)]
 struct Noted {
-    instance: Instance,
+    place: usize,
     ended: bool,
 }
 
@@ -47,11 +48,13 @@ impl Model for Queue {
 
     ghost coded = { coded_notes };
 
-    ghost use Rattle.instance_queue.specs.Notes.{notes_in, AreTallied};
+    ghost use Rattle.indexmap.specs.IndexMap.{keys};
+    ghost use Rattle.instance_queue.specs.Notes.{notes_in, AreTallied, ArePlaced};
 
-    ghost view = { λ q. notes_in q.notes.items };
+    ghost view = { λ q. notes_in (keys q.tallies) q.notes.items };
 
-    ghost invariant = { λ q. AreTallied q.tallies (notes_in q.notes.items) };
+    ghost invariant = { λ q. AreTallied q.tallies (notes_in (keys q.tallies) q.notes.items)
+        × ArePlaced (keys q.tallies) q.notes.items };
 }
 
 /// Whether the stream can only say yes, and that once.
@@ -65,7 +68,7 @@ impl Queue {
     ghost use Rattle.std.specs.Prelude.{◌<◌, ◌++◌, ◌∷◌, [], IfOk, IfErr, OnOk, OnErr, false};
     ghost use Rattle.task_model.specs.Fit.{IsFit};
     ghost use Rattle.task_model.specs.Streams.{Note, Yielded, Ended, yields_of, is_finished, at_stream, is_due as due, is_reachable as reaches};
-    ghost use Rattle.instance_queue.specs.Notes.{tally_of, note_held};
+    ghost use Rattle.instance_queue.specs.Notes.{tally_of, note_of};
     ghost use Rattle.instance_queue.specs.Level.{AreDueInTurn, HasLevelCause};
 
     /// The queue in which nothing is noted, with room for an instance of each stream. Fails only
@@ -95,16 +98,16 @@ impl Queue {
         }
     }
 
-    /// Puts a note behind the others, after which the instance has this tally.
-    fn note(&mut self, noted: Noted, tally: Tally) -> Result<(), AllocError>
-        requires { tally ≡ tally_of (self.old ++ note_held noted ∷ []) noted.instance }
-        ensures ok { OnOk result (self.new ≡ self.old ++ note_held noted ∷ []) }
+    /// Puts a note of an instance behind the others, after which it has this tally.
+    fn note(&mut self, instance: &Instance, ended: bool, tally: Tally) -> Result<(), AllocError>
+        requires { tally ≡ tally_of (self.old ++ note_of ended instance.now ∷ []) instance.now }
+        ensures ok { OnOk result (self.new ≡ self.old ++ note_of ended instance.now ∷ []) }
         ensures err { OnErr result (self.new ≡ self.old) }
     {
-        let key = noted.instance.copy()?;
+        let key = instance.copy()?;
         self.notes.reserve(1)?;
-        self.tallies.insert(key, tally)?;
-        self.notes.push(noted)?;
+        let (place, _) = self.tallies.insert_full(key, tally)?;
+        self.notes.push(Noted { place, ended })?;
         Ok(())
     }
 
@@ -116,12 +119,9 @@ impl Queue {
         ensures err { OnErr result (self.new ≡ self.old) }
     {
         let tally = self.tally(instance);
-        let noted = Noted {
-            instance: instance.copy()?,
-            ended: false,
-        };
         self.note(
-            noted,
+            instance,
+            false,
             Tally {
                 yields: tally.yields + 1,
                 ended: tally.ended,
@@ -136,12 +136,9 @@ impl Queue {
         ensures err { OnErr result (self.new ≡ self.old) }
     {
         let tally = self.tally(instance);
-        let noted = Noted {
-            instance: instance.copy()?,
-            ended: true,
-        };
         self.note(
-            noted,
+            instance,
+            true,
             Tally {
                 yields: tally.yields,
                 ended: true,

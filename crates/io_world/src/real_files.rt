@@ -11,7 +11,7 @@ use std::alloc::Global;
 use std::io::Read;
 use std::{fs, rt};
 
-const PIECE: usize = 65_536;
+const PIECE: usize = 8192;
 
 /// The files of a runtime. It tells nothing of what they hold, nor which were asked for.
 #[derive(Drop)]

@@ -11,7 +11,7 @@ use crate::terms::{check_application, check_terms};
 use crate::variables::{check_variables, enter};
 use crate::vocabulary::Vocabulary;
 use form_reader::{ConditionHead, Fault, condition_head_of};
-use sexpr_text::{Front, Tree, front_of};
+use sexpr_text::{Front, Node, front_of};
 use std::alloc::{AllocError, Global};
 
 /// The condition that the list at this place is, with these variables in scope. Fails only where
@@ -22,7 +22,7 @@ pub fn check_condition(
     names: &Vocabulary,
     scope: &mut Scope,
     place: usize,
-    items: &[Tree],
+    items: &[Node],
     so_far: Option<Fault>,
 ) -> Result<Option<Fault>, AllocError>
     ensures faults { IfOk result (λ f. f
@@ -58,7 +58,7 @@ pub fn check_conditions(
     alloc: Global,
     names: &Vocabulary,
     scope: &mut Scope,
-    items: &[Tree],
+    items: &[Node],
     so_far: Option<Fault>,
 ) -> Result<Option<Fault>, AllocError>
     ensures faults { IfOk result (λ f. f
@@ -85,7 +85,7 @@ fn check_exists(
     alloc: Global,
     names: &Vocabulary,
     scope: &mut Scope,
-    items: &[Tree],
+    items: &[Node],
     so_far: Option<Fault>,
 ) -> Result<Option<Fault>, AllocError>
     ensures faults { IfOk result (λ f. f

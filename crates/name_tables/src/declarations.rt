@@ -10,7 +10,7 @@ use crate::names::NameTable;
 use crate::number_lists::NumberLists;
 use crate::variables::{is_named, named_sorts};
 use form_reader::Spot;
-use sexpr_text::{Front, Tree, front_of};
+use sexpr_text::{Front, Node, front_of};
 use std::alloc::{AllocError, Global};
 use std::marker::Model;
 use task_model::{Declared, Name};
@@ -99,7 +99,7 @@ pub fn declare_groups(
     alloc: Global,
     names: &mut TypedNames,
     sorts: &NameTable,
-    items: &[Tree],
+    items: &[Node],
 ) -> Result<(), AllocError>
     ensures { OnOk result (names.new
         ≡ declare_each names.old (named_words Start (trees items.now))

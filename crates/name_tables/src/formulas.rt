@@ -11,7 +11,7 @@ use crate::terms::{declared_place, small_number, terms_of};
 use crate::variables::{enter, named_sorts};
 use crate::vocabulary::Vocabulary;
 use form_reader::{ConditionHead, condition_head_of};
-use sexpr_text::{Front, Tree, front_of};
+use sexpr_text::{Front, Node, front_of};
 use std::alloc::{AllocError, Global};
 use task_model::{Formula, FormulaNode, Seq, Term};
 
@@ -46,7 +46,7 @@ pub fn condition_of(
     alloc: Global,
     names: &Vocabulary,
     scope: &mut Scope,
-    items: &[Tree],
+    items: &[Node],
 ) -> Result<Formula, AllocError>
     ensures value { IfOk result (λ f. f
         ≡ specs.condition_of names.now scope.old (trees items.now)) }
@@ -99,7 +99,7 @@ fn conditions_of(
     alloc: Global,
     names: &Vocabulary,
     scope: &mut Scope,
-    items: &[Tree],
+    items: &[Node],
 ) -> Result<Vec<Formula>, AllocError>
     ensures value { IfOk result (λ fs. parts_of fs.items
         ≡ specs.conditions_of names.now scope.old (trees items.now)) }
@@ -125,7 +125,7 @@ pub fn single_of(
     alloc: Global,
     names: &Vocabulary,
     scope: &mut Scope,
-    items: &[Tree],
+    items: &[Node],
 ) -> Result<Formula, AllocError>
     ensures value { IfOk result (λ f. f ≡ specs.single_of names.now scope.old (trees items.now)) }
     ensures scope { OnOk result (scope.new ≡ scope.old) }
@@ -142,7 +142,7 @@ fn exists_of(
     alloc: Global,
     names: &Vocabulary,
     scope: &mut Scope,
-    items: &[Tree],
+    items: &[Node],
 ) -> Result<Formula, AllocError>
     ensures value { IfOk result (λ f. f ≡ specs.exists_of names.now scope.old (trees items.now)) }
     ensures scope { OnOk result (scope.new ≡ scope.old) }

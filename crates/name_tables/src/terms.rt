@@ -12,12 +12,12 @@ use crate::signatures::Signatures;
 use crate::variables::{next, number, unless};
 use crate::vocabulary::Vocabulary;
 use form_reader::{Fault, InputKind, head_of, tail_of};
-use sexpr_text::{Front, Tree, front_of};
+use sexpr_text::{Front, Node, front_of};
 use std::alloc::{AllocError, Global};
 use task_model::{Obj, Pattern, Seq, Term};
 
 /// How many words and lists stand in a row. Fails only where they can't be counted.
-pub fn width(items: &[Tree]) -> Result<usize, AllocError>
+pub fn width(items: &[Node]) -> Result<usize, AllocError>
     ensures { IfOk result (λ n. n ≡ specs.width (trees items.now)) }
 {
     let mut left = items;
@@ -37,7 +37,7 @@ pub fn width(items: &[Tree]) -> Result<usize, AllocError>
 pub fn check_terms(
     objects: &NameTable,
     scope: &Scope,
-    items: &[Tree],
+    items: &[Node],
     so_far: Option<Fault>,
 ) -> Option<Fault>
     ensures { result ≡ first so_far (specs.terms_names objects.now scope.now (trees items.now)) }
@@ -80,7 +80,7 @@ pub fn check_application(
     objects: &NameTable,
     scope: &Scope,
     place: usize,
-    items: &[Tree],
+    items: &[Node],
     so_far: Option<Fault>,
 ) -> Result<Option<Fault>, AllocError>
     ensures { IfOk result (λ f. f ≡ first so_far
@@ -127,7 +127,7 @@ pub fn terms_of(
     alloc: Global,
     objects: &NameTable,
     scope: &Scope,
-    items: &[Tree],
+    items: &[Node],
 ) -> Result<Vec<Term>, AllocError>
     ensures { IfOk result (λ terms. terms.items
         ≡ specs.terms_of objects.now scope.now (trees items.now)) }
@@ -159,7 +159,7 @@ pub fn pattern_of(
     alloc: Global,
     names: &Vocabulary,
     scope: &Scope,
-    items: &[Tree],
+    items: &[Node],
 ) -> Result<Pattern, AllocError>
     ensures { IfOk result (λ p. p ≡ specs.pattern_of names.now scope.now (trees items.now)) }
 {

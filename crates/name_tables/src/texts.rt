@@ -10,11 +10,11 @@ ghost use Rattle.name_tables.specs.Texts as specs;
 use crate::names::NameTable;
 use crate::variables::unless;
 use form_reader::{Fault, InputKind, inner_of, tail_of};
-use sexpr_text::{Front, Tree, alone, front_of};
+use sexpr_text::{Front, Node, Tree, alone, front_of};
 use std::alloc::AllocError;
 
 /// The trees of the list that a text is.
-pub fn text_of<'a>(text: &'a Tree) -> &'a [Tree]
+pub fn text_of<'a>(text: &'a Tree) -> &'a [Node]
     ensures { trees result.now ≡ inner_of (tree text.now) }
 {
     match alone(text) {
@@ -24,14 +24,14 @@ pub fn text_of<'a>(text: &'a Tree) -> &'a [Tree]
 }
 
 /// The items of a text: what stands behind `define` and the title.
-pub fn body_of<'a>(text: &'a Tree) -> &'a [Tree]
+pub fn body_of<'a>(text: &'a Tree) -> &'a [Node]
     ensures { trees result.now ≡ specs.body_of (tree text.now) }
 {
     tail_of(tail_of(text_of(text)))
 }
 
 /// The value of the first key that is this word, or nothing.
-pub fn value_at<'a>(key: &[u8], keys: &'a [Tree]) -> &'a [Tree]
+pub fn value_at<'a>(key: &[u8], keys: &'a [Node]) -> &'a [Node]
     ensures { trees result.now ≡ specs.value_at key.now (trees keys.now) }
 {
     let mut left = keys;
@@ -53,7 +53,7 @@ pub fn value_at<'a>(key: &[u8], keys: &'a [Tree]) -> &'a [Tree]
 /// before it. Fails only where memory is wanting.
 pub fn check_repeated(
     seen: &mut NameTable,
-    items: &[Tree],
+    items: &[Node],
     so_far: Option<Fault>,
 ) -> Result<Option<Fault>, AllocError>
     ensures { IfOk result (λ f. f ≡ first so_far

@@ -10,7 +10,7 @@ ghost use Rattle.name_tables.specs.Variables as specs;
 use crate::names::NameTable;
 use crate::scope::Scope;
 use form_reader::{Fault, InputKind, Spot, is_dash, sooner};
-use sexpr_text::{Front, Tree, front_of};
+use sexpr_text::{Front, Node, front_of};
 use std::alloc::{AllocError, Global};
 use task_model::SLOTS;
 
@@ -47,7 +47,7 @@ pub fn is_type(spot: Spot) -> bool
 }
 
 /// Puts variables into scope, in order. Fails only where memory is wanting.
-pub fn enter(scope: &mut Scope, items: &[Tree]) -> Result<(), AllocError>
+pub fn enter(scope: &mut Scope, items: &[Node]) -> Result<(), AllocError>
     ensures { OnOk result (scope.new ≡ scope.old ++ specs.named_words Start (trees items.now)) }
 {
     let mut left = items;
@@ -65,7 +65,7 @@ pub fn enter(scope: &mut Scope, items: &[Tree]) -> Result<(), AllocError>
 }
 
 /// Each type is there.
-pub fn check_types(sorts: &NameTable, items: &[Tree], so_far: Option<Fault>) -> Option<Fault>
+pub fn check_types(sorts: &NameTable, items: &[Node], so_far: Option<Fault>) -> Option<Fault>
     ensures { result ≡ first so_far (specs.types_names sorts.now Start (trees items.now)) }
 {
     let mut left = items;
@@ -102,7 +102,7 @@ fn check_type(
 /// grows by them.
 pub fn check_doubles(
     seen: &mut NameTable,
-    items: &[Tree],
+    items: &[Node],
     so_far: Option<Fault>,
 ) -> Result<Option<Fault>, AllocError>
     ensures faults { IfOk result (λ f. f
@@ -128,7 +128,7 @@ pub fn check_doubles(
 /// where they can't be counted.
 pub fn check_scope(
     size: usize,
-    items: &[Tree],
+    items: &[Node],
     so_far: Option<Fault>,
 ) -> Result<Option<Fault>, AllocError>
     ensures { IfOk result (λ f. f ≡ first so_far (specs.scope_names size Start (trees items.now))) }
@@ -155,7 +155,7 @@ pub fn check_variables(
     alloc: Global,
     sorts: &NameTable,
     size: usize,
-    items: &[Tree],
+    items: &[Node],
     so_far: Option<Fault>,
 ) -> Result<Option<Fault>, AllocError>
     ensures { IfOk result (λ f. f ≡ first so_far
@@ -185,7 +185,7 @@ pub fn number(n: usize) -> Result<u32, AllocError>
 }
 
 /// The types of names or variables, in order. Fails only where memory is wanting.
-pub fn named_sorts(alloc: Global, sorts: &NameTable, items: &[Tree]) -> Result<Vec<u32>, AllocError>
+pub fn named_sorts(alloc: Global, sorts: &NameTable, items: &[Node]) -> Result<Vec<u32>, AllocError>
     ensures { IfOk result (λ list. list.items
         ≡ specs.named_sorts sorts.now Start 0 (trees items.now)) }
 {

@@ -3,28 +3,56 @@ use crate::out::Out;
 use crate::refusals::write_refusal;
 use crate::word::{first_word, number};
 use form_reader::{Fault, InputFault, TextKind, check_form};
-use sexpr_text::{Front, TextFault, Tree, alone, front_of, read_tree};
+use sexpr_text::{Front, Node, TextFault, Tree, alone, front_of, read_tree};
 use std::alloc::Global;
 use task_reader::InputRefusal;
 
-/// Writes the tree with the place of each word and each list.
-fn write_tree(out: &mut Out, tree: &Tree) {
-    match tree {
-        Tree::Word { text, place } => {
-            out.put_bytes(text.bytes());
+/// Writes the trees of a row, each behind a space and with the place of each word and each list in
+/// it. No row has more than `left` words and lists.
+fn write_row(out: &mut Out, row: &[Node], left: usize) {
+    if left == 0 {
+        return;
+    }
+    match front_of(row) {
+        Front::End => {}
+        Front::Word { text, place, rest } => {
+            out.put(" ");
+            out.put_bytes(text);
             out.put("@");
-            out.print(*place);
+            out.print(place);
+            write_row(out, rest, left - 1);
         }
-        Tree::List { items, place } => {
-            out.put("(");
-            out.print(*place);
-            for item in items {
-                out.put(" ");
-                write_tree(out, item);
-            }
+        Front::List { items, place, rest } => {
+            out.put(" (");
+            out.print(place);
+            write_row(out, items, left - 1);
             out.put(" )");
+            write_row(out, rest, left - 1);
         }
     }
+}
+
+/// Writes the tree with the place of each word and each list.
+fn write_tree(out: &mut Out, tree: &Tree) {
+    out.put("(");
+    out.print(tree.place());
+    write_row(out, &tree.items, tree.items.len());
+    out.put(" )");
+}
+
+/// How many trees are in a row.
+fn count(row: &[Node]) -> usize {
+    let mut left = row;
+    let mut count: usize = 0;
+    for _ in 0..row.len() {
+        left = match front_of(left) {
+            Front::End => return count,
+            Front::Word { rest, .. } => rest,
+            Front::List { rest, .. } => rest,
+        };
+        count = count.saturating_add(1);
+    }
+    count
 }
 
 /// Writes a fault of a text.
@@ -43,20 +71,12 @@ pub(crate) fn write_read(alloc: Global, out: &mut Out, text: &[u8]) {
     }
 }
 
-/// What is in front in a list. A tree that is alone there is shown as such.
-fn inner_front<'a>(items: &'a [Tree]) -> Front<'a> {
-    match items {
-        [only] => alone(only),
-        _ => front_of(items),
-    }
-}
-
 /// Writes a place and how many trees are behind it.
-fn write_place(out: &mut Out, place: usize, rest: &[Tree]) {
+fn write_place(out: &mut Out, place: usize, rest: &[Node]) {
     out.put(" at ");
     out.print(place);
     out.put(", ");
-    out.print(rest.len());
+    out.print(count(rest));
     out.put(" behind; ");
 }
 
@@ -75,9 +95,9 @@ fn write_front(out: &mut Out, front: Front<'_>, depth: usize) {
         }
         Front::List { items, place, rest } => {
             out.put("list of ");
-            out.print(items.len());
+            out.print(count(items));
             write_place(out, place, rest);
-            write_front(out, inner_front(items), depth - 1);
+            write_front(out, front_of(items), depth - 1);
             out.put("; ");
             write_front(out, front_of(rest), depth - 1);
         }

@@ -7,7 +7,7 @@ ghost use Rattle.plan_reader.specs.Steps.{LineGives};
 use crate::fault::LineFault;
 use crate::line::{behind, first_bytes, is_idle, step_bytes};
 use form_reader::InputKind;
-use sexpr_text::{Front, TextFault, Tree, alone, front_of, read_tree};
+use sexpr_text::{Front, Node, TextFault, Tree, alone, front_of, read_tree};
 use std::alloc::Global;
 use std::cmp::min;
 use task_model::{Name, Seq};
@@ -37,7 +37,7 @@ fn word_as<'a>(bytes: &'a [u8], text: &'a [u8], place: usize) -> &'a [u8]
 }
 
 /// The words of a row of nothing else, in these bytes.
-fn words_in(alloc: Global, bytes: &[u8], items: &[Tree]) -> Result<Vec<Name>, LineFault>
+fn words_in(alloc: Global, bytes: &[u8], items: &[Node]) -> Result<Vec<Name>, LineFault>
     ensures { LineGives (λ words. words.items) result (specs.words_in bytes.now (trees items.now)) }
 {
     let mut words = Vec::new(alloc);
@@ -55,7 +55,7 @@ fn words_in(alloc: Global, bytes: &[u8], items: &[Tree]) -> Result<Vec<Name>, Li
 }
 
 /// The step in a list: the name of an action, and those of objects.
-fn call_in(alloc: Global, bytes: &[u8], items: &[Tree]) -> Result<Call, LineFault>
+fn call_in(alloc: Global, bytes: &[u8], items: &[Node]) -> Result<Call, LineFault>
     ensures { LineGives (λ call. call) result (specs.step_in bytes.now (trees items.now)) }
 {
     let Front::Word { text, rest, .. } = front_of(items) else {

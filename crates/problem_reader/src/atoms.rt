@@ -13,7 +13,7 @@ ghost use Rattle.problem_reader.specs.Problems.{places_in_row, spelled_fact};
 use crate::facts::places_of;
 use form_reader::{Fault, InputKind, head_of, tail_of};
 use name_tables::{NameTable, Vocabulary, check_use, number, unless, width};
-use sexpr_text::{Front, Tree, front_of};
+use sexpr_text::{Front, Node, front_of};
 use std::alloc::{AllocError, Global};
 use task_model::{Domain, Fact, Kind, Obj, Role, Row};
 
@@ -32,7 +32,7 @@ pub(crate) struct Setting<'a> {
 fn check_places(
     alloc: Global,
     objects: &NameTable,
-    items: &[Tree],
+    items: &[Node],
     so_far: Option<Fault>,
 ) -> Result<(Option<Fault>, Row), AllocError>
     ensures faults { IfOk result (λ r. r.0
@@ -61,7 +61,7 @@ fn check_arguments(
     setting: &Setting<'_>,
     pred: Option<usize>,
     place: usize,
-    items: &[Tree],
+    items: &[Node],
     so_far: Option<Fault>,
 ) -> Result<(Option<Fault>, Row), AllocError>
     requires { pred
@@ -108,7 +108,7 @@ fn is_derived_at(roles: &[Role], place: Option<usize>) -> bool
 pub(crate) fn check_atom(
     setting: &Setting<'_>,
     place: usize,
-    items: &[Tree],
+    items: &[Node],
     so_far: Option<Fault>,
     facts: &mut Vec<Fact>,
 ) -> Result<Option<Fault>, AllocError>

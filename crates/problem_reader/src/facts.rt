@@ -7,7 +7,7 @@ use crate::items::is_worth;
 use crate::values::{term_in, value_in};
 use form_reader::{head_of, tail_of};
 use name_tables::{NameTable, Vocabulary, declared_place, number};
-use sexpr_text::{Front, Tree, front_of};
+use sexpr_text::{Front, Node, front_of};
 use std::alloc::{AllocError, Global};
 use task_model::{Obj, Row, Valued};
 
@@ -15,7 +15,7 @@ use task_model::{Obj, Row, Valued};
 pub(crate) fn places_of(
     alloc: Global,
     objects: &NameTable,
-    items: &[Tree],
+    items: &[Node],
 ) -> Result<Row, AllocError>
     ensures { IfOk result (λ row. row ≡ specs.places_in_row objects.now (trees items.now)) }
 {
@@ -35,7 +35,7 @@ pub(crate) fn places_of(
 }
 
 /// The value that a list of these trees gives a function term.
-fn valued_of(alloc: Global, names: &Vocabulary, items: &[Tree]) -> Result<Valued, AllocError>
+fn valued_of(alloc: Global, names: &Vocabulary, items: &[Node]) -> Result<Valued, AllocError>
     ensures { IfOk result (λ valued. valued ≡ specs.valued_of names.now (trees items.now)) }
 {
     let term = term_in(items);
@@ -49,7 +49,7 @@ fn valued_of(alloc: Global, names: &Vocabulary, items: &[Tree]) -> Result<Valued
 pub(crate) fn valueds_of(
     alloc: Global,
     names: &Vocabulary,
-    items: &[Tree],
+    items: &[Node],
 ) -> Result<Vec<Valued>, AllocError>
     ensures { IfOk result (λ list. list.items ≡ specs.valueds_of names.now (trees items.now)) }
 {

@@ -11,7 +11,7 @@ ghost use Rattle.problem_reader.specs.Values.{is_init};
 use crate::atoms::{Setting, check_atom};
 use form_reader::{Fault, InputKind, Item, TextKind, head_of, tail_of};
 use name_tables::{Scope, Vocabulary, check_application, check_conditions, check_types, unless};
-use sexpr_text::{Front, Tree, front_of};
+use sexpr_text::{Front, Node, front_of};
 use std::alloc::{AllocError, Global};
 use task_model::Fact;
 
@@ -25,7 +25,7 @@ pub(crate) struct Held {
 }
 
 /// The name behind `:domain` is the domain's.
-fn check_domain(name: &[u8], items: &[Tree], so_far: Option<Fault>) -> Option<Fault>
+fn check_domain(name: &[u8], items: &[Node], so_far: Option<Fault>) -> Option<Fault>
     ensures { result ≡ first so_far (specs.domain_name_faults name.now (trees items.now)) }
 {
     match front_of(items) {
@@ -37,7 +37,7 @@ fn check_domain(name: &[u8], items: &[Tree], so_far: Option<Fault>) -> Option<Fa
 }
 
 /// Whether a list gives a function term a value.
-pub(crate) fn is_worth(items: &[Tree]) -> bool
+pub(crate) fn is_worth(items: &[Node]) -> bool
     ensures { result ≡ specs.is_worth (trees items.now) }
 {
     match head_of(items) {
@@ -51,7 +51,7 @@ pub(crate) fn is_worth(items: &[Tree]) -> bool
 fn check_worth(
     alloc: Global,
     names: &Vocabulary,
-    items: &[Tree],
+    items: &[Node],
     so_far: Option<Fault>,
 ) -> Result<Option<Fault>, AllocError>
     ensures { IfOk result (λ f. f ≡ first so_far (specs.worth_names names.now (trees items.now))) }
@@ -76,7 +76,7 @@ fn check_worth(
 fn check_fact(
     setting: &Setting<'_>,
     place: usize,
-    items: &[Tree],
+    items: &[Node],
     so_far: Option<Fault>,
     facts: &mut Vec<Fact>,
 ) -> Result<Option<Fault>, AllocError>
@@ -96,7 +96,7 @@ fn check_fact(
 /// Facts in a row, and behind the facts so far the atoms among them.
 fn check_facts(
     setting: &Setting<'_>,
-    items: &[Tree],
+    items: &[Node],
     so_far: Option<Fault>,
     facts: &mut Vec<Fact>,
 ) -> Result<Option<Fault>, AllocError>
@@ -123,7 +123,7 @@ fn check_facts(
 #[tactic(auto, using(lemmas::proofs::Members::take_append))]
 fn check_init(
     setting: &Setting<'_>,
-    items: &[Tree],
+    items: &[Node],
     so_far: Option<Fault>,
     held: &mut Held,
 ) -> Result<Option<Fault>, AllocError>
@@ -147,7 +147,7 @@ fn check_init(
 fn check_goal(
     alloc: Global,
     names: &Vocabulary,
-    items: &[Tree],
+    items: &[Node],
     so_far: Option<Fault>,
 ) -> Result<Option<Fault>, AllocError>
     ensures { IfOk result (λ f. f ≡ first so_far (specs.goal_names names.now (trees items.now))) }
@@ -160,7 +160,7 @@ fn check_goal(
 fn check_body(
     setting: &Setting<'_>,
     item: Item,
-    items: &[Tree],
+    items: &[Node],
     so_far: Option<Fault>,
     held: &mut Held,
 ) -> Result<Option<Fault>, AllocError>
@@ -202,7 +202,7 @@ fn check_body(
 #[tactic(auto, using(form_reader::proofs::FaultsFirstLemmas::first_append, crate::proofs::HeldLemmas::held_end, crate::proofs::HeldLemmas::held_next))]
 pub(crate) fn check_items(
     setting: &Setting<'_>,
-    items: &[Tree],
+    items: &[Node],
     so_far: Option<Fault>,
     held: &mut Held,
 ) -> Result<Option<Fault>, AllocError>

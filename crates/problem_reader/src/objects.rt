@@ -6,7 +6,7 @@ ghost use Rattle.problem_reader.specs.Problems as specs;
 use crate::tables::is_objects;
 use form_reader::{TextKind, head_of, tail_of};
 use name_tables::{NameTable, TypedNames, declare_groups};
-use sexpr_text::{Front, Tree, front_of};
+use sexpr_text::{Front, Node, front_of};
 use std::alloc::{AllocError, Global};
 use task_model::{Declared, Domain};
 
@@ -35,7 +35,7 @@ fn declare_objects(
     alloc: Global,
     sorts: &NameTable,
     names: &mut TypedNames,
-    items: &[Tree],
+    items: &[Node],
 ) -> Result<(), AllocError>
     ensures { OnOk result (names.new ≡ specs.objects_typed sorts.now names.old (trees items.now)) }
 {
@@ -59,7 +59,7 @@ pub(crate) fn objects_of(
     alloc: Global,
     domain: &Domain,
     sorts: &NameTable,
-    body: &[Tree],
+    body: &[Node],
 ) -> Result<TypedNames, AllocError>
     ensures { IfOk result (λ typed. typed
         ≡ specs.all_typed domain.now sorts.now (trees body.now)) }

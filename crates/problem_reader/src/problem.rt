@@ -11,7 +11,7 @@ use crate::values::is_init;
 use domain_reader::name_of;
 use form_reader::{Item, TextKind, head_of, tail_of};
 use name_tables::{NumberLists, Scope, Vocabulary, body_of, declared_of, single_of};
-use sexpr_text::{Front, Tree, front_of};
+use sexpr_text::{Front, Node, Tree, front_of};
 use std::alloc::{AllocError, Global};
 use task_model::{Declared, Fact, Formula, Name, Problem, Seq};
 
@@ -20,7 +20,7 @@ use task_model::{Declared, Fact, Formula, Name, Problem, Seq};
 fn declared_by(
     setting: &Setting<'_>,
     kept: &Option<NumberLists>,
-    body: &[Tree],
+    body: &[Node],
 ) -> Result<Vec<Declared>, AllocError>
     requires { specs.AreTypesOf setting.now.domain.now setting.now.names.now (trees body.now)
         kept.now }
@@ -39,7 +39,7 @@ fn declared_by(
 }
 
 /// What stands behind the word `:init` of the first such item.
-fn init_of<'a>(items: &'a [Tree]) -> &'a [Tree]
+fn init_of<'a>(items: &'a [Node]) -> &'a [Node]
     ensures { trees result.now ≡ specs.init_of (trees items.now) }
 {
     let mut left = items;
@@ -65,7 +65,7 @@ fn is_goal(item: Item) -> bool
 }
 
 /// What stands behind the word `:goal` of the first such item.
-fn goal_of<'a>(items: &'a [Tree]) -> &'a [Tree]
+fn goal_of<'a>(items: &'a [Node]) -> &'a [Node]
     ensures { trees result.now ≡ specs.goal_of (trees items.now) }
 {
     let mut left = items;
@@ -91,7 +91,7 @@ fn is_metric(item: Item) -> bool
 }
 
 /// Whether there is a metric.
-fn has_metric(items: &[Tree]) -> bool
+fn has_metric(items: &[Node]) -> bool
     ensures { result ≡ specs.has_metric (trees items.now) }
 {
     let mut left = items;
@@ -110,7 +110,7 @@ fn has_metric(items: &[Tree]) -> bool
 }
 
 /// The condition that a goal is, which is the row behind its word.
-fn condition_of(alloc: Global, names: &Vocabulary, items: &[Tree]) -> Result<Formula, AllocError>
+fn condition_of(alloc: Global, names: &Vocabulary, items: &[Node]) -> Result<Formula, AllocError>
     ensures { IfOk result (λ f. f ≡ specs.condition_of names.now (trees items.now)) }
 {
     let mut scope = Scope::new(alloc);

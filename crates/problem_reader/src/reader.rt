@@ -16,7 +16,7 @@ use crate::values::check_values;
 use domain_reader::check_second_items;
 use form_reader::{Fault, InputFault, TextKind, check_form};
 use name_tables::{NumberLists, Vocabulary, body_of};
-use sexpr_text::Tree;
+use sexpr_text::{Node, Tree};
 use std::alloc::{AllocError, Global};
 use task_model::{Domain, Problem};
 
@@ -25,7 +25,7 @@ use task_model::{Domain, Problem};
 #[tactic(auto, using(form_reader::proofs::FaultsFirstLemmas::first_append))]
 fn check_names(
     setting: &Setting<'_>,
-    body: &[Tree],
+    body: &[Node],
     held: &mut Held,
 ) -> Result<Option<Fault>, AllocError>
     ensures faults { IfOk result (λ f. f ≡ least_fault

@@ -10,7 +10,7 @@ use crate::objects::objects_of;
 use domain_reader::add_named;
 use form_reader::{Item, TextKind, head_of, tail_of};
 use name_tables::{NameTable, NumberLists, Vocabulary};
-use sexpr_text::{Front, Tree, front_of};
+use sexpr_text::{Front, Node, front_of};
 use std::alloc::{AllocError, Global};
 use task_model::{Declared, Domain};
 
@@ -22,7 +22,7 @@ pub(crate) fn is_objects(item: Item) -> bool
 }
 
 /// Adds the objects that items declare.
-fn add_objects(names: &mut NameTable, items: &[Tree]) -> Result<(), AllocError>
+fn add_objects(names: &mut NameTable, items: &[Node]) -> Result<(), AllocError>
     ensures { OnOk result (names.new ≡ specs.object_names_in names.old (trees items.now)) }
 {
     let mut left = items;
@@ -60,7 +60,7 @@ pub(crate) fn put_objects(
     alloc: Global,
     domain: &Domain,
     names: &mut Vocabulary,
-    body: &[Tree],
+    body: &[Node],
 ) -> Result<Option<NumberLists>, AllocError>
     requires { names.old ≡ vocabulary_of domain.now }
     ensures names { OnOk result (names.new ≡ specs.problem_names domain.now (trees body.now)) }

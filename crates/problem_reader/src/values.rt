@@ -9,7 +9,7 @@ ghost use Rattle.problem_reader.specs.Values as specs;
 use crate::items::is_worth;
 use form_reader::{Fault, InputKind, Item, TextKind, head_of, inner_of, tail_of};
 use name_tables::{NameTable, unless};
-use sexpr_text::{Front, Tree, front_of};
+use sexpr_text::{Front, Node, front_of};
 use std::alloc::{AllocError, Global};
 use std::marker::Model;
 use task_model::number_of;
@@ -22,21 +22,21 @@ pub(crate) fn is_init(item: Item) -> bool
 }
 
 /// The words of the term in a list that gives it a value.
-pub(crate) fn term_in<'a>(items: &'a [Tree]) -> &'a [Tree]
+pub(crate) fn term_in<'a>(items: &'a [Node]) -> &'a [Node]
     ensures { trees result.now ≡ specs.term_in (trees items.now) }
 {
     inner_of(tail_of(items))
 }
 
 /// The number in such a list.
-pub(crate) fn value_in(items: &[Tree]) -> u32
+pub(crate) fn value_in(items: &[Node]) -> u32
     ensures { result ≡ specs.value_in (trees items.now) }
 {
     number_of(head_of(tail_of(tail_of(items)))).unwrap_or(0)
 }
 
 /// How a term is written, with one space behind each word.
-fn spelled(alloc: Global, items: &[Tree]) -> Result<Vec<u8>, AllocError>
+fn spelled(alloc: Global, items: &[Node]) -> Result<Vec<u8>, AllocError>
     ensures { IfOk result (λ letters. letters.items ≡ specs.spelled_term (trees items.now)) }
 {
     let mut letters = Vec::new(alloc);
@@ -116,7 +116,7 @@ fn check_value(
     alloc: Global,
     given: &mut Values,
     place: usize,
-    items: &[Tree],
+    items: &[Node],
     so_far: Option<Fault>,
 ) -> Result<Option<Fault>, AllocError>
     ensures faults { IfOk result (λ f. f
@@ -137,7 +137,7 @@ fn check_value(
 fn check_row(
     alloc: Global,
     given: &mut Values,
-    items: &[Tree],
+    items: &[Node],
     so_far: Option<Fault>,
 ) -> Result<Option<Fault>, AllocError>
     ensures faults { IfOk result (λ f. f
@@ -161,7 +161,7 @@ fn check_row(
 /// Function terms with two different values in `:init` items. Fails only where memory is wanting.
 pub(crate) fn check_values(
     alloc: Global,
-    items: &[Tree],
+    items: &[Node],
     so_far: Option<Fault>,
 ) -> Result<Option<Fault>, AllocError>
     ensures { IfOk result (λ f. f ≡ first so_far

@@ -38,7 +38,6 @@ const UNSEEN: Cost = Cost {
 struct Board {
     /// The fact that a rule gives where it gives just one.
     only: Vec<u32>,
-    open: Vec<Open>,
     costs: Vec<Cost>,
     queue: Queue,
 }
@@ -47,7 +46,6 @@ impl Board {
     /// Takes room for these rules. Fails only where memory is wanting.
     fn make_room(&mut self, alloc: Global, rules: &Rules) -> Result<(), AllocError> {
         self.only = rules.gives.singles(alloc, NONE)?;
-        self.open = Vec::from_slice(alloc, rules.start.as_slice())?;
         self.costs.resize(rules.facts as usize, UNSEEN)?;
         let times = rules.gives.total().saturating_add(rules.facts as usize);
         self.queue.make_room(rules.len(), times)
@@ -66,26 +64,17 @@ impl Board {
 
     /// Offers what the rule gives, which costs so much with all that it needs.
     fn give(&mut self, gives: &Lists, rule: u32, cost: u32) {
-        if let Some(fact) = self.only.as_slice().get(rule as usize).copied() {
-            if fact != NONE {
-                self.offer(fact, cost, rule);
-                return;
-            }
-        }
-        for fact in gives.row(rule as usize) {
-            self.offer(*fact, cost, rule);
+        let only = self.only.as_slice().get(rule as usize).copied();
+        match only.unwrap_or(NONE) {
+            NONE => self.give_row(gives, rule, cost),
+            fact => self.offer(fact, cost, rule),
         }
     }
 
-    /// The rule lacks one fact less, which costs so much.
-    fn lower(&mut self, gives: &Lists, rule: u32, cost: u32) {
-        if let Some(open) = self.open.get_mut(rule as usize) {
-            let sum = open.sum.saturating_add(cost).min(UNREACHED - 1);
-            let left = open.left.wrapping_sub(1);
-            *open = Open { left, sum };
-            if left == 0 {
-                self.give(gives, rule, sum);
-            }
+    /// Offers all facts in the row of what the rule gives.
+    fn give_row(&mut self, gives: &Lists, rule: u32, cost: u32) {
+        for fact in gives.row(rule as usize) {
+            self.offer(*fact, cost, rule);
         }
     }
 
@@ -106,13 +95,19 @@ impl Board {
             None => UNREACHED,
         }
     }
+}
 
-    /// The rule lacks nothing, and costs so much with all that it needs.
-    fn close(&mut self, gives: &Lists, rule: u32, sum: u32) {
-        if let Some(open) = self.open.get_mut(rule as usize) {
-            *open = Open { left: 0, sum };
-        }
-        self.give(gives, rule, sum);
+/// The rule lacks one fact less, which costs so much. Answers what it costs together with all that it
+/// needs, where it lacks nothing more.
+fn lower(open: &mut [Open], rule: u32, cost: u32) -> Option<u32> {
+    let open = open.get_mut(rule as usize)?;
+    let sum = open.sum.saturating_add(cost);
+    let left = open.left.wrapping_sub(1);
+    *open = Open { left, sum };
+    if left == 0 {
+        Some(sum.min(UNREACHED - 1))
+    } else {
+        None
     }
 }
 
@@ -139,6 +134,9 @@ pub(crate) struct Costs {
     lone: Option<u32>,
     /// The least that a rule costs which gives something that this one needs, and at most 1.
     ahead: usize,
+    open: Vec<Open>,
+    /// What facts cost before one holds.
+    unseen: Vec<Cost>,
     board: Board,
 }
 
@@ -151,7 +149,6 @@ impl Costs {
     {
         let board = Board {
             only: Vec::new(alloc),
-            open: Vec::new(alloc),
             costs: Vec::new(alloc),
             queue: Queue::none(alloc),
         };
@@ -163,6 +160,8 @@ impl Costs {
             free: Vec::new(alloc),
             lone: None,
             ahead: 0,
+            open: Vec::new(alloc),
+            unseen: Vec::new(alloc),
             board,
         }
     }
@@ -182,6 +181,8 @@ impl Costs {
         };
         self.needed_by = rules.needed_by(alloc)?;
         self.free = rules.free(alloc)?;
+        self.open = Vec::from_slice(alloc, rules.start.as_slice())?;
+        self.unseen.resize(rules.facts as usize, UNSEEN)?;
         self.board.make_room(alloc, rules)?;
         self.needs = mem::replace(&mut rules.needs, Lists::new(alloc));
         self.gives = mem::replace(&mut rules.gives, Lists::new(alloc));
@@ -192,11 +193,13 @@ impl Costs {
     /// Begins anew: no fact holds.
     pub(crate) fn clear(&mut self) {
         self.board.queue.clear();
-        for cost in self.board.costs.iter_mut() {
-            *cost = UNSEEN;
+        let unseen = self.unseen.as_slice();
+        let costs = self.board.costs.as_mut_slice();
+        if costs.len() == unseen.len() {
+            costs.copy_from_slice(unseen);
         }
         let start = self.start.as_slice();
-        let open = self.board.open.as_mut_slice();
+        let open = self.open.as_mut_slice();
         if open.len() == start.len() {
             open.copy_from_slice(start);
         }
@@ -262,7 +265,7 @@ impl Costs {
 
     /// What the rule costs with all that it needs, where that was reached.
     pub(crate) fn full_cost(&self, rule: u32) -> u32 {
-        match self.board.open.as_slice().get(rule as usize) {
+        match self.open.as_slice().get(rule as usize) {
             Some(open) => open.sum,
             None => UNREACHED,
         }
@@ -280,8 +283,7 @@ impl Costs {
 
     /// Whether all that the rule needs was reached.
     pub(crate) fn is_ready(&self, rule: usize) -> bool {
-        self.board
-            .open
+        self.open
             .as_slice()
             .get(rule)
             .is_some_and(|open| open.left == 0)
@@ -297,9 +299,13 @@ impl Costs {
 
     /// Tells the rules that need the fact what it costs, unless they were told.
     fn tell(&mut self, fact: u32) {
-        if let Some(cost) = self.board.take(fact) {
-            for rule in self.needed_by.row(fact as usize) {
-                self.board.lower(&self.gives, *rule, cost);
+        let Some(cost) = self.board.take(fact) else {
+            return;
+        };
+        let open = self.open.as_mut_slice();
+        for rule in self.needed_by.row(fact as usize) {
+            if let Some(sum) = lower(open, *rule, cost) {
+                self.board.give(&self.gives, *rule, sum);
             }
         }
     }
@@ -324,7 +330,25 @@ impl Costs {
         for fact in self.needs(rule) {
             sum = sum.saturating_add(self.cost(*fact)).min(UNREACHED - 1);
         }
-        self.board.close(&self.gives, rule, sum);
+        if let Some(open) = self.open.get_mut(rule as usize) {
+            *open = Open { left: 0, sum };
+        }
+        self.board.give(&self.gives, rule, sum);
+    }
+
+    /// Tells of the facts in the bucket that was come to, and of those that are put into it meanwhile,
+    /// and answers whether the goal is one of them, where this is the goal.
+    fn tell_bucket(&mut self, goal: Option<u32>) -> bool {
+        for _ in 0..self.board.queue.room() {
+            let Some(fact) = self.board.queue.pop() else {
+                return false;
+            };
+            if Some(fact) == goal {
+                return true;
+            }
+            self.tell(fact);
+        }
+        false
     }
 
     /// Goes through the facts, the cheapest first, until it is known what the goal costs, where this is
@@ -333,7 +357,10 @@ impl Costs {
         self.give_free();
         let lone = goal.and(self.lone);
         let mut count: usize = 0;
-        for _ in 0..self.board.queue.room() {
+        for _ in 0..self.board.queue.buckets() {
+            if !self.board.queue.advance() {
+                return;
+            }
             if let Some(rule) = lone {
                 count = self.settled(rule, count);
                 if count == self.needs(rule).len() {
@@ -341,13 +368,9 @@ impl Costs {
                     return;
                 }
             }
-            let Some(fact) = self.board.queue.pop() else {
-                return;
-            };
-            if Some(fact) == goal {
+            if self.tell_bucket(goal) {
                 return;
             }
-            self.tell(fact);
         }
     }
 }

@@ -23,7 +23,7 @@ pub(crate) struct Queue {
     entries: Vec<Entry>,
     /// How many entries are used.
     used: usize,
-    /// No bucket before this one has an entry.
+    /// The bucket that was come to. None before it has an entry.
     at: usize,
     /// None behind this one has one.
     last: usize,
@@ -59,6 +59,11 @@ impl Queue {
         self.entries.len()
     }
 
+    /// How many buckets there are.
+    pub(crate) fn buckets(&self) -> usize {
+        self.heads.len()
+    }
+
     /// Takes all facts out.
     pub(crate) fn clear(&mut self) {
         for head in self
@@ -75,8 +80,8 @@ impl Queue {
     }
 
     /// What a fact costs at most for good, where all rules that give it cost so much by themselves: what
-    /// is taken out from now on costs no less than what was. Nothing once the last bucket was come to,
-    /// in which facts have no order.
+    /// is taken out from now on costs no less than what lies in the bucket that was come to. Nothing
+    /// once that is the last, in which facts have no order.
     pub(crate) fn settled(&self, ahead: usize) -> usize {
         if self.at.saturating_add(1) < self.heads.len() {
             self.at.saturating_add(ahead)
@@ -99,20 +104,22 @@ impl Queue {
         }
     }
 
-    /// Takes out one of those that cost least.
-    pub(crate) fn pop(&mut self) -> Option<u32> {
-        for bucket in self.at..self.heads.len() {
-            if bucket > self.last {
-                return None;
-            }
-            self.at = bucket;
-            if let Some(head) = self.heads.get_mut(bucket) {
-                if let Some(entry) = self.entries.get(*head as usize) {
-                    *head = entry.next;
-                    return Some(entry.fact);
-                }
+    /// Comes to the first bucket that has an entry, and answers whether there is one.
+    pub(crate) fn advance(&mut self) -> bool {
+        for bucket in self.at..self.last.saturating_add(1) {
+            if self.heads.get(bucket).is_some_and(|head| *head != NONE) {
+                self.at = bucket;
+                return true;
             }
         }
-        None
+        false
+    }
+
+    /// Takes a fact out of the bucket that was come to.
+    pub(crate) fn pop(&mut self) -> Option<u32> {
+        let head = self.heads.get_mut(self.at)?;
+        let entry = *self.entries.as_slice().get(*head as usize)?;
+        *head = entry.next;
+        Some(entry.fact)
     }
 }

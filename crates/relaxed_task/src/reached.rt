@@ -2,12 +2,13 @@
 use crate::lists::number;
 use indexmap::IndexSet;
 use std::alloc::{AllocError, Global};
-use task_model::Atom;
+use std::hash::BuildHasherDefault;
+use task_model::{Atom, NumberHasher};
 
 /// The fluent atoms that are reached where deletes are ignored, and the steps.
 #[derive(Drop)]
 pub(crate) struct Reached {
-    atoms: IndexSet<Atom>,
+    atoms: IndexSet<Atom, BuildHasherDefault<NumberHasher>>,
     /// The atoms of each predicate, by their numbers.
     by_predicate: Vec<Vec<u32>>,
     /// Whether each step is reached, in the order of the steps.
@@ -18,7 +19,7 @@ impl Reached {
     /// No atoms and no steps, which take no memory.
     pub(crate) fn new(alloc: Global) -> Reached {
         Reached {
-            atoms: IndexSet::new(alloc),
+            atoms: IndexSet::with_hasher(alloc, BuildHasherDefault::new()),
             by_predicate: Vec::new(alloc),
             steps: Vec::new(alloc),
         }

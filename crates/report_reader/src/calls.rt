@@ -21,7 +21,7 @@ fn arguments_in(
     ensures { IfOk result (λ found. Finds (All (IsArgument objects)) (λ names. names) found
         fields.old) }
 {
-    let mut names = Vec::new(alloc);
+    let mut names = Vec::with_capacity(alloc, fields.len())?;
     while let Some(field) = fields.next() {
         if !is_argument(field, objects) {
             return Ok(None);
@@ -39,7 +39,7 @@ pub(crate) fn names_in(
 ) -> Result<Option<Seq<Name>>, AllocError>
     ensures { IfOk result (λ found. Finds (All IsName) (λ names. names) found fields.old) }
 {
-    let mut names = Vec::new(alloc);
+    let mut names = Vec::with_capacity(alloc, fields.len())?;
     while let Some(field) = fields.next() {
         if !is_name(field) {
             return Ok(None);

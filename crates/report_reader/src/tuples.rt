@@ -41,7 +41,7 @@ pub(crate) fn tuples_in(
     let Some(Shape { bars, width }) = shape_of(version, fields) else {
         return Ok(None);
     };
-    let mut values = Vec::new(alloc);
+    let mut values = Vec::with_capacity(alloc, fields.len())?;
     if !take_tuples(alloc, fields, width, bars, &mut values)? {
         return Ok(None);
     }

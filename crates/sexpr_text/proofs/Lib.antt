@@ -1,6 +1,8 @@
 pub mod LexingLemmas
 pub mod TokensLemmas
 pub mod TreesLemmas
+pub mod NestLemmas
+pub mod NestEndLemmas
 pub mod ReadingSound
 pub mod ReadingComplete
 pub mod TreesSizeLemmas

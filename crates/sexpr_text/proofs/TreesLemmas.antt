@@ -1,60 +1,69 @@
--- Rows of trees, and the lists that are open.
-use Rattle.std.proofs.Common.{◌≡◌, ℕ, List, [], ◌∷◌, ◌++◌, refl, sym, ◌∙◌, ap}
-use Rattle.std.specs.declared.alloc.Global.{Global}
-use Rattle.std.specs.declared.vec.Vec.{Vec}
-use Rattle.sexpr_text.specs.declared.tree.Tree.{Tree, Word, List as Node}
-use Rattle.sexpr_text.specs.declared.tree.Tree.TheOpen.{Tree-F}
-use Rattle.sexpr_text.specs.declared.tree.Tree.TheVariants.{rolls-Word, rolls-List}
-use Rattle.sexpr_text.specs.declared.tree.Tree.TheFolds.{fold-roll-Tree}
-use Rattle.sexpr_text.specs.declared.nest.Open.{Open}
-use Rattle.sexpr_text.specs.Trees.{Trees, word, list, level, tree_then, trees_then, trees}
-use Rattle.sexpr_text.specs.Reading.{Levels, opened}
-use Rattle.sexpr_text.specs.Nesting.{framed, around, closing}
+-- Rows of trees.
+use Rattle.std.proofs.Common.{◌≡◌, ℕ, zero, suc, ◌-◌, ◌≤◌, min, List, [], ◌∷◌, ◌++◌, length, take, drop, refl, sym, ◌∙◌, ap, arith}
+use Rattle.std.proofs.Math.Seq.{drop-append_seam, take-append_seam}
+use Rattle.std.proofs.lemmas.List.{append-nil, drop_min, length-drop, length-take, take_min, take_rest}
+use Rattle.sexpr_text.specs.declared.tree.Node.{Node}
+use Rattle.sexpr_text.specs.declared.tree.Node.TheVariants as node
+use Rattle.sexpr_text.specs.Trees.{Trees, nothing, word, list, spelled, trees, trees_then}
 
--- one more tree at the end of a row
-pub trees_then-push : (ts : List Tree) (t : Tree) (rest : Trees)
-    → trees_then (ts ++ t ∷ []) rest ≡ trees_then ts (tree_then t rest)
-trees_then-push [] t rest = refl
-trees_then-push (x ∷ xs) t rest = ap (tree_then x) (trees_then-push xs t rest)
+-- two rows of a list alike
+list_alike : (items items' : Trees) (place : ℕ) (rest rest' : Trees) → items ≡ items' → rest ≡ rest'
+    → list items place rest ≡ list items' place rest'
+list_alike items items' place rest rest' e f = cc
 
--- one more open list inside of the others
-pub around-push : (os : List Open) (o : Open) (l : Levels)
-    → around (os ++ o ∷ []) l ≡ around os (framed o l)
-around-push [] o l = refl
-around-push (p ∷ os) o l = ap (framed p) (around-push os o l)
+take_short : (n : ℕ) (ts : List Node) → length (take n ts) ≤ length ts
+take_short n ts = let e = length-take n ts in omega arith
 
-pub tree_then-Word : (text : List ℕ) (place : ℕ) (rest : Trees)
-    → tree_then (Word text place) rest ≡ word text place rest
-tree_then-Word text place rest =
-    ap (λ (t : Tree). tree_then t rest) (sym (rolls-Word text place))
-    ∙ ap (λ (f : Trees → Trees). f rest) (fold-roll-Tree (Trees → Trees) level (Tree-F.Word text place))
+drop_short : (n : ℕ) (ts : List Node) → length (drop n ts) ≤ length ts
+drop_short n ts = let e = length-drop n ts in omega arith
 
--- one more word at the end of a row
-pub trees_then-word : (ts us : List Tree) (text : List ℕ) (place : ℕ) (rest : Trees)
-    → us ≡ ts ++ Word text place ∷ [] → trees_then us rest ≡ trees_then ts (word text place rest)
-trees_then-word ts us text place rest e =
-    ap (λ vs. trees_then vs rest) e ∙ trees_then-push ts (Word text place) rest
-    ∙ ap (trees_then ts) (tree_then-Word text place rest)
+-- A number past the row's length changes nothing.
+pub spelled_alike : (n m : ℕ) (ts : List Node) (rest : Trees) → length ts ≤ n → length ts ≤ m
+    → spelled n ts rest ≡ spelled m ts rest
+spelled_alike n m [] rest p q = refl
+spelled_alike zero m (t ∷ ts) rest p q = absurd (omega arith)
+spelled_alike (suc n) zero (t ∷ ts) rest p q = absurd (omega arith)
+spelled_alike (suc n) (suc m) (node.Word text place ∷ ts) rest p q =
+    ap (word text place) (spelled_alike n m ts rest (omega arith) (omega arith))
+spelled_alike (suc n) (suc m) (node.List count place ∷ ts) rest p q =
+    let a = take_short count ts in
+    let b = drop_short count ts in
+    list_alike (spelled n (take count ts) nothing) (spelled m (take count ts) nothing) place
+    (spelled n (drop count ts) rest) (spelled m (drop count ts) rest)
+    (spelled_alike n m (take count ts) nothing (omega arith) (omega arith))
+    (spelled_alike n m (drop count ts) rest (omega arith) (omega arith))
 
-pub tree_then-List : (items : Vec Tree Global) (place : ℕ) (rest : Trees)
-    → tree_then (Node items place) rest ≡ list (trees items.items) place rest
-tree_then-List items place rest =
-    ap (λ (t : Tree). tree_then t rest) (sym (rolls-List items place))
-    ∙ ap (λ (f : Trees → Trees). f rest) (fold-roll-Tree (Trees → Trees) level (Tree-F.List items place))
+-- a list first in a row
+pub list_first : (count place : ℕ) (ts : List Node) (rest : Trees)
+    → trees_then (node.List count place ∷ ts) rest
+    ≡ list (trees (take count ts)) place (trees_then (drop count ts) rest)
+list_first count place ts rest =
+    list_alike (spelled (length ts) (take count ts) nothing) (trees (take count ts)) place
+    (spelled (length ts) (drop count ts) rest) (trees_then (drop count ts) rest)
+    (spelled_alike (length ts) (length (take count ts)) (take count ts) nothing (take_short count ts) (omega arith))
+    (spelled_alike (length ts) (length (drop count ts)) (drop count ts) rest (drop_short count ts) (omega arith))
 
--- one more list at the end of a row
-trees_then-list : (ts us : List Tree) (items : Vec Tree Global) (place : ℕ) (rest : Trees)
-    → us ≡ ts ++ Node items place ∷ []
-    → trees_then us rest ≡ trees_then ts (list (trees items.items) place rest)
-trees_then-list ts us items place rest e =
-    ap (λ vs. trees_then vs rest) e ∙ trees_then-push ts (Node items place) rest
-    ∙ ap (trees_then ts) (tree_then-List items place rest)
+-- a list, with all that stands in it, first in a row
+pub list_then : (place : ℕ) (row more : List Node) (rest : Trees)
+    → trees_then (node.List (length row) place ∷ (row ++ more)) rest ≡ list (trees row) place (trees_then more rest)
+list_then place row more rest =
+    list_first (length row) place (row ++ more) rest
+    ∙ list_alike (trees (take (length row) (row ++ more))) (trees row) place
+    (trees_then (drop (length row) (row ++ more)) rest) (trees_then more rest)
+    (ap trees (take-append_seam row more)) (ap (λ ts. trees_then ts rest) (drop-append_seam row more))
 
--- A `)` puts the innermost list at the end of the one around it.
-pub closing_inside : (os ps : List Open) (inner o : Open) (us : List Tree) (l : Levels)
-    → os ≡ ps ++ o ∷ [] → us ≡ o.items.items ++ Node inner.items inner.place ∷ []
-    → around os (framed inner (closing l)) ≡ around ps (opened o.place (trees_then us l.inner) l.outer)
-closing_inside os ps inner o us l e f =
-    ap (λ qs. around qs (framed inner (closing l))) e
-    ∙ around-push ps o (framed inner (closing l))
-    ∙ ap (λ ts. around ps (opened o.place ts l.outer)) (sym (trees_then-list o.items.items us inner.items inner.place l.inner f))
+pub list_alone : (place : ℕ) (row : List Node) (rest : Trees)
+    → trees_then (node.List (length row) place ∷ row) rest ≡ list (trees row) place rest
+list_alone place row rest =
+    ap (λ ts. trees_then (node.List (length row) place ∷ ts) rest) (sym (append-nil row)) ∙ list_then place row [] rest
+
+-- the list that is shown of one first in a row
+pub list_shown : (count place inside : ℕ) (ts : List Node) → inside ≡ min count (length ts)
+    → trees (node.List count place ∷ ts)
+    ≡ list (trees (take inside ts)) place (trees (take (length ts - inside) (drop inside ts)))
+list_shown count place inside ts e =
+    list_first count place ts nothing
+    ∙ list_alike (trees (take count ts)) (trees (take inside ts)) place (trees (drop count ts))
+    (trees (take (length ts - inside) (drop inside ts)))
+    (ap trees (sym (ap (λ i. take i ts) e ∙ take_min count ts)))
+    (ap trees (sym (take_rest ts inside ∙ ap (λ i. drop i ts) e ∙ drop_min count ts)))

@@ -1,8 +1,8 @@
 -- Words and lists without where they lie in memory.
-use Rattle.std.specs.Prelude.{ℕ, ◌+◌, max, List, [], ◌∷◌, map, length}
+use Rattle.std.specs.Prelude.{ℕ, zero, suc, ◌+◌, max, List, [], ◌∷◌, length, take, drop}
+use Rattle.sexpr_text.specs.declared.tree.Node.{Node}
+use Rattle.sexpr_text.specs.declared.tree.Node.TheVariants as node
 use Rattle.sexpr_text.specs.declared.tree.Tree.{Tree}
-use Rattle.sexpr_text.specs.declared.tree.Tree.TheOpen.{Tree-F}
-use Rattle.sexpr_text.specs.declared.tree.Tree.TheFolds.{fold-Tree}
 
 -- Trees one after the other, as they stand in a list. A word has its letters and its place, a list the
 -- trees in it and its place. Each is followed by the trees after it.
@@ -11,29 +11,25 @@ pub data Trees : Type 0 where
   word : List ℕ → ℕ → Trees → Trees
   list : Trees → ℕ → Trees → Trees
 
-abbrev pub in_row : List (Trees → Trees) → Trees → Trees
-in_row [] rest = rest
-in_row (t ∷ ts) rest = t (in_row ts rest)
+-- The trees that a row of nodes spells, and the trees after it. In a list stand as many of the nodes behind it as its
+-- count says, or all where they are fewer. The number is at least the row's length.
+abbrev pub spelled : ℕ → List Node → Trees → Trees
+spelled n [] rest = rest
+spelled zero (t ∷ ts) rest = rest
+spelled (suc n) (node.Word text place ∷ ts) rest = word text place (spelled n ts rest)
+spelled (suc n) (node.List count place ∷ ts) rest =
+    list (spelled n (take count ts) nothing) place (spelled n (drop count ts) rest)
 
--- one level, and the trees after it
-abbrev pub level : Tree-F (Trees → Trees) → Trees → Trees
-level (Tree-F.Word text place) rest = word text place rest
-level (Tree-F.List items place) rest = list (in_row items.items nothing) place rest
+abbrev pub trees_then : List Node → Trees → Trees
+trees_then ts rest = spelled (length ts) ts rest
 
--- a tree, and the trees after it
-abbrev pub tree_then : Tree → Trees → Trees
-tree_then = fold-Tree (Trees → Trees) level
-
-abbrev pub trees_then : List Tree → Trees → Trees
-trees_then ts rest = in_row (map tree_then ts) rest
-
--- one tree alone
-abbrev pub tree : Tree → Trees
-tree t = tree_then t nothing
-
--- trees in a row
-abbrev pub trees : List Tree → Trees
+-- the trees of a row of nodes
+abbrev pub trees : List Node → Trees
 trees ts = trees_then ts nothing
+
+-- one list alone
+abbrev pub tree : Tree → Trees
+tree t = list (trees t.items.items) t.place nothing
 
 -- how many lists stand in one another
 abbrev pub depth : Trees → ℕ

@@ -1,9 +1,10 @@
 //! How layers above go through trees.
-ghost use Rattle.std.specs.Prelude.{◌≡◌};
+ghost use Rattle.std.specs.Prelude.{◌≡◌, ◌∷◌};
+ghost use Rattle.sexpr_text.specs.declared.tree.Node.TheVariants as node;
 ghost use Rattle.sexpr_text.specs.Trees.{tree, trees};
 ghost use Rattle.sexpr_text.specs.Front.{shown};
 
-use crate::tree::Tree;
+use crate::tree::{Node, Tree};
 
 /// The first of some trees in a row, and those after it.
 #[derive(Clone, Copy, Debug)]
@@ -14,49 +15,52 @@ pub enum Front<'a> {
     Word {
         text: &'a [u8],
         place: usize,
-        rest: &'a [Tree],
+        rest: &'a [Node],
     },
     /// A list: the trees in it, its place, and the trees after it.
     List {
-        items: &'a [Tree],
+        items: &'a [Node],
         place: usize,
-        rest: &'a [Tree],
+        rest: &'a [Node],
     },
 }
 
 /// What stands first in a row of trees. It takes no memory.
-pub fn front_of<'a>(items: &'a [Tree]) -> Front<'a>
+#[inline(always)]
+pub fn front_of<'a>(items: &'a [Node]) -> Front<'a>
     ensures { trees items.now ≡ shown result }
 {
     match items {
         [] => Front::End,
-        [Tree::Word { text, place }, rest @ ..] => Front::Word {
+        [Node::Word { text, place }, rest @ ..] => Front::Word {
             text: text.bytes(),
             place: *place,
             rest,
         },
-        [Tree::List { items, place }, rest @ ..] => Front::List {
-            items,
-            place: *place,
-            rest,
-        },
+        [Node::List { count, place }, behind @ ..] => list_front(*count, *place, behind),
     }
 }
 
-/// What one tree is, as a row of it alone. It takes no memory.
+/// A list in which so many nodes stand, or as many as are behind it.
+#[inline(always)]
+fn list_front<'a>(count: usize, place: usize, behind: &'a [Node]) -> Front<'a>
+    ensures { trees (node.List count place ∷ behind.now) ≡ shown result }
+{
+    let inside = count.min(behind.len());
+    Front::List {
+        items: &behind[..inside],
+        place,
+        rest: &behind[inside..],
+    }
+}
+
+/// What one list that stands alone is, as a row of it alone. It takes no memory.
 pub fn alone<'a>(one: &'a Tree) -> Front<'a>
     ensures { tree one.now ≡ shown result }
 {
-    match one {
-        Tree::Word { text, place } => Front::Word {
-            text: text.bytes(),
-            place: *place,
-            rest: &[],
-        },
-        Tree::List { items, place } => Front::List {
-            items,
-            place: *place,
-            rest: &[],
-        },
+    Front::List {
+        items: one.items.as_slice(),
+        place: one.place,
+        rest: &[],
     }
 }

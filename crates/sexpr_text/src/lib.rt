@@ -20,4 +20,4 @@ pub use fault::TextFault;
 pub use front::{Front, alone, front_of};
 pub use reader::read_tree;
 pub use text::Text;
-pub use tree::Tree;
+pub use tree::{Node, Tree};

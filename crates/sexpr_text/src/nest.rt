@@ -1,18 +1,16 @@
 //! The lists that are open at a place of the text.
-ghost use Rattle.std.specs.Prelude.{◌≡◌, ◌+◌, IfOk};
-ghost use Rattle.sexpr_text.specs.Trees.{word};
-ghost use Rattle.sexpr_text.specs.Reading.{Levels, opened};
-ghost use Rattle.sexpr_text.specs.Nesting.{nested, open_count, Closes};
+ghost use Rattle.std.specs.Prelude.{◌≡◌, [], IfOk};
+ghost use Rattle.sexpr_text.specs.Nesting.{Opens, one, open_count, Holds, IsNest, Adds, Closes};
 
 use crate::text::Text;
-use crate::tree::Tree;
+use crate::tree::{Node, Tree};
 use std::alloc::{AllocError, Global};
 
-/// A list that isn't closed yet.
-#[derive(Debug, Drop)]
-pub struct Open {
-    /// The trees in it so far, in order.
-    pub items: Vec<Tree>,
+/// A list in another one that isn't closed yet.
+#[derive(Clone, Copy, Debug)]
+pub struct Begun {
+    /// Where it stands in the row.
+    pub at: usize,
     /// The place of its `(`.
     pub place: usize,
 }
@@ -20,84 +18,66 @@ pub struct Open {
 /// The open lists.
 #[derive(Debug, Drop)]
 pub struct Nest {
-    /// The innermost.
-    pub inner: Open,
-    /// Those around it, the outermost first.
-    pub outer: Vec<Open>,
-}
-
-/// What is there after a `)`.
-#[derive(Debug, Drop)]
-pub enum Closed {
-    /// The lists that are still open.
-    Inside(Nest),
-    /// The outermost list, which is whole now.
-    Whole(Tree),
+    /// What stands in the outermost list so far.
+    pub items: Vec<Node>,
+    /// The place of its `(`.
+    pub place: usize,
+    /// The open lists in it, the innermost last.
+    pub begun: Vec<Begun>,
 }
 
 impl Nest {
     /// One open list, whose `(` stands at the place.
     pub fn new(alloc: Global, place: usize) -> Nest
-        ensures count { open_count result ≡ 1 }
-        ensures same { (l : Levels) → nested result l ≡ opened place l.inner l.outer }
+        ensures { Holds result (one place []) }
     {
         Nest {
-            inner: Open {
-                items: Vec::new(alloc),
-                place,
-            },
-            outer: Vec::new(alloc),
+            items: Vec::new(alloc),
+            place,
+            begun: Vec::new(alloc),
         }
     }
 
     /// How many lists are open.
     pub fn open_count(&self) -> usize
-        ensures { result ≡ open_count self.now }
+        ensures { (os : Opens) → Holds self.now os → result ≡ open_count os }
     {
-        self.outer.len() + 1
+        self.begun.len() + 1
     }
 
-    /// Adds a word to the innermost list.
-    pub fn with_word(mut self, text: Text, place: usize) -> Result<Nest, AllocError>
-        ensures count { IfOk result (λ nest. open_count nest ≡ open_count self) }
-        ensures same { IfOk result (λ nest. (l : Levels) →
-            nested nest l ≡ nested self (record l { inner = word text place l.inner })) }
+    /// Adds a word to the innermost list, or opens a list in it.
+    pub fn add(&mut self, node: Node) -> Result<(), AllocError>
+        ensures { IfOk result (λ _. (os : Opens) → Holds self.old os → Adds os node self.new) }
     {
-        self.inner.items.push(Tree::Word { text, place })?;
-        Ok(self)
+        if let Node::List { place, .. } = node {
+            let at = self.items.len();
+            self.begun.push(Begun { at, place })?;
+        }
+        self.items.push(node)?;
+        Ok(())
     }
 
-    /// Opens a list in the innermost list.
-    pub fn opened(self, alloc: Global, place: usize) -> Result<Nest, AllocError>
-        ensures count { IfOk result (λ nest. open_count nest ≡ open_count self + 1) }
-        ensures same { IfOk result (λ nest. (l : Levels) →
-            nested nest l ≡ nested self (opened place l.inner l.outer)) }
+    /// Closes the innermost list, if it isn't the outermost, and answers whether it did.
+    pub fn close(&mut self) -> bool
+        requires { IsNest self.old }
+        ensures { (os : Opens) → Holds self.old os → Closes os result self.new }
     {
-        let Nest { inner, mut outer } = self;
-        outer.push(inner)?;
-        Ok(Nest {
-            inner: Open {
-                items: Vec::new(alloc),
-                place,
-            },
-            outer,
-        })
-    }
-
-    /// Closes the innermost list.
-    pub fn closed(self) -> Result<Closed, AllocError>
-        ensures { IfOk result (λ now. Closes self now) }
-    {
-        let Nest { inner, mut outer } = self;
-        let Open { items, place } = inner;
-        let list = Tree::List { items, place };
-        let Some(Open { mut items, place }) = outer.pop() else {
-            return Ok(Closed::Whole(list));
+        let Some(Begun { at, place }) = self.begun.pop() else {
+            return false;
         };
-        items.push(list)?;
-        Ok(Closed::Inside(Nest {
-            inner: Open { items, place },
-            outer,
-        }))
+        let count = self.items.len() - at - 1;
+        self.items[at] = Node::List { count, place };
+        true
+    }
+
+    /// The outermost list, with what stands in it so far.
+    pub fn into_tree(self) -> Tree
+        ensures items { result.items ≡ self.items }
+        ensures place { result.place ≡ self.place }
+    {
+        Tree {
+            items: self.items,
+            place: self.place,
+        }
     }
 }

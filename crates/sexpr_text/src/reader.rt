@@ -8,9 +8,9 @@ ghost use Rattle.sexpr_text.specs.Scanning.{token_of};
 ghost use Rattle.sexpr_text.specs.Nesting.{NestEnds};
 
 use crate::fault::TextFault;
-use crate::nest::{Closed, Nest};
+use crate::nest::Nest;
 use crate::scanner::{Lexeme, Placed, Scanner};
-use crate::tree::Tree;
+use crate::tree::{Node, Tree};
 use std::alloc::Global;
 
 /// How many lists may stand in one another.
@@ -97,15 +97,21 @@ fn read_list(
         let Some(Placed { lexeme, place: at }) = scanner.next(alloc)? else {
             return Err(TextFault::Unclosed(end));
         };
-        match lexeme {
+        let node = match lexeme {
             Lexeme::Bad => return Err(TextFault::BadByte(at)),
-            Lexeme::Word(text) => nest = nest.with_word(text, at)?,
+            Lexeme::Word(text) => Node::Word { text, place: at },
             Lexeme::Left if nest.open_count() == MAX_DEPTH => return Err(TextFault::TooDeep(at)),
-            Lexeme::Left => nest = nest.opened(alloc, at)?,
-            Lexeme::Right => match nest.closed()? {
-                Closed::Inside(still_open) => nest = still_open,
-                Closed::Whole(tree) => return Ok(tree),
+            Lexeme::Left => Node::List {
+                count: 0,
+                place: at,
             },
-        }
+            Lexeme::Right => {
+                if !nest.close() {
+                    return Ok(nest.into_tree());
+                }
+                continue 'tokens;
+            }
+        };
+        nest.add(node)?;
     }
 }

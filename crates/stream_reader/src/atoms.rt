@@ -8,7 +8,7 @@ ghost use Rattle.stream_reader.specs.Atoms as specs;
 
 use form_reader::{Fault, InputKind, head_of};
 use name_tables::{Scope, Vocabulary, check_application, pattern_of, unless};
-use sexpr_text::{Front, Tree, front_of};
+use sexpr_text::{Front, Node, front_of};
 use std::alloc::{AllocError, Global};
 use task_model::{Pattern, Role};
 
@@ -38,7 +38,7 @@ fn check_atom(
     roles: &[Role],
     scope: &Scope,
     place: usize,
-    items: &[Tree],
+    items: &[Node],
     so_far: Option<Fault>,
 ) -> Result<Option<Fault>, AllocError>
     ensures { IfOk result (λ f. f ≡ first so_far
@@ -63,7 +63,7 @@ pub(crate) fn check_atoms(
     roles: &[Role],
     scope: &Scope,
     place: usize,
-    items: &[Tree],
+    items: &[Node],
     so_far: Option<Fault>,
 ) -> Result<Option<Fault>, AllocError>
     ensures { IfOk result (λ f. f ≡ first so_far
@@ -87,7 +87,7 @@ fn check_atom_rows(
     names: &Vocabulary,
     roles: &[Role],
     scope: &Scope,
-    items: &[Tree],
+    items: &[Node],
     so_far: Option<Fault>,
 ) -> Result<Option<Fault>, AllocError>
     ensures { IfOk result (λ f. f ≡ first so_far
@@ -114,7 +114,7 @@ fn add_patterns(
     names: &Vocabulary,
     scope: &Scope,
     list: &mut Vec<Pattern>,
-    items: &[Tree],
+    items: &[Node],
 ) -> Result<(), AllocError>
     ensures { OnOk result (list.new.items ≡ list.old.items
         ++ specs.patterns_of names.now scope.now (trees items.now)) }
@@ -139,7 +139,7 @@ fn add_row_patterns(
     names: &Vocabulary,
     scope: &Scope,
     list: &mut Vec<Pattern>,
-    items: &[Tree],
+    items: &[Node],
 ) -> Result<(), AllocError>
     ensures { OnOk result (list.new.items ≡ list.old.items
         ++ specs.row_patterns names.now scope.now (trees items.now)) }
@@ -162,7 +162,7 @@ pub(crate) fn patterns_of(
     alloc: Global,
     names: &Vocabulary,
     scope: &Scope,
-    items: &[Tree],
+    items: &[Node],
 ) -> Result<Vec<Pattern>, AllocError>
     ensures { IfOk result (λ list. list.items
         ≡ specs.patterns_of names.now scope.now (trees items.now)) }

@@ -7,7 +7,7 @@ ghost use Rattle.stream_reader.specs.Reading.{AnswersAcyclic};
 use crate::tables::kind_of;
 use form_reader::{Fault, InputKind, Keyed};
 use name_tables::{Candidate, check_cycles, next, number};
-use sexpr_text::{Front, Tree, front_of};
+use sexpr_text::{Front, Node, front_of};
 use std::alloc::{AllocError, Global};
 use task_model::{Domain, Seq, Stream, stream_leads};
 
@@ -63,7 +63,7 @@ fn is_there(kind: Option<Keyed>) -> bool
 }
 
 /// The streams of a text by their numbers, with their places. Fails only where memory is wanting.
-fn candidates_of(alloc: Global, items: &[Tree]) -> Result<Vec<Candidate>, AllocError>
+fn candidates_of(alloc: Global, items: &[Node]) -> Result<Vec<Candidate>, AllocError>
     ensures { IfOk result (λ list. list.items ≡ specs.candidates_of 0 (trees items.now)) }
 {
     let mut list = Vec::new(alloc);
@@ -91,7 +91,7 @@ pub(crate) fn check_acyclic(
     alloc: Global,
     domain: &Domain,
     streams: &[Stream],
-    body: &[Tree],
+    body: &[Node],
 ) -> Result<Option<Fault>, AllocError>
     ensures { IfOk result (λ f. AnswersAcyclic domain.now streams.now (trees body.now) f) }
 {

@@ -15,7 +15,7 @@ use name_tables::{
     NameTable, Vocabulary, check_application, check_doubles, check_repeated, check_types, is_named,
     next, unless,
 };
-use sexpr_text::{Front, Tree, front_of};
+use sexpr_text::{Front, Node, front_of};
 use std::alloc::{AllocError, Global};
 use task_model::Role;
 
@@ -23,7 +23,7 @@ use task_model::Role;
 const MAX_VARIABLES: usize = 8;
 
 /// None of these is the 9th variable of its list.
-fn check_ninth(items: &[Tree], so_far: Option<Fault>) -> Result<Option<Fault>, AllocError>
+fn check_ninth(items: &[Node], so_far: Option<Fault>) -> Result<Option<Fault>, AllocError>
     ensures { IfOk result (λ f. f ≡ first so_far (specs.ninth_names 0 Start (trees items.now))) }
 {
     let mut left = items;
@@ -46,7 +46,7 @@ fn check_ninth(items: &[Tree], so_far: Option<Fault>) -> Result<Option<Fault>, A
 /// A list of inputs or outputs.
 fn check_variables(
     names: &Vocabulary,
-    items: &[Tree],
+    items: &[Node],
     so_far: Option<Fault>,
 ) -> Result<Option<Fault>, AllocError>
     ensures { IfOk result (λ f. f ≡ first so_far
@@ -63,7 +63,7 @@ fn check_value(
     scopes: &Scopes,
     key: Key,
     place: usize,
-    items: &[Tree],
+    items: &[Node],
     so_far: Option<Fault>,
 ) -> Result<Option<Fault>, AllocError>
     ensures { IfOk result (λ f. f ≡ first so_far
@@ -91,7 +91,7 @@ fn check_keys(
     roles: &[Role],
     scopes: &Scopes,
     keyed: Keyed,
-    items: &[Tree],
+    items: &[Node],
     so_far: Option<Fault>,
 ) -> Result<Option<Fault>, AllocError>
     ensures { IfOk result (λ f. f ≡ first so_far
@@ -126,7 +126,7 @@ fn has_variables(key: Key) -> bool
 fn check_second_variables(
     alloc: Global,
     keyed: Keyed,
-    items: &[Tree],
+    items: &[Node],
     so_far: Option<Fault>,
 ) -> Result<Option<Fault>, AllocError>
     ensures { IfOk result (λ f. f ≡ first so_far
@@ -159,7 +159,7 @@ fn check_stream(
     names: &Vocabulary,
     roles: &[Role],
     keyed: Keyed,
-    keys: &[Tree],
+    keys: &[Node],
     so_far: Option<Fault>,
 ) -> Result<Option<Fault>, AllocError>
     ensures { IfOk result (λ f. f ≡ first so_far
@@ -178,7 +178,7 @@ fn check_item(
     names: &Vocabulary,
     roles: &[Role],
     kind: Option<Keyed>,
-    keys: &[Tree],
+    keys: &[Node],
     so_far: Option<Fault>,
 ) -> Result<Option<Fault>, AllocError>
     ensures { IfOk result (λ f. f ≡ first so_far
@@ -195,7 +195,7 @@ fn check_items(
     alloc: Global,
     names: &Vocabulary,
     roles: &[Role],
-    items: &[Tree],
+    items: &[Node],
     so_far: Option<Fault>,
 ) -> Result<Option<Fault>, AllocError>
     ensures { IfOk result (λ f. f ≡ first so_far
@@ -219,7 +219,7 @@ fn check_items(
 /// No two streams have one name.
 fn check_second_streams(
     alloc: Global,
-    items: &[Tree],
+    items: &[Node],
     so_far: Option<Fault>,
 ) -> Result<Option<Fault>, AllocError>
     ensures { IfOk result (λ f. f ≡ first so_far (specs.second_streams [] (trees items.now))) }
@@ -246,7 +246,7 @@ pub(crate) fn check_plain(
     alloc: Global,
     names: &Vocabulary,
     roles: &[Role],
-    body: &[Tree],
+    body: &[Node],
 ) -> Result<Option<Fault>, AllocError>
     ensures { IfOk result (λ f. f ≡ least_fault
         (specs.stream_plain_names names.now roles.now (trees body.now))) }

@@ -7,7 +7,7 @@ use crate::atoms::patterns_of;
 use crate::tables::{kind_of, scopes_of};
 use form_reader::{Keyed, head_of, tail_of};
 use name_tables::{Scope, Vocabulary, declared_place, named_sorts, terms_of, value_at};
-use sexpr_text::{Front, Tree, front_of};
+use sexpr_text::{Front, Node, front_of};
 use std::alloc::{AllocError, Global};
 use task_model::{Name, Seq, Stream, Worth};
 
@@ -17,7 +17,7 @@ fn worth_of(
     names: &Vocabulary,
     inputs: &Scope,
     keyed: Keyed,
-    items: &[Tree],
+    items: &[Node],
 ) -> Result<Option<Worth>, AllocError>
     ensures { IfOk result (λ worth. worth
         ≡ specs.worth_of names.now inputs.now keyed (trees items.now)) }
@@ -41,7 +41,7 @@ fn stream_of(
     names: &Vocabulary,
     keyed: Keyed,
     name: &[u8],
-    keys: &[Tree],
+    keys: &[Node],
 ) -> Result<Stream, AllocError>
     ensures { IfOk result (λ stream. stream
         ≡ specs.stream_of names.now keyed name.now (trees keys.now)) }
@@ -74,7 +74,7 @@ fn add_item(
     names: &Vocabulary,
     list: &mut Vec<Stream>,
     kind: Option<Keyed>,
-    items: &[Tree],
+    items: &[Node],
 ) -> Result<(), AllocError>
     ensures { OnOk result (list.new.items ≡ list.old.items
         ++ specs.item_streams names.now kind (trees items.now)) }
@@ -93,7 +93,7 @@ fn add_item(
 pub(crate) fn streams_of(
     alloc: Global,
     names: &Vocabulary,
-    items: &[Tree],
+    items: &[Node],
 ) -> Result<Vec<Stream>, AllocError>
     ensures { IfOk result (λ list. list.items ≡ specs.streams_of names.now (trees items.now)) }
 {

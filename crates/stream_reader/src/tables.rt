@@ -5,7 +5,7 @@ ghost use Rattle.stream_reader.specs.Tables as specs;
 
 use form_reader::{Item, Keyed, TextKind, head_of, tail_of};
 use name_tables::{Scope, Vocabulary, enter, value_at};
-use sexpr_text::Tree;
+use sexpr_text::Node;
 use std::alloc::{AllocError, Global};
 use task_model::Domain;
 
@@ -40,21 +40,21 @@ fn stream_kind(item: Item) -> Option<Keyed>
 }
 
 /// The kind of a stream that a list is, if it is one.
-pub(crate) fn kind_of(items: &[Tree]) -> Option<Keyed>
+pub(crate) fn kind_of(items: &[Node]) -> Option<Keyed>
     ensures { result ≡ specs.kind_of (trees items.now) }
 {
     stream_kind(TextKind::Streams.item_of(head_of(items)))
 }
 
 /// The keys behind a stream's name.
-pub(crate) fn keys_of<'a>(items: &'a [Tree]) -> &'a [Tree]
+pub(crate) fn keys_of<'a>(items: &'a [Node]) -> &'a [Node]
     ensures { trees result.now ≡ specs.keys_of (trees items.now) }
 {
     tail_of(tail_of(items))
 }
 
 /// The variables of a stream with these keys. Fails only where memory is wanting.
-pub(crate) fn scopes_of(alloc: Global, keys: &[Tree]) -> Result<Scopes, AllocError>
+pub(crate) fn scopes_of(alloc: Global, keys: &[Node]) -> Result<Scopes, AllocError>
     ensures { IfOk result (λ scopes. scopes ≡ specs.scopes_of (trees keys.now)) }
 {
     let mut inputs = Scope::new(alloc);

@@ -15,7 +15,7 @@ fn name_objects<L: Look>(alloc: Global, look: &L, objects: &[Obj]) -> Result<Seq
     requires { All (IsIn (L.known look.now).names) objects.now }
     ensures { IfOk result (λ names. names ≡ map (name_at (L.known look.now).names) objects.now) }
 {
-    let mut names = Vec::new(alloc);
+    let mut names = Vec::with_capacity(alloc, objects.len())?;
     for object in objects {
         let name = look.name(*object).copy(alloc)?;
         names.push(name)?;

@@ -13,14 +13,14 @@ loop-sort-preserved c =
     let same = c.as_slice-sort-items.ensures in
     record {
       facts = block_more (λ sort. type_facts c.args.domain.now sort c.args.object) c.args.declared.now.sorts c.loop-sort.sort-index 0
-          c.loop-sort.facts.known.facts c.add_supertypes.new.facts.known.facts
+          c.loop-sort.facts.known.facts c.add_each_type.new.facts.known.facts
           (subst (λ xs. c.loop-sort.sort-index < length xs) same c.loop-sort-test.true)
-          (c.in_ok-add_supertypes.ensures.facts
+          (c.in_ok-add_each_type.ensures.facts
           ∙ ap (λ xs. with_facts c.loop-sort.facts.known.facts
           (type_facts c.args.domain.now (get_or xs c.loop-sort.sort-index 0) c.args.object)) same)
           ∙ c.loop-sort.invariant.facts;
-      names = c.in_ok-add_supertypes.ensures.names ∙ c.loop-sort.invariant.names;
-      values = c.in_ok-add_supertypes.ensures.values ∙ c.loop-sort.invariant.values;
+      names = c.in_ok-add_each_type.ensures.names ∙ c.loop-sort.invariant.names;
+      values = c.in_ok-add_each_type.ensures.values ∙ c.loop-sort.invariant.values;
     }
 
 -- after the loop all types that were given are there
@@ -48,7 +48,7 @@ returns-then-is_typed-clause-facts c =
 pub returns-clause-facts : goal.returns-clause-facts
 returns-clause-facts c =
     let all = given (goal.at.returns-clause-facts c).After-is_typed in
-    on_ok_weaker c.add_supertypes-2.result (λ e.
+    on_ok_weaker c.add_each_type-2.result (λ e.
     e ∙ ap (λ fs. with_facts fs (type_facts c.args.domain.now 0 c.args.object)) all
     ∙ block_end (λ sort. type_facts c.args.domain.now sort c.args.object) c.args.declared.now.sorts 0 c.args.facts.now.known.facts)
-    c.add_supertypes-2.ensures.facts
+    c.add_each_type-2.ensures.facts

@@ -11,8 +11,8 @@ is_static_fact-requires-clause-place c =
     (all_at_or (is_fit_fact c.args.domain.now (length c.args.facts.now.known.names)) c.args.init.now c.loop-fact.fact-index
     c.fact-item.result c.requires.fit c.loop-fact-test.true c.fact-item.is)
 
-pub add-requires : goal.add-requires
-add-requires c =
+pub add_uncovered-requires : goal.add_uncovered-requires
+add_uncovered-requires c =
     let fit = all_at_or (is_fit_fact c.args.domain.now (length c.args.facts.now.known.names)) c.args.init.now c.loop-fact.fact-index
     c.fact-item.result c.requires.fit c.loop-fact-test.true c.fact-item.is in
     subst (λ f. All (IsIn c.loop-fact.facts.known.names) f.args) (sym c.in_ok-copy.ensures)

@@ -49,4 +49,4 @@ returns c =
     c.in_ok-add_static.ensures.values ∙ c.in_ok-add_objects.ensures.values ∙ c.in_ok-add_names.ensures.values
     ∙ ap (λ s. s.known.values) c.reserve.ensures ∙ ap (λ k. k.values) c.requires.empty in
     let values = c.in_ok-add_values.ensures.values ∙ (λ i. with_values (no_values i) (c.as_slice-4.ensures i)) in
-    all_at_first c.args.task.now c.add_values.new.facts.known names facts values
+    ap (λ s. s.known) c.cover.ensures ∙ all_at_first c.args.task.now c.add_values.new.facts.known names facts values

@@ -2,7 +2,7 @@ use Rattle.std.proofs.Common.{ap, ◌∙◌, map, [], ◌∷◌, ◌++◌, ℕ, 
 use Rattle.std.proofs.lemmas.Result.{on_ok_weaker, on_err_weaker}
 use Rattle.fact_store.proofs.GrowthLemmas.{between_same, between_then, facts_front, facts_grow, facts_left, front_itself}
 use Rattle.fact_store.proofs.InitialLemmas.{supertypes_then}
-use Rattle.fact_store.proofs.initial.add_supertypes.Goals as goal
+use Rattle.fact_store.proofs.initial.add_each_type.Goals as goal
 use Rattle.task_model.specs.Known.{type_fact, with_fact, with_facts}
 use Rattle.fact_store.specs.Growth.{IsBetween}
 use Rattle.lemmas.proofs.Results.{on_err}

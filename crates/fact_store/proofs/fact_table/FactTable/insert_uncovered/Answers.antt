@@ -1,7 +1,7 @@
 use Rattle.std.proofs.Common.{◌∙◌, inl}
 use Rattle.fact_store.proofs.EqualityLemmas.{fact_put}
 use Rattle.fact_store.proofs.TablesLemmas.{all_kept}
-use Rattle.fact_store.proofs.fact_table.FactTable.insert.Goals as goal
+use Rattle.fact_store.proofs.fact_table.FactTable.insert_uncovered.Goals as goal
 
 pub invariant_of-self-2 : goal.invariant_of-self-2
 invariant_of-self-2 c =
