@@ -12,8 +12,8 @@ of functions of their own are therefore made together, and one check tells of ea
 which the check only says that what it calls isn't proved is tried again, without what was refused. An edit outside of the
 functions' bodies, and any that is left over, is made alone, and the whole crate checked.
 
-Each edit has a line; below that of one that wasn't refused stands what the check said. Behind them stand the rounds of
-the crate's checks and their seconds. The last line is 'N refused, M failed'.
+Each edit has a line; below that of one that wasn't refused stands what the check said. Behind them stands how many
+checks the crate took, and their seconds. The last line is 'N refused, M failed'.
 """
 
 import argparse
