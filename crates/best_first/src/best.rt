@@ -11,7 +11,7 @@ ghost use Rattle.best_first.specs.Outcome.{BeginsAt, ComesWithin, explored_as};
 
 use crate::estimate::Estimate;
 use crate::expand::{Scene, Turn, grow};
-use crate::explore::{End, Explored, MOST_CANDIDATES};
+use crate::explore::{End, Explored};
 use crate::tree::Tree;
 use grounder::StepFinder;
 use plan_check::meets_goal;
@@ -79,6 +79,7 @@ impl Choice {
     fn choose<L: Look, E: Estimate>(
         &mut self,
         scene: &Scene<'_, L>,
+        finder: &StepFinder,
         estimate: &mut E,
         from: Open,
         state: &State,
@@ -94,7 +95,7 @@ impl Choice {
         self.taken.clear();
         self.end = 0;
         for step in steps {
-            let is_taken = !is_asked || estimate.wants(step);
+            let is_taken = !is_asked || estimate.wants(finder.candidates(), step);
             self.taken.push(is_taken)?;
             if is_taken {
                 self.end = self.taken.len();
@@ -261,7 +262,7 @@ fn expand<L: Look, E: Estimate>(
     let steps = finder.applicable(alloc, scene.task, scene.look, &state)?;
     let steps = steps.as_slice();
     let choice = &mut frontier.choice;
-    choice.choose(scene, estimate, from, &state, steps)?;
+    choice.choose(scene, finder, estimate, from, &state, steps)?;
     visit_some(scene, estimate, frontier, from, &state, steps)
 }
 
@@ -273,16 +274,18 @@ fn expand<L: Look, E: Estimate>(
 pub(crate) fn explore_best<L: Look, E: Estimate>(
     alloc: Global,
     scene: &Scene<'_, L>,
+    finder: &StepFinder,
     estimate: &mut E,
 ) -> Result<Explored, AllocError>
     requires fit { IsFit scene.now.task.now }
     requires some { 1 ≤ scene.now.limit }
     requires limit { scene.now.limit ≤ MOST_STATES }
+    requires finds { FindsSteps scene.now.task.now (L.known scene.now.look.now) finder.now }
     ensures { IfOk result (ComesWithin scene.now.task.now (L.known scene.now.look.now)
         scene.now.limit) }
 {
     let mut frontier = Frontier::new(alloc, scene.task)?;
-    match explore_from(alloc, scene, estimate, &mut frontier) {
+    match explore_from(alloc, scene, finder, estimate, &mut frontier) {
         Ok(End::Goal) => Ok(Explored::Goal(frontier.tree)),
         Ok(End::All) => Ok(Explored::All),
         Ok(End::More) => Ok(Explored::More),
@@ -294,12 +297,14 @@ pub(crate) fn explore_best<L: Look, E: Estimate>(
 fn explore_from<L: Look, E: Estimate>(
     alloc: Global,
     scene: &Scene<'_, L>,
+    finder: &StepFinder,
     estimate: &mut E,
     frontier: &mut Frontier,
 ) -> Result<End, AllocError>
     requires fit { IsFit scene.now.task.now }
     requires some { 1 ≤ scene.now.limit }
     requires limit { scene.now.limit ≤ MOST_STATES }
+    requires finds { FindsSteps scene.now.task.now (L.known scene.now.look.now) finder.now }
     requires begins { BeginsAt scene.now.task.now frontier.old.tree }
     requires none { heap_items frontier.old.queue ≡ [] }
     ensures { IfOk result (λ end. ComesWithin scene.now.task.now (L.known scene.now.look.now)
@@ -309,7 +314,6 @@ fn explore_from<L: Look, E: Estimate>(
     if meets_goal(scene.task, scene.look, &state) {
         return Ok(End::Goal);
     }
-    let finder = StepFinder::new(alloc, scene.task, scene.look, MOST_CANDIDATES)?;
     let rank = estimate.estimate(scene.task, scene.look, &state);
     frontier.queue.push(Reverse(Open {
         rank,
@@ -321,7 +325,7 @@ fn explore_from<L: Look, E: Estimate>(
         let Some(Reverse(from)) = frontier.queue.pop() else {
             return Ok(End::All);
         };
-        match expand(alloc, scene, &finder, estimate, frontier, from)? {
+        match expand(alloc, scene, finder, estimate, frontier, from)? {
             Turn::On => {}
             Turn::Goal => return Ok(End::Goal),
             Turn::More => return Ok(End::More),

@@ -4,7 +4,7 @@ ghost use Rattle.task_model.specs.Fit.{IsFit};
 ghost use Rattle.task_model.specs.State.{Atoms};
 
 use formula_eval::Env;
-use grounder::{fluent_atom, tops};
+use grounder::{Candidates, fluent_atom, tops};
 use task_model::{GroundAction, Look, State, Task};
 
 /// An estimate of what it costs to come from a state to the goal. It may order a search, and never
@@ -18,8 +18,9 @@ pub trait Estimate {
         requires { IsFit task.now }
         ensures { tells self.old self.new state.now result };
 
-    /// Whether the step, from the state that was estimated last, is worth taking early.
-    fn wants(&self, _step: &GroundAction) -> bool {
+    /// Whether the step, from the state that was estimated last, is worth taking early. The search gives
+    /// the task's candidates, and asks for steps in their order.
+    fn wants(&mut self, _candidates: &Candidates, _step: &GroundAction) -> bool {
         true
     }
 

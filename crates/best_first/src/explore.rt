@@ -1,5 +1,6 @@
 //! All states that are reached.
 ghost use Rattle.std.specs.Prelude.{◌≤◌, IfOk};
+ghost use Rattle.grounder.specs.Finder.{FindsSteps};
 ghost use Rattle.task_model.specs.Fit.{IsFit};
 ghost use Rattle.task_model.specs.declared.limits.TheConstants.{MOST_STATES};
 ghost use Rattle.best_first.specs.Outcome.{BeginsAt, ComesTo, explored_as};
@@ -12,7 +13,7 @@ use task_model::Look;
 
 /// How many arguments of actions are kept for all states. Each takes 80 bytes; an action that has
 /// more is joined anew in each state.
-pub const MOST_CANDIDATES: usize = 100_000;
+pub const MOST_CANDIDATES: usize = 200_000;
 
 /// What an exploration comes to.
 #[derive(Drop)]
@@ -38,15 +39,20 @@ pub(crate) enum End {
 
 /// Goes through the states that are reached, nearest first, until one ends it, or there are more
 /// than the limit allows, or all were seen. Fails only where memory is wanting.
-pub(crate) fn explore<L: Look>(alloc: Global, scene: &Scene<'_, L>) -> Result<Explored, AllocError>
+pub(crate) fn explore<L: Look>(
+    alloc: Global,
+    scene: &Scene<'_, L>,
+    finder: &StepFinder,
+) -> Result<Explored, AllocError>
     requires fit { IsFit scene.now.task.now }
     requires some { 1 ≤ scene.now.limit }
     requires limit { scene.now.limit ≤ MOST_STATES }
+    requires finds { FindsSteps scene.now.task.now (L.known scene.now.look.now) finder.now }
     ensures { IfOk result (ComesTo scene.now.task.now (L.known scene.now.look.now)
         scene.now.seeks_goal scene.now.limit) }
 {
     let mut tree = Tree::new(alloc, scene.task)?;
-    match explore_from(alloc, scene, &mut tree) {
+    match explore_from(alloc, scene, finder, &mut tree) {
         Ok(End::Goal) => Ok(Explored::Goal(tree)),
         Ok(End::All) => Ok(Explored::All),
         Ok(End::More) => Ok(Explored::More),
@@ -58,11 +64,13 @@ pub(crate) fn explore<L: Look>(alloc: Global, scene: &Scene<'_, L>) -> Result<Ex
 fn explore_from<L: Look>(
     alloc: Global,
     scene: &Scene<'_, L>,
+    finder: &StepFinder,
     tree: &mut Tree,
 ) -> Result<End, AllocError>
     requires fit { IsFit scene.now.task.now }
     requires some { 1 ≤ scene.now.limit }
     requires limit { scene.now.limit ≤ MOST_STATES }
+    requires finds { FindsSteps scene.now.task.now (L.known scene.now.look.now) finder.now }
     requires begins { BeginsAt scene.now.task.now tree.old }
     ensures { IfOk result (λ end. ComesTo scene.now.task.now (L.known scene.now.look.now)
         scene.now.seeks_goal scene.now.limit (explored_as tree.new end)) }
@@ -70,10 +78,9 @@ fn explore_from<L: Look>(
     if ends(scene, &tree.store, 0)? {
         return Ok(End::Goal);
     }
-    let finder = StepFinder::new(alloc, scene.task, scene.look, MOST_CANDIDATES)?;
     let mut next: u32 = 0;
     while next as usize <= tree.links.len() {
-        match expand(alloc, scene, &finder, tree, next)? {
+        match expand(alloc, scene, finder, tree, next)? {
             Turn::On => next += 1,
             Turn::Goal => return Ok(End::Goal),
             Turn::More => return Ok(End::More),

@@ -1,5 +1,6 @@
 //! Search for plans.
 ghost use Rattle.std.specs.Prelude.{◌≤◌, ◌↔◌, IfOk, IsTrue};
+ghost use Rattle.grounder.specs.Finder.{FindsSteps};
 ghost use Rattle.task_model.specs.Fit.{IsFit};
 ghost use Rattle.task_model.specs.Plans.{IsFar, IsReached, IsSolvable, MoreThan};
 ghost use Rattle.task_model.specs.declared.limits.TheConstants.{MOST_STATES};
@@ -9,10 +10,11 @@ ghost use Rattle.best_first.specs.Outcome.{ComesTo};
 use crate::best::explore_best;
 use crate::estimate::Estimate;
 use crate::expand::Scene;
-use crate::explore::{Explored, explore};
+use crate::explore::{Explored, MOST_CANDIDATES, explore};
 use crate::found::Found;
 use crate::relaxed_plan::RelaxedPlan;
 use crate::way::path;
+use grounder::StepFinder;
 use std::alloc::{AllocError, Global};
 use task_model::{Look, Task};
 
@@ -21,24 +23,26 @@ use task_model::{Look, Task};
 fn explore_with<L: Look, E: Estimate>(
     alloc: Global,
     scene: &Scene<'_, L>,
+    finder: &StepFinder,
     estimate: &mut E,
 ) -> Result<Explored, AllocError>
     requires fit { IsFit scene.now.task.now }
     requires some { 1 ≤ scene.now.limit }
     requires limit { scene.now.limit ≤ MOST_STATES }
     requires seeks { IsTrue scene.now.seeks_goal }
+    requires finds { FindsSteps scene.now.task.now (L.known scene.now.look.now) finder.now }
     ensures { IfOk result (ComesTo scene.now.task.now (L.known scene.now.look.now)
         scene.now.seeks_goal scene.now.limit) }
 {
-    match explore_best(alloc, scene, estimate)? {
+    match explore_best(alloc, scene, finder, estimate)? {
         Explored::Goal(tree) => Ok(Explored::Goal(tree)),
         Explored::All => Ok(Explored::All),
-        Explored::More => explore(alloc, scene),
+        Explored::More => explore(alloc, scene, finder),
     }
 }
 
 /// Looks for a valid plan among the states that are reached, at most `limit` of them, from 1 to
-/// 200,000.
+/// 200,000. The finder is that of the task over what is known.
 ///
 /// A plan that is found has at most `limit` steps; its states are distinct, and only the last of
 /// them meets the goal. `Nothing` comes exactly where there is no valid plan and at most `limit`
@@ -50,12 +54,14 @@ pub fn search<L: Look, E: Estimate>(
     alloc: Global,
     task: &Task,
     look: &L,
+    finder: &StepFinder,
     limit: u32,
     estimate: &mut E,
 ) -> Result<Found, AllocError>
     requires fit { IsFit task.now }
     requires some { 1 ≤ limit }
     requires few { limit ≤ MOST_STATES }
+    requires finds { FindsSteps task.now (L.known look.now) finder.now }
     ensures plan { IfOk result (HasPlan task.now (L.known look.now) limit) }
     ensures nothing { IfOk result (λ found. IsNothing found
         ↔ ((¬ (IsSolvable task.now (L.known look.now)))
@@ -68,7 +74,7 @@ pub fn search<L: Look, E: Estimate>(
         limit,
         seeks_goal: true,
     };
-    match explore_with(alloc, &scene, estimate)? {
+    match explore_with(alloc, &scene, finder, estimate)? {
         Explored::Goal(tree) => {
             let (plan, cost) = path(alloc, tree.links.as_slice())?;
             Ok(Found::Plan(plan, cost))
@@ -91,8 +97,9 @@ pub fn is_solvable_within<L: Look>(
     requires few { most ≤ MOST_STATES }
     ensures { IfOk result (IsSolvableWithin task.now (L.known look.now) most) }
 {
-    let mut estimate = Box::new(alloc, RelaxedPlan::new(alloc, task, look)?)?;
-    match search(alloc, task, look, most, &mut *estimate)? {
+    let finder = Box::new(alloc, StepFinder::new(alloc, task, look, MOST_CANDIDATES)?)?;
+    let mut estimate = Box::new(alloc, RelaxedPlan::new(alloc, task, look, &finder)?)?;
+    match search(alloc, task, look, &finder, most, &mut *estimate)? {
         Found::Nothing => Ok(Some(false)),
         Found::Limit => Ok(None),
         Found::Plan(_, _) => {
@@ -125,7 +132,8 @@ pub fn exceeds<L: Look>(
         limit,
         seeks_goal: false,
     };
-    match explore(alloc, &scene)? {
+    let finder = Box::new(alloc, StepFinder::new(alloc, task, look, MOST_CANDIDATES)?)?;
+    match explore(alloc, &scene, &finder)? {
         Explored::More => Ok(true),
         Explored::Goal(_) | Explored::All => Ok(false),
     }

@@ -1,9 +1,11 @@
 //! The estimate by relaxed plans.
 ghost use Rattle.std.specs.Prelude.{IfOk};
+ghost use Rattle.grounder.specs.Finder.{FindsSteps};
 ghost use Rattle.task_model.specs.Fit.{IsFit};
 ghost use Rattle.relaxed_task.specs.Room.{HasRoom};
 
 use crate::estimate::Estimate;
+use grounder::{Candidates, StepFinder};
 use relaxed_task::{Guide, Sight};
 use std::alloc::{AllocError, Global};
 use task_model::{GroundAction, Look, State, Task};
@@ -33,15 +35,21 @@ pub struct RelaxedPlan {
 }
 
 impl RelaxedPlan {
-    /// The estimate for a task and what is known of it. It takes all its room here: 4,000,000 facts,
-    /// rules, conditions and effects together, and 4 MiB for which states are new. Where a task has
+    /// The estimate for a task and what is known of it, which have these steps. It takes all its room here: 4,000,000 facts,
+    /// rules, conditions and effects together, and 1 MiB for which states are new. Where a task has
     /// more, of its conditions the fluent atoms at the top count alone, and where there are more of
     /// these too, each estimate is 0. Fails only where memory is wanting.
-    pub fn new<L: Look>(alloc: Global, task: &Task, look: &L) -> Result<RelaxedPlan, AllocError>
-        requires { IsFit task.now }
+    pub fn new<L: Look>(
+        alloc: Global,
+        task: &Task,
+        look: &L,
+        finder: &StepFinder,
+    ) -> Result<RelaxedPlan, AllocError>
+        requires fit { IsFit task.now }
+        requires finds { FindsSteps task.now (L.known look.now) finder.now }
         ensures { IfOk result (λ estimate. HasRoom estimate.guide.relaxed) }
     {
-        let guide = Guide::new(alloc, task, look)?;
+        let guide = Guide::new(alloc, task, look, finder.candidates())?;
         Ok(RelaxedPlan { guide })
     }
 
@@ -76,8 +84,8 @@ impl Estimate for RelaxedPlan {
         }
     }
 
-    fn wants(&self, step: &GroundAction) -> bool {
-        self.guide.wants(step)
+    fn wants(&mut self, candidates: &Candidates, step: &GroundAction) -> bool {
+        self.guide.wants(candidates, step)
     }
 
     fn delay(&self) -> u64 {

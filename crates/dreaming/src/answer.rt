@@ -14,7 +14,8 @@ use crate::taken::Listing;
 use crate::thin::thin;
 use crate::trial::{Kept, Trial, kept_of};
 use crate::wanted::{Wanted, places_named};
-use best_first::{Found, RelaxedPlan, out_of_reach, search};
+use best_first::{Found, MOST_CANDIDATES, RelaxedPlan, out_of_reach, search};
+use grounder::StepFinder;
 use optimistic_set::{OptEntry, OptimisticFault, Supposed, Tried, optimistic};
 use session_core::Session;
 use shown_plan::name_steps;
@@ -146,11 +147,12 @@ fn dream_over(
     ensures { IfOk result (ComesOfList task.now supposed.now states) }
 {
     let look = supposed.look();
-    let mut estimate = Box::new(alloc, RelaxedPlan::new(alloc, task, &look)?)?;
+    let finder = Box::new(alloc, StepFinder::new(alloc, task, &look, MOST_CANDIDATES)?)?;
+    let mut estimate = Box::new(alloc, RelaxedPlan::new(alloc, task, &look, &finder)?)?;
     if out_of_reach(alloc, task, &look, &*estimate)? {
         return Ok(Dreamt::Empty);
     }
-    match search(alloc, task, &look, states, &mut *estimate)? {
+    match search(alloc, task, &look, &finder, states, &mut *estimate)? {
         Found::Plan(plan, cost) => thinned(alloc, task, supposed, plan, cost),
         Found::Nothing => Ok(Dreamt::Empty),
         Found::Limit => Ok(Dreamt::Empty),

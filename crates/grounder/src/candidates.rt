@@ -52,6 +52,7 @@ fn rows_of<L: Look>(
     match join(&query, &Partial::new(), atoms.as_slice(), &mut rows) {
         Ok(()) => {
             rows.sort_unstable();
+            rows.shrink_to_fit();
             Ok(Some(Seq::from_vec(rows)))
         }
         Err(JoinFault::TooMany) => Ok(None),

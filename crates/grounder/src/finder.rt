@@ -137,6 +137,13 @@ impl StepFinder {
         }
     }
 
+    /// The arguments of each action that what is static allows.
+    pub fn candidates(&self) -> &Candidates
+        ensures { result.now ≡ self.now.candidates }
+    {
+        &self.candidates
+    }
+
     /// What the function `applicable` gives. Fails only where memory is wanting.
     pub fn applicable<L: Look>(
         &self,

@@ -5,10 +5,11 @@ ghost use Rattle.task_model.specs.Fit.{IsFit};
 use crate::fault::Fault;
 use crate::plans::push_steps;
 use best_first::{
-    Additive, Blind, Estimate, Found, GoalCount, RelaxedPlan, exceeds, out_of_reach, search,
+    Additive, Blind, Estimate, Found, GoalCount, MOST_CANDIDATES, RelaxedPlan, exceeds,
+    out_of_reach, search,
 };
 use fact_store::Facts;
-use grounder::applicable;
+use grounder::{StepFinder, applicable};
 use optimal_search::{Fewest, Shares};
 use plan_check::initial;
 use std::alloc::{AllocError, Global};
@@ -28,16 +29,17 @@ fn found_by(
     requires some { 1 ≤ limit }
     requires few { limit ≤ 200000 }
 {
+    let finder = Box::new(alloc, StepFinder::new(alloc, task, facts, MOST_CANDIDATES)?)?;
     let found = match name {
-        b"blind" => search(alloc, task, facts, limit, &mut Blind)?,
-        b"goals" => search(alloc, task, facts, limit, &mut GoalCount)?,
+        b"blind" => search(alloc, task, facts, &finder, limit, &mut Blind)?,
+        b"goals" => search(alloc, task, facts, &finder, limit, &mut GoalCount)?,
         b"additive" => {
             let mut estimate = Box::new(alloc, Additive::new(alloc, task, facts)?)?;
-            search(alloc, task, facts, limit, &mut *estimate)?
+            search(alloc, task, facts, &finder, limit, &mut *estimate)?
         }
         b"relaxed" => {
-            let mut estimate = Box::new(alloc, RelaxedPlan::new(alloc, task, facts)?)?;
-            search(alloc, task, facts, limit, &mut *estimate)?
+            let mut estimate = Box::new(alloc, RelaxedPlan::new(alloc, task, facts, &finder)?)?;
+            search(alloc, task, facts, &finder, limit, &mut *estimate)?
         }
         _ => return Err(Fault::Unfit),
     };
@@ -146,7 +148,8 @@ pub(crate) fn add_out_of_reach(
 ) -> Result<(), Fault>
     requires { IsFit task.now }
 {
-    let estimate = Box::new(alloc, RelaxedPlan::new(alloc, task, facts)?)?;
+    let finder = Box::new(alloc, StepFinder::new(alloc, task, facts, MOST_CANDIDATES)?)?;
+    let estimate = Box::new(alloc, RelaxedPlan::new(alloc, task, facts, &finder)?)?;
     let is_out = out_of_reach(alloc, task, facts, &*estimate)?;
     Ok(write!(out, "{is_out}\n")?)
 }
@@ -182,7 +185,8 @@ pub(crate) fn add_estimate(
             estimate_of(alloc, task, facts, &mut *estimate)?
         }
         b"relaxed" => {
-            let mut estimate = Box::new(alloc, RelaxedPlan::new(alloc, task, facts)?)?;
+            let finder = Box::new(alloc, StepFinder::new(alloc, task, facts, MOST_CANDIDATES)?)?;
+            let mut estimate = Box::new(alloc, RelaxedPlan::new(alloc, task, facts, &finder)?)?;
             estimate_of(alloc, task, facts, &mut *estimate)?
         }
         b"fewest" => {
@@ -207,12 +211,13 @@ pub(crate) fn add_wanted(
 ) -> Result<(), Fault>
     requires { IsFit task.now }
 {
-    let mut estimate = Box::new(alloc, RelaxedPlan::new(alloc, task, facts)?)?;
+    let finder = Box::new(alloc, StepFinder::new(alloc, task, facts, MOST_CANDIDATES)?)?;
+    let mut estimate = Box::new(alloc, RelaxedPlan::new(alloc, task, facts, &finder)?)?;
     estimate_of(alloc, task, facts, &mut *estimate)?;
     let state = Box::new(alloc, initial(alloc, task)?)?;
     let mut wanted = Vec::new(alloc);
     for step in applicable(alloc, task, facts, &state)? {
-        if estimate.wants(&step) {
+        if estimate.wants(finder.candidates(), &step) {
             wanted.push(step)?;
         }
     }

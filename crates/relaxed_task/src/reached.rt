@@ -87,3 +87,12 @@ impl Reached {
         self.atoms.get_index(number as usize)
     }
 }
+
+/// Copies of the atoms. Fails only where memory is wanting.
+pub(crate) fn copies(alloc: Global, atoms: &[Atom]) -> Result<Vec<Atom>, AllocError> {
+    let mut copies = Vec::with_capacity(alloc, atoms.len())?;
+    for atom in atoms {
+        copies.push(atom.copy()?)?;
+    }
+    Ok(copies)
+}

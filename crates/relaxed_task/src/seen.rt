@@ -1,8 +1,8 @@
 //! Which states are new.
 use std::alloc::{AllocError, Global};
 
-/// How many bits a table has at most: 4 MiB.
-const MOST_BITS: usize = 33_554_432;
+/// How many bits a table has at most: 1 MiB.
+const MOST_BITS: usize = 8_388_608;
 
 /// The most rows of a table. A greater number of steps shares the last.
 const MOST_ROWS: usize = 4_096;

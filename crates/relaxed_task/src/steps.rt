@@ -11,11 +11,13 @@ use crate::conditions::{Scene, literal};
 use crate::lists::number;
 use crate::net::{Literal, Net};
 use crate::tuples::filled;
-use formula_eval::Env;
+use formula_eval::{Env, objects_at};
 use grounder::{Candidates, fluent_atom, tops};
-use plan_check::{changes_of, step_cost};
-use std::alloc::AllocError;
-use task_model::{Action, Formula, Look, Obj, State, Wide};
+use plan_check::step_cost;
+use std::alloc::{AllocError, Global};
+use task_model::{
+    Action, Atom, Domain, Formula, FormulaNode, Look, Obj, Pattern, Role, State, Wide,
+};
 
 /// What it comes to that a part at the top of a condition is true.
 fn part_literal<L: Look>(
@@ -37,60 +39,143 @@ fn part_literal<L: Look>(
     }
 }
 
-/// The facts that the condition needs, or None where it is never true.
-pub(crate) fn needs<L: Look>(
+/// Whether the part is an atom of a static predicate.
+fn is_static_atom(domain: &Domain, part: &Formula) -> bool {
+    let FormulaNode::Atom { pred, .. } = &part.node else {
+        return false;
+    };
+    matches!(
+        domain.roles.as_slice().get(*pred as usize),
+        Some(Role::Static)
+    )
+}
+
+/// Puts the facts that the condition needs in the place of these, and answers whether it may be true.
+/// Its static atoms at the top aren't looked at where they are known to be true.
+pub(crate) fn put_needs<L: Look>(
     scene: &Scene<'_, '_, L>,
     net: &mut Net,
     condition: &Formula,
     slots: &[Obj; 16],
-) -> Result<Option<Vec<u32>>, AllocError>
+    are_known: bool,
+    facts: &mut Vec<u32>,
+) -> Result<bool, AllocError>
     requires fit { IsFit scene.now.task.now }
     requires readable { is_readable scene.now.task.now.domain condition.now ≡ true }
 {
-    let mut facts = Vec::new(scene.alloc);
+    facts.clear();
     for part in tops(condition) {
+        if are_known && is_static_atom(&scene.task.domain, part) {
+            continue;
+        }
         match part_literal(scene, net, part, slots)? {
             Literal::Always => {}
-            Literal::Never => return Ok(None),
+            Literal::Never => return Ok(false),
             Literal::Fact(fact) => facts.push(fact)?,
         }
     }
     facts.sort_unstable();
     facts.dedup();
-    Ok(Some(facts))
+    Ok(true)
 }
 
-/// The facts that the action gives with these objects: what it adds, and, where it is known what is
-/// reached, that what it deletes is false.
-fn gives<L: Look>(
+/// The atom of the pattern where the slots have these objects.
+fn atom_of(alloc: Global, pattern: &Pattern, env: &Env) -> Atom
+    requires { is_readable_pattern pattern.now ≡ true }
+{
+    Atom {
+        pred: pattern.pred,
+        args: objects_at(alloc, pattern.args.as_slice(), env),
+    }
+}
+
+/// Whether one of the patterns is this atom.
+fn is_one_of(alloc: Global, patterns: &[Pattern], env: &Env, atom: &Atom) -> bool
+    requires { list_all is_readable_pattern patterns.now ≡ true }
+{
+    for pattern in patterns {
+        if pattern.pred == atom.pred && atom_of(alloc, pattern, env) == *atom {
+            return true;
+        }
+    }
+    false
+}
+
+/// Puts the facts that these atoms are true behind the others.
+fn put_added<L: Look>(
+    scene: &Scene<'_, '_, L>,
+    net: &mut Net,
+    adds: &[Pattern],
+    env: &Env,
+    facts: &mut Vec<u32>,
+) -> Result<(), AllocError>
+    requires { list_all is_readable_pattern adds.now ≡ true }
+{
+    for pattern in adds {
+        let atom = atom_of(scene.alloc, pattern, env);
+        facts.push(net.fluent(&atom, true)?)?;
+    }
+    Ok(())
+}
+
+/// Puts the facts behind the others that those of the atoms are false which are reached and aren't
+/// added.
+fn put_deleted<L: Look>(
+    scene: &Scene<'_, '_, L>,
+    net: &mut Net,
+    adds: &[Pattern],
+    deletes: &[Pattern],
+    env: &Env,
+    facts: &mut Vec<u32>,
+) -> Result<(), AllocError>
+    requires adds { list_all is_readable_pattern adds.now ≡ true }
+    requires deletes { list_all is_readable_pattern deletes.now ≡ true }
+{
+    for pattern in deletes {
+        let atom = atom_of(scene.alloc, pattern, env);
+        if scene.is_reached(&atom) && !is_one_of(scene.alloc, adds, env, &atom) {
+            facts.push(net.fluent(&atom, false)?)?;
+        }
+    }
+    Ok(())
+}
+
+/// Puts the facts that the action gives with these objects in the place of these: what it adds, and,
+/// where it is known what is reached, that what it deletes is false.
+fn put_gives<L: Look>(
     scene: &Scene<'_, '_, L>,
     net: &mut Net,
     action: &Action,
     objects: &[Obj],
-) -> Result<Vec<u32>, AllocError>
+    facts: &mut Vec<u32>,
+) -> Result<(), AllocError>
     requires few { length objects.now ≤ SLOTS }
     requires adds { list_all is_readable_pattern action.now.adds ≡ true }
     requires deletes { list_all is_readable_pattern action.now.deletes ≡ true }
 {
-    let changes = changes_of(scene.alloc, action, objects)?;
-    let mut facts = Vec::new(scene.alloc);
-    for atom in changes.come.as_slice() {
-        facts.push(net.fluent(atom, true)?)?;
-    }
+    let env = Env::new(objects);
+    let adds = action.adds.as_slice();
+    facts.clear();
+    put_added(scene, net, adds, &env, facts)?;
     if scene.reached.is_some() {
-        for atom in changes.gone.as_slice() {
-            if !changes.come.as_slice().contains(atom) && scene.is_reached(atom) {
-                facts.push(net.fluent(atom, false)?)?;
-            }
-        }
+        put_deleted(scene, net, adds, action.deletes.as_slice(), &env, facts)?;
     }
-    Ok(facts)
+    Ok(())
 }
 
-/// The rule of the action with these objects, if its cost has a value and its condition may be true.
+/// What a rule needs and gives, in room that each takes over from the one before.
+#[derive(Drop)]
+struct Draft {
+    needs: Vec<u32>,
+    gives: Vec<u32>,
+}
+
+/// The rule of the action with these objects, if its cost has a value and its condition may be true:
+/// its static atoms at the top are.
 fn add_rule<L: Look>(
     scene: &Scene<'_, '_, L>,
     net: &mut Net,
+    draft: &mut Draft,
     action: &Action,
     objects: &[Obj],
 ) -> Result<Option<u32>, AllocError>
@@ -102,13 +187,22 @@ fn add_rule<L: Look>(
     let Some(cost) = step_cost(scene.task, scene.look, &state, action, objects) else {
         return Ok(None);
     };
-    let Some(needs) = needs(scene, net, &action.condition, &filled(objects))? else {
+    let slots = filled(objects);
+    if !put_needs(
+        scene,
+        net,
+        &action.condition,
+        &slots,
+        true,
+        &mut draft.needs,
+    )? {
         return Ok(None);
-    };
-    let gives = gives(scene, net, action, objects)?;
+    }
+    put_gives(scene, net, action, objects, &mut draft.gives)?;
     net.count_step(cost);
     let rule = number(net.rules.len());
-    net.rules.add(1, needs.as_slice(), gives.as_slice())?;
+    net.rules
+        .add(1, draft.needs.as_slice(), draft.gives.as_slice())?;
     Ok(Some(rule))
 }
 
@@ -125,9 +219,13 @@ fn add_rows<L: Look>(
     requires rows { AreCandidateRows scene.now.task.now.domain (L.known scene.now.look.now)
         action.now rows.now }
 {
+    let mut draft = Draft {
+        needs: Vec::new(scene.alloc),
+        gives: Vec::new(scene.alloc),
+    };
     for objects in rows {
         let rule = if scene.is_step_reached(net.steps.len()) {
-            add_rule(scene, net, action, objects.as_slice())?
+            add_rule(scene, net, &mut draft, action, objects.as_slice())?
         } else {
             None
         };

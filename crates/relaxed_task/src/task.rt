@@ -8,17 +8,17 @@ use crate::conditions::{Scene, settle};
 use crate::costs::{Costs, UNREACHED};
 use crate::facts::AtomFacts;
 use crate::net::{Joint, Literal, Net};
-use crate::reached::Reached;
-use crate::steps::{add_steps, needs};
+use crate::reached::{Reached, copies};
+use crate::steps::{add_steps, put_needs};
 use crate::tuples::filled;
 use grounder::Candidates;
 use plan_check::initial;
 use std::alloc::{AllocError, Global};
 use std::mem;
-use task_model::{Look, State, Task};
+use task_model::{Atom, Look, State, Task};
 
 /// The most arguments of actions for which there is room.
-pub(crate) const MOST_ROWS: usize = 200_000;
+const MOST_ROWS: usize = 200_000;
 
 /// How far the goal is from a state.
 #[derive(Clone, Copy, Debug)]
@@ -41,8 +41,8 @@ pub struct RelaxedTask {
     lacks: Vec<u32>,
     /// For each step its rule, if it has one.
     steps: Vec<Option<u32>>,
-    /// What is reached, if there was room to find it.
-    reached: Option<Box<Reached>>,
+    /// The fluent atoms that are reached, if there was room to find them.
+    reached: Option<Vec<Atom>>,
     /// The numbers of the atoms of the state that was looked at last, `held_count` of them.
     held: Vec<u32>,
     held_count: usize,
@@ -103,7 +103,8 @@ impl RelaxedTask {
     }
 
     /// Takes the facts and rules of the task, if there is room for them: first those by which is found
-    /// what is reached, and then those of all conditions. Fails only where memory is wanting.
+    /// what is reached, and in their place those of all conditions, or, where there is no room for these,
+    /// the first ones again. Fails only where memory is wanting.
     fn find<L: Look>(
         &mut self,
         alloc: Global,
@@ -114,25 +115,28 @@ impl RelaxedTask {
         requires fit { IsFit task.now }
         requires candidates { AreCandidates task.now (L.known look.now) candidates.now }
     {
-        let scene = Scene {
+        let first = Scene {
             alloc,
             task,
             look,
             reached: None,
         };
-        if !self.relax(&scene, candidates)? {
+        if !self.relax(&first, candidates)? {
             return Ok(());
         }
         let mut reached = Box::new(alloc, Reached::new(alloc))?;
         self.reach(alloc, task, &mut reached)?;
+        *self = RelaxedTask::empty(alloc);
         let scene = Scene {
             alloc,
             task,
             look,
             reached: Some(&reached),
         };
-        self.relax(&scene, candidates)?;
-        self.reached = Some(reached);
+        if !self.relax(&scene, candidates)? {
+            self.relax(&first, candidates)?;
+        }
+        self.reached = Some(copies(alloc, reached.atoms())?);
         Ok(())
     }
 
@@ -224,10 +228,10 @@ impl RelaxedTask {
         }
     }
 
-    /// What is reached, if there was room to find it.
-    pub(crate) fn all_reached(&self) -> Option<&Reached> {
+    /// The fluent atoms that are reached, if there was room to find them.
+    pub(crate) fn all_reached(&self) -> Option<&[Atom]> {
         match &self.reached {
-            Some(reached) => Some(reached),
+            Some(atoms) => Some(atoms.as_slice()),
             None => None,
         }
     }
@@ -340,10 +344,13 @@ fn put_all<L: Look>(
 fn put_goal<L: Look>(scene: &Scene<'_, '_, L>, net: &mut Net) -> Result<(), AllocError>
     requires { IsFit scene.now.task.now }
 {
-    let goal = needs(scene, net, &scene.task.problem.goal, &filled(&[]))?;
-    net.goal = match goal {
-        Some(facts) => net.whole(Joint::All, facts)?,
-        None => Literal::Never,
+    let mut facts = Vec::new(scene.alloc);
+    let goal = &scene.task.problem.goal;
+    let may_hold = put_needs(scene, net, goal, &filled(&[]), false, &mut facts)?;
+    net.goal = if may_hold {
+        net.whole(Joint::All, facts)?
+    } else {
+        Literal::Never
     };
     Ok(())
 }

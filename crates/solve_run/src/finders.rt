@@ -3,8 +3,9 @@ ghost use Rattle.std.specs.Prelude.{IfOk, IsTrue, true, false};
 ghost use Rattle.task_model.specs.Fit.{IsFit};
 ghost use Rattle.task_model.specs.Plans.{IsSolvable};
 
-use best_first::{Found, RelaxedPlan, out_of_reach, search};
+use best_first::{Found, MOST_CANDIDATES, RelaxedPlan, out_of_reach, search};
 use fact_store::Facts;
+use grounder::StepFinder;
 use optimal_search::{Shares, cheapest};
 use std::alloc::{AllocError, Global};
 use task_model::Task;
@@ -22,11 +23,13 @@ impl PlanSearch for ByEstimate {
         let alloc = situation.alloc;
         let task = situation.task;
         let facts = situation.session.facts();
-        let mut estimate = Box::new(alloc, RelaxedPlan::new(alloc, task, facts)?)?;
+        let finder = Box::new(alloc, StepFinder::new(alloc, task, facts, MOST_CANDIDATES)?)?;
+        let mut estimate = Box::new(alloc, RelaxedPlan::new(alloc, task, facts, &finder)?)?;
         if out_of_reach(alloc, task, facts, &*estimate)? {
             return Ok(None);
         }
-        let found = search(alloc, task, facts, situation.head.states, &mut *estimate)?;
+        let states = situation.head.states;
+        let found = search(alloc, task, facts, &finder, states, &mut *estimate)?;
         Ok(Some(found))
     }
 }
@@ -37,7 +40,8 @@ fn is_hopeless(alloc: Global, task: &Task, facts: &Facts) -> Result<bool, AllocE
     ensures { IfOk result (λ hopeless. IsTrue hopeless
         → ¬ (IsSolvable task.now facts.now.known)) }
 {
-    let estimate = Box::new(alloc, RelaxedPlan::new(alloc, task, facts)?)?;
+    let finder = Box::new(alloc, StepFinder::new(alloc, task, facts, MOST_CANDIDATES)?)?;
+    let estimate = Box::new(alloc, RelaxedPlan::new(alloc, task, facts, &finder)?)?;
     out_of_reach(alloc, task, facts, &*estimate)
 }
 

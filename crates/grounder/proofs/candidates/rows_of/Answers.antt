@@ -45,6 +45,8 @@ returns-in-Ok g c =
     c.in-Ok.ensures.found in
     let these = subst (λ xs. Adds (IsAnswer known c.as_slice.result.now all partial xs) [] found) c.as_slice-2.ensures.value empty in
     let answers = subst (λ sorts. Adds (IsAnswer known sorts all partial atoms) [] found) c.as_slice.ensures these in
+    let candidates =
+    sorted_rows domain known action partial atoms found rows c.new.ensures c.in_ok-atoms.ensures answers
+    c.sort_unstable.ensures.permutation c.sort_unstable.ensures.sorted in
     subst (AreCandidateRows domain known action) (sym c.from_vec.ensures)
-    (sorted_rows domain known action partial atoms found rows c.new.ensures c.in_ok-atoms.ensures answers
-    c.sort_unstable.ensures.permutation c.sort_unstable.ensures.sorted)
+    (subst (AreCandidateRows domain known action) (sym c.shrink_to_fit.ensures.items) candidates)

@@ -3,7 +3,7 @@ use Rattle.std.specs.List.{list_all}
 use Rattle.formula_eval.specs.Readable.{is_readable}
 use Rattle.grounder.proofs.PartsLemmas.{readable_tops}
 use Rattle.lemmas.proofs.ListTests.{all_at, get_some}
-use Rattle.relaxed_task.proofs.steps.needs.Goals as goal
+use Rattle.relaxed_task.proofs.steps.put_needs.Goals as goal
 
 pub part_literal-requires-clause-readable : goal.part_literal-requires-clause-readable
 part_literal-requires-clause-readable g c =
