@@ -1,11 +1,13 @@
 #!/usr/bin/env python3
 """Tries the edits beside the gate, crates/NAME/edits/*.edit: the prover must refuse each. No part of the gate.
 
-  bench/edits.sh [--gate] [--jobs N] [NAME..]    of these crates, or of all that have some
+  bench/edits.sh [--gate] [--behind-ci] [--jobs N] [NAME..]    of these crates, or of all that have some
 
-It works in a clone, so it tries what is committed. Libraries that are built here (out/rlib) are taken over; others are
-proved first, in the clone. With --gate the edits in must-fail/ are tried. N crates are at work at a time, with a check
-each (1 where nothing is said).
+It works in a clone, so it tries what is committed. Libraries that `rt check` built here (out/rlib) are taken over; others
+are proved first, in the clone. With --behind-ci all libraries are taken over as `rt ci` left them, with their statements
+alone, as the gate does when it tries an edit: a run of `rt ci` over this commit has to have passed here. With --gate the
+edits in must-fail/ are tried. N crates are at work at a time, with a check each (1 where nothing is said), those with the
+most edits first.
 
 An edit in a function's body leaves the contracts as they are, so that it can't touch the proof of another function. Edits
 of functions of their own are therefore made together, and one check tells of each function whether it is proved. One of
@@ -20,6 +22,7 @@ import argparse
 import collections
 import concurrent.futures
 import glob
+import importlib
 import os
 import re
 import shutil
@@ -93,11 +96,30 @@ def function_at(text, file, old):
 # ---- checks
 
 
-def check(crate, functions):
+def over_proved_libraries(_crate, flags):
+    """Returns the words of a check that proves the libraries first, where they aren't built."""
+    return ["rt", "check", *flags]
+
+
+def over_built_libraries():
+    """Returns what gives the words of the check that `rt check` makes behind that, over libraries as they stand."""
+    sys.path.append(os.path.dirname(os.path.realpath(shutil.which("rt"))))
+    rtlib = importlib.import_module("rtlib")
+    # (only the main thread may ask for it)
+    guarded = rtlib.guarded()
+
+    def words(crate, flags):
+        it = rtlib.Crate(crate, os.path.dirname(os.path.dirname(crate)), {})
+        return [*guarded, rtlib.RATTLE, "check", *it.words(flags, keeps=False), *rtlib.KEPT]
+
+    return words
+
+
+def check(crate, functions, words):
     """Checks these functions of the crate, or all where there are none, and returns what was said."""
     only = [word for it in functions for word in ("--only", it)]
     how = {"cwd": crate, "stdout": subprocess.PIPE, "stderr": subprocess.STDOUT, "text": True, "errors": "replace"}
-    ran = subprocess.run(["rt", "check", *only, "--jobs", "1"], check=False, **how)
+    ran = subprocess.run(words(crate, [*only, "--jobs", "1"]), check=False, **how)
     return Said(ran.returncode, ran.stdout.splitlines())
 
 
@@ -119,10 +141,10 @@ def refused_in(said):
 
 
 class Crate:
-    """A crate in the clone, with the edits that are left to try."""
+    """A crate in the clone, with the edits that are left to try, and what gives the words of a check."""
 
-    def __init__(self, clone, name, kind):
-        self.folder, self.name = f"{clone}/crates/{name}", name
+    def __init__(self, clone, name, kind, words):
+        self.folder, self.name, self.words = f"{clone}/crates/{name}", name, words
         self.left = [read_edit(it, self.folder) for it in sorted(glob.glob(f"{self.folder}/{kind}/*.edit"))]
         self.texts, self.refused, self.failed, self.checks = {}, [], [], 0
 
@@ -139,7 +161,7 @@ class Crate:
 
     def check(self, functions):
         """Checks the crate and takes its edits back. Returns what was said."""
-        said = check(self.folder, functions)
+        said = check(self.folder, functions, self.words)
         self.checks += 1
         for file, text in self.texts.items():
             write(f"{self.folder}/{file}", text)
@@ -191,10 +213,11 @@ class Crate:
 # ---- the whole
 
 
-def take_libraries(clone):
-    """Links the libraries that are built here into the clone."""
-    for stamp in glob.glob(f"{ROOT}/crates/*/out/rlib/stamp"):
-        made = os.path.dirname(stamp)
+def take_libraries(clone, are_all):
+    """Links the libraries that `rt check` built here into the clone, or all."""
+    for made in glob.glob(f"{ROOT}/crates/*/out/rlib"):
+        if not are_all and not os.path.isfile(f"{made}/stamp"):
+            continue
         to = f"{clone}/{os.path.relpath(made, ROOT)}"
         if os.path.isdir(os.path.dirname(os.path.dirname(to))):
             shutil.copytree(made, to, copy_function=os.link)
@@ -212,19 +235,22 @@ def show(crate, seconds):
 def main():
     parser = argparse.ArgumentParser(description=__doc__, formatter_class=argparse.RawDescriptionHelpFormatter)
     parser.add_argument("--gate", action="store_true")
+    parser.add_argument("--behind-ci", action="store_true")
     parser.add_argument("--jobs", type=int, default=1)
     parser.add_argument("names", nargs="*", metavar="NAME")
     options = parser.parse_args()
     kind = "must-fail" if options.gate else "edits"
+    words = over_built_libraries() if options.behind_ci else over_proved_libraries
     refused, failed, printing = [], [], threading.Lock()
     with tempfile.TemporaryDirectory() as folder:
         clone = f"{folder}/clone"
         subprocess.run(["git", "clone", "-q", ROOT, clone], check=True)
-        take_libraries(clone)
-        every = sorted({os.path.basename(os.path.dirname(it)) for it in glob.glob(f"{clone}/crates/*/{kind}")})
+        take_libraries(clone, options.behind_ci)
+        tried = collections.Counter(it.split("/")[-3] for it in glob.glob(f"{clone}/crates/*/{kind}/*.edit"))
+        every = [name for name, _ in tried.most_common()]
 
         def work(name):
-            begun, crate = time.time(), Crate(clone, name, kind)
+            begun, crate = time.time(), Crate(clone, name, kind, words)
             crate.try_all()
             with printing:
                 show(crate, time.time() - begun)
