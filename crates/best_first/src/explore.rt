@@ -11,7 +11,7 @@ use grounder::StepFinder;
 use std::alloc::{AllocError, Global};
 use task_model::Look;
 
-/// How many arguments of actions are kept for all states. Each takes 80 bytes; an action that has
+/// How many arguments of actions are kept for all states. Each takes 48 bytes; an action that has
 /// more is joined anew in each state.
 pub const MOST_CANDIDATES: usize = 200_000;
 

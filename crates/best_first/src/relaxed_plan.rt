@@ -35,10 +35,11 @@ pub struct RelaxedPlan {
 }
 
 impl RelaxedPlan {
-    /// The estimate for a task and what is known of it, which have these steps. It takes all its room here: 4,000,000 facts,
-    /// rules, conditions and effects together, and 1 MiB for which states are new. Where a task has
-    /// more, of its conditions the fluent atoms at the top count alone, and where there are more of
-    /// these too, each estimate is 0. Fails only where memory is wanting.
+    /// The estimate for a task and what is known of it, which have these steps. It takes all its
+    /// room here: 4,000,000 facts, rules, conditions and effects together, and 1 MiB for which
+    /// states are new. Where a task has more, of its conditions the fluent atoms at the top count
+    /// alone, and where there are more of these too, each estimate is 0. Fails only where memory is
+    /// wanting.
     pub fn new<L: Look>(
         alloc: Global,
         task: &Task,

@@ -4,7 +4,7 @@ use Rattle.std.proofs.lemmas.Bool.{and_from}
 use Rattle.std.proofs.lemmas.Bool.Decides.{nat_tests}
 use Rattle.std.specs.Cmp.{first_so, second_so}
 use Rattle.std.specs.List.{list_all}
-use Rattle.task_model.proofs.KnownLemmas.{fact_member}
+use Rattle.task_model.proofs.KnownLemmas.{fact_member, match_is}
 use Rattle.task_model.proofs.TruthLemmas.{have_types-length}
 use Rattle.lemmas.proofs.ListTests.{all_at, get_there}
 use Rattle.lemmas.proofs.Members.{place_of}
@@ -15,7 +15,7 @@ use Rattle.task_model.specs.declared.condition.Term.{Term}
 use Rattle.task_model.specs.declared.condition.Term.TheVariants.{Slot, Object}
 use Rattle.task_model.specs.declared.fact.Fact.{Fact}
 use Rattle.fact_join.proofs.AddingLemmas.{Among}
-use Rattle.fact_join.proofs.FactLemmas.{from_filter, into_filter, has_object, match_is, is_match_at}
+use Rattle.fact_join.proofs.FactLemmas.{from_filter, into_filter, has_object, is_match_at}
 use Rattle.fact_join.specs.Answers.{IsAnswer, IsAnswerBy, is_known, is_term_of, is_atom_over}
 use Rattle.fact_join.specs.Leads.{IsLead}
 use Rattle.fact_join.specs.Partials.{Agrees, AreFixed}

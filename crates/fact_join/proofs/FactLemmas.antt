@@ -1,14 +1,13 @@
 -- What is gone through: the objects of a type, and the facts that have an object at a place.
-use Rattle.std.proofs.Common.{◌≡◌, ℕ, Bool, true, false, cond, ◌&&◌, ◌==◌, inl, inr, List, [], ◌∷◌, filter, refl, sym, ap, subst, ◌∙◌, Option, Some, None, slice_get, Contains, eqb-true, eq-eqb, ◌↔◌}
+use Rattle.std.proofs.Common.{◌≡◌, ℕ, Bool, true, false, cond, ◌==◌, inl, inr, List, [], ◌∷◌, filter, refl, sym, ap, subst, ◌∙◌, Option, Some, None, slice_get, Contains, eqb-true, eq-eqb, ◌↔◌}
 use Rattle.std.proofs.lemmas.Bool.{and_from}
-use Rattle.std.specs.Cmp.{first_so, second_so}
 use Rattle.std.specs.List.{filter_map, cons_option}
 use Rattle.task_model.proofs.KnownLemmas.{fact_member, object_itself}
 use Rattle.lemmas.proofs.Ascending.{contains_here, contains_later, contains_cases, contains_none}
 use Rattle.lemmas.proofs.Distinct.{distinct_tail, head_is_new, distinct_cons}
 use Rattle.lemmas.proofs.Members.{distinct_nil}
 use Rattle.lemmas.specs.Lists.{AreDistinct}
-use Rattle.task_model.specs.Known.{Known, type_fact, atom_fact, object_with, objects_of, is_match, same_kind}
+use Rattle.task_model.specs.Known.{Known, type_fact, atom_fact, object_with, objects_of, is_match}
 use Rattle.task_model.specs.Truth.{has_type}
 use Rattle.task_model.specs.declared.fact.Fact.{Fact}
 use Rattle.task_model.specs.declared.fact.Kind.{Kind}
@@ -133,19 +132,6 @@ has_object known sort object = (
 )
 
 -- ---- the facts that have an object at a place
-
-predicate_kind : (k : Kind) → same_kind Predicate k ≡ true → k ≡ Predicate
-predicate_kind Predicate e = refl
-predicate_kind Sort e = absurd (cc)
-
--- such a fact is the predicate's atom of its arguments
-pub match_is : (pred place object : ℕ) (f : Fact) → is_match pred place object f ≡ true
-    → f ≡ atom_fact pred f.args
-match_is pred place object f e =
-    let front = first_so (same_kind Predicate f.kind && (f.name == pred)) _ e in
-    let kind = predicate_kind f.kind (first_so (same_kind Predicate f.kind) (f.name == pred) front) in
-    let name = eqb-true f.name pred (second_so (same_kind Predicate f.kind) (f.name == pred) front) in
-    λ i. record { kind = kind i; name = name i; args = f.args }
 
 pub is_match_at : (pred place object : ℕ) (args : List ℕ) → slice_get args place ≡ Some object
     → is_match pred place object (atom_fact pred args) ≡ true

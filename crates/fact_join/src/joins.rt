@@ -4,13 +4,14 @@ ghost use Rattle.fact_join.specs.Adding.{Adds, ComesOf};
 ghost use Rattle.fact_join.specs.Answers.{IsAnswer, IsAskable, AddsAnswers, LacksAnswers, IsAnswerBy};
 ghost use Rattle.fact_join.specs.Leads.{IsLead};
 ghost use Rattle.fact_join.specs.Partials.{AreFixed};
+ghost use Rattle.task_model.specs.Known.{atom_fact};
 
 use crate::front::{Front, front_of};
 use crate::lead::{Lead, lead_of};
 use crate::partial::Partial;
 use crate::query::{JoinFault, Query, QueryAtom, Wanted};
 use formula_eval::have_types;
-use task_model::{Fact, Look, Obj, Objects};
+use task_model::{Look, Obj, Objects};
 
 /// Puts all answers behind the rows, each once.
 #[cycle(join)]
@@ -89,21 +90,21 @@ fn follow<L: Look, W: Wanted, const N: usize>(
         rows.old.items) }
 {
     for number in 0..lead.count {
-        let fact = query
+        let args = query
             .look
             .matched(atom.pred, lead.place, lead.object, number);
-        join_fact(query, partial, atom, fact, rest, rows)?;
+        join_fact(query, partial, atom, args, rest, rows)?;
     }
     Ok(())
 }
 
-/// Goes on with the other atoms where this one is this fact.
+/// Goes on with the other atoms where this one is the fact with these arguments.
 #[cycle(join)]
 fn join_fact<L: Look, W: Wanted, const N: usize>(
     query: &Query<'_, L, W>,
     partial: &Partial,
     atom: &QueryAtom<'_>,
-    fact: &Fact,
+    args: &[Obj],
     rest: &[QueryAtom<'_>],
     rows: &mut Vec<Objects<N>>,
 ) -> Result<(), JoinFault>
@@ -111,14 +112,14 @@ fn join_fact<L: Look, W: Wanted, const N: usize>(
         (atom.now ∷ rest.now) }
     requires few { length rows.old.items ≤ query.now.most }
     ensures found { OnOk result (Adds (IsAnswerBy (L.known query.now.look.now) query.now.sorts.now
-        (W.wants query.now.wanted.now) partial.now atom.now.terms.now rest.now fact.now)
-        rows.old.items rows.new.items) }
+        (W.wants query.now.wanted.now) partial.now atom.now.terms.now rest.now
+        (atom_fact atom.now.pred args.now)) rows.old.items rows.new.items) }
     ensures few { OnOk result (length rows.new.items ≤ query.now.most) }
     ensures fault { IfErr result (ComesOf query.now.most
         (IsAnswerBy (L.known query.now.look.now) query.now.sorts.now (W.wants query.now.wanted.now)
-        partial.now atom.now.terms.now rest.now fact.now) rows.old.items) }
+        partial.now atom.now.terms.now rest.now (atom_fact atom.now.pred args.now)) rows.old.items) }
 {
-    match partial.fit(atom.terms, fact.args.as_slice()) {
+    match partial.fit(atom.terms, args) {
         Some(left) => join(query, &left, rest, rows),
         None => Ok(()),
     }

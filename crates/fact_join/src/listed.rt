@@ -115,7 +115,7 @@ impl<'a, L: Look> Look for Listed<'a, L> {
         self.look.matches(pred, place, object)
     }
 
-    fn matched(&self, pred: u32, place: usize, object: Obj, number: usize) -> &Fact {
+    fn matched(&self, pred: u32, place: usize, object: Obj, number: usize) -> &[Obj] {
         self.look.matched(pred, place, object, number)
     }
 }

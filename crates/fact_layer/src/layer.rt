@@ -85,7 +85,7 @@ impl<'a> Look for Layer<'a> {
         self.more.matches(self.base, pred, place, object)
     }
 
-    fn matched(&self, pred: u32, place: usize, object: Obj, number: usize) -> &Fact {
+    fn matched(&self, pred: u32, place: usize, object: Obj, number: usize) -> &[Obj] {
         self.more.matched(self.base, pred, place, object, number)
     }
 }

@@ -1,7 +1,7 @@
 //! Facts and values that stand behind those of a store.
 ghost use Rattle.std.specs.Prelude.{◌≡◌, ◌++◌, ◌<◌, [], not, length, slice_get, Some, IfOk, OnOk, OnErr};
 ghost use Rattle.std.specs.List.{list_any};
-ghost use Rattle.task_model.specs.Known.{is_fact, with_fact, with_facts, same_value, with_value, objects_of, value_of, matches_of};
+ghost use Rattle.task_model.specs.Known.{atom_fact, is_fact, with_fact, with_facts, same_value, with_value, objects_of, value_of, matches_of};
 ghost use Rattle.fact_layer.specs.Laid.{lesser_option};
 
 use fact_store::{FactTable, Facts, ValueTable};
@@ -130,7 +130,8 @@ impl More {
         base.fact_table().matches(pred, place, object) + self.facts.matches(pred, place, object)
     }
 
-    /// The atom of that number among those of the predicate with the object at this place.
+    /// The arguments of the atom of that number among those of the predicate with the object at this
+    /// place.
     pub(crate) fn matched<'a>(
         &'a self,
         base: &'a Facts,
@@ -138,19 +139,19 @@ impl More {
         place: usize,
         object: Obj,
         number: usize,
-    ) -> &'a Fact
+    ) -> &'a [Obj]
         requires { number < length
             (matches_of (base.now.known.facts ++ self.now.facts) pred place object) }
         ensures { slice_get
             (matches_of (base.now.known.facts ++ self.now.facts) pred place object) number
-            ≡ Some result.now }
+            ≡ Some (atom_fact pred result.now) }
     {
         let before = base.matches(pred, place, object);
         if number < before {
             return base.matched(pred, place, object, number);
         }
         match self.facts.matched(pred, place, object, number - before) {
-            Some(fact) => fact,
+            Some(args) => args,
             None => unreachable!(),
         }
     }

@@ -1,10 +1,11 @@
 //! The facts, with the tables by which they are found.
-ghost use Rattle.std.specs.Prelude.{◌≡◌, ◌<◌, ◌^◌, List, [], not, length, slice_get, option_copied, IfOk, OnOk, OnErr};
-ghost use Rattle.task_model.specs.Known.{is_fact, with_fact, objects_of, matches_of};
+ghost use Rattle.std.specs.Prelude.{◌≡◌, ◌<◌, ◌^◌, List, [], not, length, slice_get, option_copied, option_map, IfOk, OnOk, OnErr};
+ghost use Rattle.task_model.specs.Known.{is_fact, with_fact, objects_of, matches_of, atom_fact};
 ghost use Rattle.task_model.specs.declared.fact.Fact.{Fact};
 ghost use Rattle.fact_store.specs.Tables.{CoverPlaces};
 
 use crate::scan::{count_with, nth_with};
+use crate::stored_fact::StoredFact;
 use crate::table::{Group, Table};
 use indexmap::IndexSet;
 use std::alloc::{AllocError, Global};
@@ -17,7 +18,7 @@ use task_model::{Fact, NumberHasher, Obj};
 /// that it doesn't cover are searched.
 #[derive(Drop)]
 pub struct FactTable {
-    facts: IndexSet<Fact, BuildHasherDefault<NumberHasher>>,
+    facts: IndexSet<StoredFact, BuildHasherDefault<NumberHasher>>,
     objects: Table,
     /// By places of the arguments.
     atoms_at: Vec<Table>,
@@ -54,7 +55,7 @@ fn add_tables(alloc: Global, tables: &mut Vec<Table>, count: usize)
 }
 
 /// Lets the table of each place cover the facts up to the last, or as far as memory reaches.
-fn cover_each(alloc: Global, tables: &mut [Table], facts: &[Fact])
+fn cover_each(alloc: Global, tables: &mut [Table], facts: &[StoredFact])
     requires { CoverPlaces facts.now tables.old }
     ensures { CoverPlaces facts.now tables.new }
 {
@@ -109,7 +110,7 @@ impl FactTable {
         ensures err { OnErr result (self.new ≡ self.old) }
     {
         let arity = fact.args.as_slice().len();
-        let fresh = self.facts.insert(fact)?;
+        let fresh = self.facts.insert(StoredFact::new(self.alloc, &fact)?)?;
         add_tables(self.alloc, &mut self.atoms_at, arity);
         Ok(fresh)
     }
@@ -139,7 +140,7 @@ impl FactTable {
         let fact = self
             .objects
             .nth(Group::Objects, (sort, 0), self.facts.as_slice(), number)?;
-        fact.args.as_slice().first().copied()
+        fact.args().first().copied()
     }
 
     /// The objects that have the type, in the facts' order. Fails only where memory is wanting.
@@ -173,18 +174,21 @@ impl FactTable {
         }
     }
 
-    /// The atom of that number among those of the predicate with the object at this place.
-    pub fn matched(&self, pred: u32, place: usize, object: Obj, number: usize) -> Option<&Fact>
-        ensures { option_copied result ≡ slice_get (matches_of self.now pred place object) number }
+    /// The arguments of the atom of that number among those of the predicate with the object at this
+    /// place.
+    pub fn matched(&self, pred: u32, place: usize, object: Obj, number: usize) -> Option<&[Obj]>
+        ensures { option_map (atom_fact pred) (option_copied result)
+            ≡ slice_get (matches_of self.now pred place object) number }
     {
         let (group, key, facts) = (
             Group::AtomsAt(place),
             (pred, object.place()),
             self.facts.as_slice(),
         );
-        match self.atoms_at.as_slice().get(place) {
-            Some(table) => table.nth(group, key, facts, number),
-            None => nth_with(group, key, facts, number),
-        }
+        let fact = match self.atoms_at.as_slice().get(place) {
+            Some(table) => table.nth(group, key, facts, number)?,
+            None => nth_with(group, key, facts, number)?,
+        };
+        Some(fact.args())
     }
 }

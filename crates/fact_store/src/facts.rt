@@ -263,9 +263,9 @@ impl Look for Facts {
         self.facts.matches(pred, place, object)
     }
 
-    fn matched(&self, pred: u32, place: usize, object: Obj, number: usize) -> &Fact {
+    fn matched(&self, pred: u32, place: usize, object: Obj, number: usize) -> &[Obj] {
         match self.facts.matched(pred, place, object, number) {
-            Some(fact) => fact,
+            Some(args) => args,
             None => unreachable!(),
         }
     }

@@ -18,7 +18,7 @@ use task_model::{Declared, Domain, Fact, Kind, Obj, Role, Row, Valued, supertype
 pub(crate) fn type_count(objects: &[Declared]) -> usize {
     let mut count = objects.len();
     for declared in objects {
-        count = count.saturating_add(declared.sorts.len());
+        count = count.saturating_add(declared.sorts.as_slice().len());
     }
     count
 }

@@ -5,6 +5,7 @@ mod fact_table;
 mod facts;
 mod initial;
 mod scan;
+mod stored_fact;
 mod table;
 mod value_table;
 

@@ -4,11 +4,12 @@ ghost use Rattle.std.specs.Prelude.{◌≡◌, ◌≤◌, length, slice_get, opt
 ghost use Rattle.fact_store.specs.Tables.{facts_with};
 ghost use Rattle.fact_store.specs.declared.facts.TheConstants.{MOST_NAMES};
 
+use crate::stored_fact::StoredFact;
 use crate::table::{Group, Key, has_key};
-use task_model::{Fact, Name, Obj};
+use task_model::{Name, Obj};
 
 /// How many of the facts have this key.
-pub(crate) fn count_with(group: Group, key: Key, facts: &[Fact]) -> usize
+pub(crate) fn count_with(group: Group, key: Key, facts: &[StoredFact]) -> usize
     ensures { result ≡ length (facts_with group key facts.now) }
 {
     facts
@@ -18,7 +19,12 @@ pub(crate) fn count_with(group: Group, key: Key, facts: &[Fact]) -> usize
 }
 
 /// The fact of that number among those with this key.
-pub(crate) fn nth_with(group: Group, key: Key, facts: &[Fact], number: usize) -> Option<&Fact>
+pub(crate) fn nth_with(
+    group: Group,
+    key: Key,
+    facts: &[StoredFact],
+    number: usize,
+) -> Option<&StoredFact>
     ensures { option_copied result ≡ slice_get (facts_with group key facts.now) number }
 {
     let mut left = number;

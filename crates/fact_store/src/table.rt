@@ -5,11 +5,12 @@ ghost use Rattle.fact_store.specs.Tables.{Covers, Key, facts_with, same_key, pla
 ghost use Rattle.fact_store.specs.Tables as tables;
 
 use crate::scan::{count_with, nth_with};
+use crate::stored_fact::StoredFact;
 use indexmap::IndexMap;
 use smallvec::SmallVec;
 use std::alloc::{AllocError, Global};
 use std::hash::BuildHasherDefault;
-use task_model::{Fact, Kind, NumberHasher};
+use task_model::{Kind, NumberHasher};
 
 /// Which facts a table finds, and by what.
 #[derive(Clone, Copy)]
@@ -34,21 +35,21 @@ pub(crate) struct Table {
 }
 
 /// The key of the fact, if it belongs to the group.
-fn key_of(group: Group, fact: &Fact) -> Option<Key>
+fn key_of(group: Group, fact: &StoredFact) -> Option<Key>
     ensures { result ≡ tables.group_key group fact.now }
 {
-    match (group, fact.kind, fact.args.as_slice()) {
-        (Group::Objects, Kind::Sort, [_]) => Some((fact.name, 0)),
+    match (group, fact.kind(), fact.args()) {
+        (Group::Objects, Kind::Sort, [_]) => Some((fact.name(), 0)),
         (Group::AtomsAt(place), Kind::Predicate, args) => {
             let object = args.get(place)?;
-            Some((fact.name, object.place()))
+            Some((fact.name(), object.place()))
         }
         _ => None,
     }
 }
 
 /// Whether the fact belongs to the group and has this key.
-pub(crate) fn has_key(group: Group, key: Key, fact: &Fact) -> bool
+pub(crate) fn has_key(group: Group, key: Key, fact: &StoredFact) -> bool
     ensures { result ≡ tables.has_key group key fact.now }
 {
     match key_of(group, fact) {
@@ -138,7 +139,7 @@ impl Table {
     }
 
     /// Goes on by one fact, or answers false where memory is wanting.
-    fn cover_next(&mut self, alloc: Global, group: Group, facts: &[Fact]) -> bool
+    fn cover_next(&mut self, alloc: Global, group: Group, facts: &[StoredFact]) -> bool
         requires covers { Covers group facts.now self.old }
         requires more { self.old.done < length facts.now }
         ensures covers { Covers group facts.now self.new }
@@ -158,7 +159,7 @@ impl Table {
     }
 
     /// Goes on over the facts up to the last, or stops where memory is wanting.
-    pub(crate) fn cover(&mut self, alloc: Global, group: Group, facts: &[Fact])
+    pub(crate) fn cover(&mut self, alloc: Global, group: Group, facts: &[StoredFact])
         requires { Covers group facts.now self.old }
         ensures { Covers group facts.now self.new }
     {
@@ -170,7 +171,7 @@ impl Table {
     }
 
     /// How many of the facts have this key.
-    pub(crate) fn count(&self, group: Group, key: Key, facts: &[Fact]) -> usize
+    pub(crate) fn count(&self, group: Group, key: Key, facts: &[StoredFact]) -> usize
         requires { Covers group facts.now self.now }
         ensures count { result ≡ length (facts_with group key facts.now) }
         ensures few { result < 2 ^ 63 }
@@ -183,9 +184,9 @@ impl Table {
         &self,
         group: Group,
         key: Key,
-        facts: &'a [Fact],
+        facts: &'a [StoredFact],
         number: usize,
-    ) -> Option<&'a Fact>
+    ) -> Option<&'a StoredFact>
         requires { Covers group facts.now self.now }
         ensures { option_copied result ≡ slice_get (facts_with group key facts.now) number }
     {

@@ -93,8 +93,8 @@ pub(crate) fn tried_object<L: Look>(
             led_object(scene, sort, slot, lead, atom.args.as_slice(), env)
         }
         Among::Facts { at, object } => {
-            let fact = scene.look.matched(lead.pred, at, object, place);
-            led_object(scene, sort, slot, lead, fact.args.as_slice(), env)
+            let args = scene.look.matched(lead.pred, at, object, place);
+            led_object(scene, sort, slot, lead, args, env)
         }
     }
 }

@@ -85,7 +85,7 @@ pub fn declared_of(
 {
     let mut list = Vec::with_capacity(alloc, names.len())?;
     for place in 0..names.len() {
-        let Some(sorts) = sorts.list_at(place)? else {
+        let Some(sorts) = sorts.sorts_at(place)? else {
             return Ok(list);
         };
         let name = Name::from_slice(alloc, names.name_at(place))?;

@@ -7,7 +7,7 @@ use crate::graph::ascending;
 use smallvec::SmallVec;
 use std::alloc::{AllocError, Global};
 use std::marker::Model;
-use task_model::Seq;
+use task_model::{Seq, Sorts};
 
 /// Lists of numbers, each of which is seen ascending, each number once.
 ///
@@ -67,14 +67,16 @@ impl NumberLists {
         Ok(())
     }
 
-    /// The list at this place, or None where there is none. Fails only where memory is wanting.
-    pub fn list_at(&self, place: usize) -> Result<Option<Seq<u32>>, AllocError>
+    /// The list at this place, of types, or None where there is none. Fails only where memory is
+    /// wanting.
+    pub fn sorts_at(&self, place: usize) -> Result<Option<Sorts>, AllocError>
         ensures { IfOk result (λ list. list ≡ slice_get self.now place) }
     {
-        match self.lists.get(place) {
-            Some(list) => Ok(Some(Seq::from_vec(ascending(self.alloc, list.as_slice())?))),
-            None => Ok(None),
-        }
+        let Some(list) = self.lists.get(place) else {
+            return Ok(None);
+        };
+        let ascending = ascending(self.alloc, list.as_slice())?;
+        Ok(Some(Sorts::from_slice(self.alloc, ascending.as_slice())?))
     }
 
     /// All lists. Fails only where memory is wanting.

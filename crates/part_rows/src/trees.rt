@@ -8,27 +8,30 @@ use std::alloc::Global;
 use task_reader::InputRefusal;
 
 /// Writes the trees of a row, each behind a space and with the place of each word and each list in
-/// it. No row has more than `left` words and lists.
-fn write_row(out: &mut Out, row: &[Node], left: usize) {
-    if left == 0 {
+/// it. No tree of the row is deeper than `depth`.
+fn write_row(out: &mut Out, row: &[Node], depth: usize) {
+    if depth == 0 {
         return;
     }
-    match front_of(row) {
-        Front::End => {}
-        Front::Word { text, place, rest } => {
-            out.put(" ");
-            out.put_bytes(text);
-            out.put("@");
-            out.print(place);
-            write_row(out, rest, left - 1);
-        }
-        Front::List { items, place, rest } => {
-            out.put(" (");
-            out.print(place);
-            write_row(out, items, left - 1);
-            out.put(" )");
-            write_row(out, rest, left - 1);
-        }
+    let mut left = row;
+    for _ in 0..row.len() {
+        left = match front_of(left) {
+            Front::End => return,
+            Front::Word { text, place, rest } => {
+                out.put(" ");
+                out.put_bytes(text);
+                out.put("@");
+                out.print(place);
+                rest
+            }
+            Front::List { items, place, rest } => {
+                out.put(" (");
+                out.print(place);
+                write_row(out, items, depth - 1);
+                out.put(" )");
+                rest
+            }
+        };
     }
 }
 

@@ -44,7 +44,7 @@ fn add_objects(names: &mut NameTable, items: &[Node]) -> Result<(), AllocError>
 fn has_type(constant: &Declared) -> bool
     ensures { result ≡ specs.has_type constant.now }
 {
-    0 < constant.sorts.len()
+    0 < constant.sorts.as_slice().len()
 }
 
 /// Whether each constant has a type, as in a domain that was read.

@@ -1,5 +1,5 @@
 -- Lists of facts: what is in them, and that facts stand once.
-use Rattle.std.proofs.Common.{◌≡◌, ℕ, true, false, cond, ◌&&◌, ◌||◌, ◌==◌, arith, inl, inr, ◌↔◌, List, [], ◌∷◌, ◌++◌, refl, sym, subst, Contains, eqb-true, eq-eqb, append_assoc, zero, suc, ◌<◌, length, ap, Some, None, ◌+◌, ◌≤◌, length-append}
+use Rattle.std.proofs.Common.{◌≡◌, ℕ, Bool, true, false, cond, filter, slice_get, ◌&&◌, ◌||◌, ◌==◌, arith, inl, inr, ◌↔◌, List, [], ◌∷◌, ◌++◌, refl, sym, subst, Contains, eqb-true, eq-eqb, append_assoc, zero, suc, ◌<◌, length, ap, Some, None, ◌+◌, ◌≤◌, length-append}
 use Rattle.std.proofs.lemmas.List.Elements.{Contains-append_left, Contains-append_right, Contains-append_cases}
 use Rattle.std.proofs.lemmas.Map.Views.{Contains-from_any, list_any-from_Contains}
 use Rattle.std.specs.Bool.{Decides}
@@ -8,14 +8,15 @@ use Rattle.std.specs.Cmp.Lexicographic.{pointwise_decides}
 use Rattle.std.proofs.lemmas.Bool.{and_from}
 use Rattle.lemmas.proofs.Members.{distinct_push}
 use Rattle.lemmas.proofs.Bools.{not_both, from_or_false}
-use Rattle.task_model.specs.Known.{same_kind, same_fact, same_numbers, is_fact, with_fact, with_facts, same_value, IsIn, object_with, type_fact, with_name, with_names}
+use Rattle.task_model.specs.Known.{same_kind, same_fact, same_numbers, is_fact, with_fact, with_facts, same_value, IsIn, object_with, type_fact, atom_fact, is_match, matches_of, with_name, with_names}
 use Rattle.task_model.specs.Laws.{AddsFacts}
 use Rattle.task_model.specs.declared.fact.Fact.{Fact}
 use Rattle.task_model.specs.declared.fact.Kind.{Kind}
 use Rattle.task_model.specs.declared.fact.Kind.TheVariants.{Predicate, Sort}
 use Rattle.task_model.specs.declared.task.Valued.{Valued}
 use Rattle.lemmas.specs.Lists.{AreDistinct}
-use Rattle.std.specs.List.{list_any}
+use Rattle.std.specs.List.{list_all, list_any}
+use Rattle.lemmas.proofs.ListTests.{all_at}
 
 kinds_same : (a b : Kind) → same_kind a b ≡ true → a ≡ b
 kinds_same Predicate Predicate e = refl
@@ -191,3 +192,34 @@ pub length_with_names : (names more : List (List ℕ))
 length_with_names names [] = omega arith
 length_with_names names (name ∷ more) =
     omega (arith, length_with_name names name, length_with_names (with_name names name) more)
+
+-- ---- the atoms that have an object at a place
+
+predicate_kind : (k : Kind) → same_kind Predicate k ≡ true → k ≡ Predicate
+predicate_kind Predicate e = refl
+predicate_kind Sort e = absurd (cc)
+
+-- such a fact is the predicate's atom of its arguments
+pub match_is : (pred place object : ℕ) (f : Fact) → is_match pred place object f ≡ true
+    → f ≡ atom_fact pred f.args
+match_is pred place object f e =
+    let front = first_so (same_kind Predicate f.kind && (f.name == pred)) _ e in
+    let kind = predicate_kind f.kind (first_so (same_kind Predicate f.kind) (f.name == pred) front) in
+    let name = eqb-true f.name pred (second_so (same_kind Predicate f.kind) (f.name == pred) front) in
+    λ i. record { kind = kind i; name = name i; args = f.args }
+
+all_pass : {A : Type 0} (p : A → Bool) (xs : List A) → list_all p (filter p xs) ≡ true
+all_pass p [] = refl
+all_pass p (x ∷ xs) =
+    elim (p x) as (λ b. p x ≡ b → list_all p (cond b (x ∷ filter p xs) (filter p xs)) ≡ true) [
+      | true ↦ λ e. and_from (p x) (list_all p (filter p xs)) e (all_pass p xs)
+      | false ↦ λ e. all_pass p xs
+    ] refl
+
+-- and so is each that is gone through by its number
+pub matched_is : (facts : List Fact) (pred place object number : ℕ) (f : Fact)
+    → slice_get (matches_of facts pred place object) number ≡ Some f → f ≡ atom_fact pred f.args
+matched_is facts pred place object number f at =
+    let passes = is_match pred place object in
+    match_is pred place object f
+    (all_at passes (matches_of facts pred place object) number f (all_pass passes facts) at)

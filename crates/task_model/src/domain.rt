@@ -2,6 +2,7 @@
 use crate::condition::{Formula, Term};
 use crate::name::Name;
 use crate::seq::Seq;
+use crate::sorts::Sorts;
 
 /// A type. Sort 0 is `object`.
 #[derive(Drop)]
@@ -39,7 +40,7 @@ pub struct Declared {
     /// Its name in lower case.
     pub name: Name,
     /// The types that are written beside it, without their supertypes.
-    pub sorts: Seq<u32>,
+    pub sorts: Sorts,
 }
 
 /// An atom whose arguments are terms.

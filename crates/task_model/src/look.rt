@@ -1,6 +1,6 @@
 //! What planning looks up: the facts, the objects of a type, the values of functions, and names.
 ghost use Rattle.std.specs.Prelude.{◌≡◌, ◌<◌, length, Some, slice_get};
-ghost use Rattle.task_model.specs.Known.{Known, IsCoherent, is_fact, objects_of, value_of, matches_of};
+ghost use Rattle.task_model.specs.Known.{Known, IsCoherent, atom_fact, is_fact, objects_of, value_of, matches_of};
 
 use crate::fact::Fact;
 use crate::name::Name;
@@ -37,11 +37,11 @@ pub trait Look {
     fn matches(&self, pred: u32, place: usize, object: Obj) -> usize
         ensures { result ≡ length (matches_of (known self.now).facts pred place object) };
 
-    /// One of these atoms, by its number from 0. Each stands there once.
-    fn matched(&self, pred: u32, place: usize, object: Obj, number: usize) -> &Fact
+    /// The arguments of one of these atoms, by its number from 0. Each stands there once.
+    fn matched(&self, pred: u32, place: usize, object: Obj, number: usize) -> &[Obj]
         requires { number < length (matches_of (known self.now).facts pred place object) }
         ensures { slice_get (matches_of (known self.now).facts pred place object) number
-            ≡ Some result.now };
+            ≡ Some (atom_fact pred result.now) };
 
     /// Names, facts and values stand once each, objects have names, and values are costs.
     ghost coherent: { (look : Self) → IsCoherent (known look) };

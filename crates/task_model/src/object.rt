@@ -54,8 +54,8 @@ pub struct Objects<const N: usize> {
 /// The arguments of a fact or an atom, or the inputs of a stream: at most 8.
 pub type Row = Objects<8>;
 
-/// The arguments of an action: at most 16.
-pub type Wide = Objects<16>;
+/// The arguments of an action: at most 16, of which 8 lie in the value.
+pub type Wide = Objects<8>;
 
 impl<const N: usize> Model for Objects<N> {
     ghost use Rattle.std.specs.Prelude.{ℕ, List};

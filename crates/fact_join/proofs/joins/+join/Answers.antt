@@ -1,9 +1,9 @@
-use Rattle.std.proofs.Common.{rules, None, ◌↔◌, ◌≡◌, ◌∷◌, [], List, ℕ, length, ap, sym, subst, ◌∙◌, arith, Some, slice_get, slice_index}
+use Rattle.std.proofs.Common.{rules, None, ◌≡◌, ◌∷◌, [], length, ap, sym, subst, ◌∙◌, arith, Some, slice_get, slice_index}
 use Rattle.std.proofs.lemmas.Option.{slice_get-get_or}
 use Rattle.std.proofs.lemmas.Result.{err_from_is_err_and, on_ok_weaker, IfErr-weaker}
-use Rattle.task_model.specs.Known.{objects_of, matches_of, is_match}
+use Rattle.task_model.specs.Known.{atom_fact, objects_of, matches_of, is_match}
 use Rattle.std.specs.List.{list_all}
-use Rattle.task_model.specs.Truth.{objects_at, slots_of}
+use Rattle.task_model.specs.Truth.{slots_of}
 use Rattle.fact_join.proofs.AddingLemmas.{Among, adds_start, adds_next, adds_whole, adds_same, adds_none, comes_same, comes_next}
 use Rattle.fact_join.proofs.AnswerLemmas.{IsAnswerAt, at_object, by_objects, at_fact, by_facts, facts_apart, atom_terms, readable_terms}
 use Rattle.fact_join.proofs.FactLemmas.{objects_distinct, distinct_filter}
@@ -11,7 +11,6 @@ use Rattle.fact_join.proofs.FrontLemmas.{answer_settled, answer_left, left_short
 use Rattle.fact_join.specs.Adding.{Adds, ComesOf}
 use Rattle.fact_join.specs.Answers.{IsAnswer, IsAnswerBy, is_atom_over}
 use Rattle.fact_join.specs.Fronts.{IsFront}
-use Rattle.fact_join.specs.Partials.{Agrees}
 use Rattle.fact_join.proofs.joins.+join.Goals as goal
 
 pub branch-loop-place-init : goal.branch-loop-place-init
@@ -106,7 +105,7 @@ follow-returns-in_err-join_fact-clause-fault g t c =
     let fault = c.in_err-join_fact.field-0.0 in
     let among = comes_next at facts (facts_apart known sorts wants partial atom atoms lead.place lead.object)
     (distinct_filter (is_match atom.pred lead.place lead.object) known.facts (g.met.L.Look.coherent c.args.query.now.look.now).facts)
-    c.loop-number.number c.matched-fact.result.now c.matched-fact.ensures most c.args.rows.now.items c.loop-number.rows.items fault
+    c.loop-number.number (atom_fact atom.pred c.matched-args.result.now) c.matched-args.ensures most c.args.rows.now.items c.loop-number.rows.items fault
     c.loop-number.invariant.0 c.in_err-join_fact.ensures.fault in
     let p = err_from_is_err_and c.from_residual.result c.from_residual.ensures.1 in
     rw (p.1, p.2)
@@ -126,7 +125,7 @@ follow-loop-number-preserved g t c =
     let facts = matches_of known.facts atom.pred lead.place lead.object in (
       adds_next at facts (facts_apart known sorts wants partial atom atoms lead.place lead.object)
           (distinct_filter (is_match atom.pred lead.place lead.object) known.facts (g.met.L.Look.coherent c.args.query.now.look.now).facts)
-          c.loop-number.number c.matched-fact.result.now c.matched-fact.ensures c.args.rows.now.items c.loop-number.rows.items
+          c.loop-number.number (atom_fact atom.pred c.matched-args.result.now) c.matched-args.ensures c.args.rows.now.items c.loop-number.rows.items
           c.join_fact.new.rows.items c.loop-number.invariant.0 c.in_ok-join_fact.ensures.found,
       c.in_ok-join_fact.ensures.few,
     )
@@ -285,9 +284,8 @@ join_fact-returns-in-Some-clause-found g t c =
     let left = c.in-Some.left in
     let terms = c.args.atom.now.terms.now in
     let atoms = c.args.rest.now in
-    let fact = c.args.fact.now in
-    let narrows = subst (λ xs. (slots : List ℕ) → Agrees left slots ↔ (Agrees partial slots × (objects_at slots terms ≡ xs)))
-    c.as_slice.ensures c.in-Some.ensures.0 in
+    let fact = atom_fact c.args.atom.now.pred c.args.args.now in
+    let narrows = c.in-Some.ensures.0 in
     let old = c.args.rows.now.items in
     let new = c.join.new.rows.items in
     let Found : Type 0 = Adds (IsAnswerBy known sorts wants partial terms atoms fact) old new in
@@ -304,9 +302,8 @@ join_fact-returns-in-Some-clause-fault g t c =
     let left = c.in-Some.left in
     let terms = c.args.atom.now.terms.now in
     let atoms = c.args.rest.now in
-    let fact = c.args.fact.now in
-    let narrows = subst (λ xs. (slots : List ℕ) → Agrees left slots ↔ (Agrees partial slots × (objects_at slots terms ≡ xs)))
-    c.as_slice.ensures c.in-Some.ensures.0 in
+    let fact = atom_fact c.args.atom.now.pred c.args.args.now in
+    let narrows = c.in-Some.ensures.0 in
     let most = c.args.query.now.most in
     let old = c.args.rows.now.items in
     let P = IsAnswer known sorts wants left atoms in
@@ -321,6 +318,6 @@ join_fact-returns-in-None-clause-found g t c =
     let wants = g.W.Wanted.wants c.args.query.now.wanted.now in
     let partial = c.args.partial.now in
     let terms = c.args.atom.now.terms.now in
-    let fact = c.args.fact.now in
+    let fact = atom_fact c.args.atom.now.pred c.args.args.now in
     adds_none (IsAnswerBy known sorts wants partial terms c.args.rest.now fact) c.args.rows.now.items
-    (λ tuple (is, a). c.in-None.ensures (slots_of tuple) a.agrees (is ∙ sym c.as_slice.ensures))
+    (λ tuple (is, a). c.in-None.ensures (slots_of tuple) a.agrees is)

@@ -43,7 +43,7 @@ returns-in-Facts-clause-comes g c object at m =
     let objects = objects_at led.after lead.terms.now in
     let stands = subst (λ a. StandsAmong known state lead.pred a objects c.args.place) c.in-Facts.is led.stands in
     let found = placed_fact (matches_of known.facts lead.pred c.in-Facts.at c.in-Facts.object) c.args.place
-    c.matched-fact.result.now (atom_fact lead.pred objects) c.matched-fact.ensures stands in
+    (atom_fact lead.pred c.matched-args.result.now) (atom_fact lead.pred objects) c.matched-args.ensures stands in
     let typed = subst (λ o. has_type known o c.args.sort ≡ true) (sym led.here) ((has_object known c.args.sort object).1 m) in
     subst (λ o. c.led_object-in-Facts.result ≡ Some o) led.here
-    (c.led_object-in-Facts.ensures.led led.after (c.as_slice-in-Facts.ensures ∙ ap (λ (f : Fact). f.args) found) led.same typed)
+    (c.led_object-in-Facts.ensures.led led.after (ap (λ (f : Fact). f.args) found) led.same typed)

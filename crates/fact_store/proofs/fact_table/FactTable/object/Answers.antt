@@ -10,6 +10,6 @@ returns-in_err-fact c =
 
 pub returns : goal.returns
 returns c =
-    c.copied.ensures ∙ c.first.ensures.value ∙ ap (λ xs. slice_get xs 0) c.as_slice-2.ensures
+    c.copied.ensures ∙ c.first.ensures.value ∙ ap (λ xs. slice_get xs 0) c.args-2.ensures
     ∙ object_at c.args.sort c.as_slice.result.now c.args.number c.in_ok-fact.fact.now (sym c.in_ok-fact.ensures)
     ∙ ap (λ fs. slice_get (objects_of fs c.args.sort) c.args.number) (c.as_slice.ensures.keys ∙ c.self.view_is)
