@@ -117,7 +117,8 @@ fn join_fact<L: Look, W: Wanted, const N: usize>(
     ensures few { OnOk result (length rows.new.items ≤ query.now.most) }
     ensures fault { IfErr result (ComesOf query.now.most
         (IsAnswerBy (L.known query.now.look.now) query.now.sorts.now (W.wants query.now.wanted.now)
-        partial.now atom.now.terms.now rest.now (atom_fact atom.now.pred args.now)) rows.old.items) }
+        partial.now atom.now.terms.now rest.now (atom_fact atom.now.pred args.now))
+        rows.old.items) }
 {
     match partial.fit(atom.terms, args) {
         Some(left) => join(query, &left, rest, rows),

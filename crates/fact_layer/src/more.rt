@@ -130,8 +130,8 @@ impl More {
         base.fact_table().matches(pred, place, object) + self.facts.matches(pred, place, object)
     }
 
-    /// The arguments of the atom of that number among those of the predicate with the object at this
-    /// place.
+    /// The arguments of the atom of that number among those of the predicate with the object at
+    /// this place.
     pub(crate) fn matched<'a>(
         &'a self,
         base: &'a Facts,

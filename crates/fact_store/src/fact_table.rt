@@ -174,8 +174,8 @@ impl FactTable {
         }
     }
 
-    /// The arguments of the atom of that number among those of the predicate with the object at this
-    /// place.
+    /// The arguments of the atom of that number among those of the predicate with the object at
+    /// this place.
     pub fn matched(&self, pred: u32, place: usize, object: Obj, number: usize) -> Option<&[Obj]>
         ensures { option_map (atom_fact pred) (option_copied result)
             ≡ slice_get (matches_of self.now pred place object) number }

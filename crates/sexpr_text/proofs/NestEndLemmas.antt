@@ -1,7 +1,7 @@
 -- What is open, in front of what is left.
 use Rattle.std.proofs.Common.{◌≡◌, ℕ, zero, suc, ◌+◌, ◌<◌, ◌≤◌, true, false, cond, List, ◌∷◌, [], length, Option, Some, subst, sym, ◌∙◌, ap, arith, lt-ltb}
 use Rattle.sexpr_text.specs.declared.fault.TextFault.TheVariants.{TooDeep}
-use Rattle.sexpr_text.specs.declared.tree.Node.TheVariants as node
+use Rattle.sexpr_text.specs.Nodes.{Node}
 use Rattle.sexpr_text.specs.declared.tree.Tree.{Tree}
 use Rattle.sexpr_text.specs.declared.nest.Nest.{Nest}
 use Rattle.sexpr_text.specs.declared.scanner.Lexeme.{Lexeme}
@@ -45,17 +45,17 @@ pub record GoesOn (end : ℕ) (start : List Token) (whole : Levels) (n : Nest) (
 -- A word was read.
 pub word_on : (end at : ℕ) (text : List ℕ) (start old new : List Token) (whole : Levels) (os : Opens) (n : Nest)
     → StandsFor end start whole os old → old ≡ Token.word text at ∷ new → open_count os ≤ 64
-    → Holds n (added os (node.Word text at ∷ [])) → GoesOn end start whole n new
+    → Holds n (added os (Node.word text at ∷ [])) → GoesOn end start whole n new
 word_on end at text start old new whole os n s e low h =
-    let count = open_count-added os (node.Word text at ∷ []) in
+    let count = open_count-added os (Node.word text at ∷ []) in
     record {
-      opens = added os (node.Word text at ∷ []);
+      opens = added os (Node.word text at ∷ []);
       holds = h;
       shallow = omega arith;
       fault = s.fault ∙ ap (first_fault end (inside (open_count os))) e
           ∙ ap (λ d. first_fault end (inside d) new) (sym count);
       tree = s.tree ∙ ap (λ ts. nested os (levels ts)) e
-          ∙ sym (nested-added os (node.Word text at ∷ []) (levels new) s.closed);
+          ∙ sym (nested-added os (Node.word text at ∷ []) (levels new) s.closed);
     }
 
 -- A list was opened.
@@ -78,9 +78,9 @@ pub goes_on : (end at : ℕ) (start old new : List Token) (whole : Levels) (os :
     → GoesOn end start whole n new
 goes_on end at start old new whole (one place row) n s e low c = absurd (let f = c.0 in cc)
 goes_on end at start old new whole (within os place row) n s e low c =
-    let count = open_count-added os (node.List (length row) place ∷ row) in
+    let count = open_count-added os (Node.list (length row) place ∷ row) in
     record {
-      opens = added os (node.List (length row) place ∷ row);
+      opens = added os (Node.list (length row) place ∷ row);
       holds = c.1;
       shallow = omega arith;
       fault = s.fault ∙ ap (first_fault end (inside (open_count os + 1))) e
@@ -89,7 +89,7 @@ goes_on end at start old new whole (within os place row) n s e low c =
       tree = s.tree ∙ ap (λ ts. nested (within os place row) (levels ts)) e
           ∙ ap (λ (t : Trees). nested os (record (levels new) { inner = t }))
           (sym (list_alone place row (levels new).inner))
-          ∙ sym (nested-added os (node.List (length row) place ∷ row) (levels new) s.closed.0);
+          ∙ sym (nested-added os (Node.list (length row) place ∷ row) (levels new) s.closed.0);
     }
 
 -- The outermost list was closed.

@@ -2,8 +2,7 @@
 use Rattle.std.proofs.Common.{◌≡◌, ℕ, ◌+◌, ◌-◌, ◌<◌, true, List, [], ◌∷◌, ◌++◌, length, set, refl, sym, ◌∙◌, ap, arith}
 use Rattle.std.proofs.Math.Seq.{set-append_seam}
 use Rattle.std.proofs.lemmas.List.{append_assoc, length-append}
-use Rattle.sexpr_text.specs.declared.tree.Node.{Node}
-use Rattle.sexpr_text.specs.declared.tree.Node.TheVariants as node
+use Rattle.sexpr_text.specs.Nodes.{Node}
 use Rattle.sexpr_text.specs.declared.nest.Begun.{Begun}
 use Rattle.sexpr_text.specs.declared.nest.Nest.{Nest}
 use Rattle.sexpr_text.specs.Trees.{trees_then}
@@ -23,7 +22,7 @@ begun_count (within os place row) =
 -- More in the innermost list is more at the row's end, and opens and closes none.
 row_of-added : (os : Opens) (more : List Node) → row_of (added os more) ≡ row_of os ++ more
 row_of-added (one place row) more = refl
-row_of-added (within os place row) more = sym (append_assoc (row_of os) (node.List 0 place ∷ row) more)
+row_of-added (within os place row) more = sym (append_assoc (row_of os) (Node.list 0 place ∷ row) more)
 
 begun_in-added : (os : Opens) (more : List Node) → begun_in (added os more) ≡ begun_in os
 begun_in-added (one place row) more = refl
@@ -44,7 +43,7 @@ closed_both row more h k = λ others rest.
     ∙ ap (trees_then row) (k others rest)
     ∙ sym (h more (trees_then others rest))
 
-closed_list : (place : ℕ) (row : List Node) → IsClosed (node.List (length row) place ∷ row)
+closed_list : (place : ℕ) (row : List Node) → IsClosed (Node.list (length row) place ∷ row)
 closed_list place row = λ more rest. list_then place row more rest ∙ sym (list_alone place row (trees_then more rest))
 
 closed-added : (os : Opens) (more : List Node) → AreClosed os → IsClosed more → AreClosed (added os more)
@@ -77,12 +76,12 @@ begins_below n (within os place row) rest b h e =
     let k = (ends_alike (begun_in os) rest (record { at = length (row_of os); place = place }) b (sym h.begun ∙ e)).1 in
     let at : length (row_of os) ≡ b.at = ap (λ (x : Begun). x.at) k in
     let all = ap length h.items in
-    let long = length-append (row_of os) (node.List 0 place ∷ row) in
+    let long = length-append (row_of os) (Node.list 0 place ∷ row) in
     omega arith
 
 -- The innermost list is closed, with all that stands in it.
 pub closes_inner : (n m : Nest) (os : Opens) (b : Begun) → Holds n os → n.begun.items ≡ m.begun.items ++ b ∷ []
-    → m.items.items ≡ set n.items.items b.at (node.List (length n.items.items - b.at - 1) b.place) → m.place ≡ n.place
+    → m.items.items ≡ set n.items.items b.at (Node.list (length n.items.items - b.at - 1) b.place) → m.place ≡ n.place
     → Closes os true m
 closes_inner n m (one place row) b h e f g = absurd (no_end m.begun.items b (sym h.begun ∙ e))
 closes_inner n m (within os place row) b h e f g =
@@ -91,21 +90,21 @@ closes_inner n m (within os place row) b h e f g =
     let at : length (row_of os) ≡ b.at = ap (λ (x : Begun). x.at) k.1 in
     let spot : place ≡ b.place = ap (λ (x : Begun). x.place) k.1 in
     let all = ap length h.items in
-    let long = length-append (row_of os) (node.List 0 place ∷ row) in
+    let long = length-append (row_of os) (Node.list 0 place ∷ row) in
     let size : length n.items.items - b.at - 1 ≡ length row = omega arith in (
       refl,
       record {
         items = f
-            ∙ ap (λ ts. set ts b.at (node.List (length n.items.items - b.at - 1) b.place)) h.items
-            ∙ ap (λ i. set (row_of os ++ node.List 0 place ∷ row) i
-            (node.List (length n.items.items - b.at - 1) b.place))
+            ∙ ap (λ ts. set ts b.at (Node.list (length n.items.items - b.at - 1) b.place)) h.items
+            ∙ ap (λ i. set (row_of os ++ Node.list 0 place ∷ row) i
+            (Node.list (length n.items.items - b.at - 1) b.place))
             (sym at)
-            ∙ set-append_seam (row_of os) (node.List 0 place) row (node.List (length n.items.items - b.at - 1) b.place)
-            ∙ ap (λ i. row_of os ++ node.List i b.place ∷ row) size
-            ∙ ap (λ p. row_of os ++ node.List (length row) p ∷ row) (sym spot)
-            ∙ sym (row_of-added os (node.List (length row) place ∷ row));
-        place = g ∙ h.place ∙ sym (outermost-added os (node.List (length row) place ∷ row));
-        begun = sym k.0 ∙ sym (begun_in-added os (node.List (length row) place ∷ row));
-        closed = closed-added os (node.List (length row) place ∷ row) h.closed.0 (closed_list place row);
+            ∙ set-append_seam (row_of os) (Node.list 0 place) row (Node.list (length n.items.items - b.at - 1) b.place)
+            ∙ ap (λ i. row_of os ++ Node.list i b.place ∷ row) size
+            ∙ ap (λ p. row_of os ++ Node.list (length row) p ∷ row) (sym spot)
+            ∙ sym (row_of-added os (Node.list (length row) place ∷ row));
+        place = g ∙ h.place ∙ sym (outermost-added os (Node.list (length row) place ∷ row));
+        begun = sym k.0 ∙ sym (begun_in-added os (Node.list (length row) place ∷ row));
+        closed = closed-added os (Node.list (length row) place ∷ row) h.closed.0 (closed_list place row);
       },
     )

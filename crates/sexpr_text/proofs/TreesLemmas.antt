@@ -2,8 +2,7 @@
 use Rattle.std.proofs.Common.{◌≡◌, ℕ, zero, suc, ◌-◌, ◌≤◌, min, List, [], ◌∷◌, ◌++◌, length, take, drop, refl, sym, ◌∙◌, ap, arith}
 use Rattle.std.proofs.Math.Seq.{drop-append_seam, take-append_seam}
 use Rattle.std.proofs.lemmas.List.{append-nil, drop_min, length-drop, length-take, take_min, take_rest}
-use Rattle.sexpr_text.specs.declared.tree.Node.{Node}
-use Rattle.sexpr_text.specs.declared.tree.Node.TheVariants as node
+use Rattle.sexpr_text.specs.Nodes.{Node}
 use Rattle.sexpr_text.specs.Trees.{Trees, nothing, word, list, spelled, trees, trees_then}
 
 -- two rows of a list alike
@@ -23,9 +22,9 @@ pub spelled_alike : (n m : ℕ) (ts : List Node) (rest : Trees) → length ts �
 spelled_alike n m [] rest p q = refl
 spelled_alike zero m (t ∷ ts) rest p q = absurd (omega arith)
 spelled_alike (suc n) zero (t ∷ ts) rest p q = absurd (omega arith)
-spelled_alike (suc n) (suc m) (node.Word text place ∷ ts) rest p q =
+spelled_alike (suc n) (suc m) (Node.word text place ∷ ts) rest p q =
     ap (word text place) (spelled_alike n m ts rest (omega arith) (omega arith))
-spelled_alike (suc n) (suc m) (node.List count place ∷ ts) rest p q =
+spelled_alike (suc n) (suc m) (Node.list count place ∷ ts) rest p q =
     let a = take_short count ts in
     let b = drop_short count ts in
     list_alike (spelled n (take count ts) nothing) (spelled m (take count ts) nothing) place
@@ -35,7 +34,7 @@ spelled_alike (suc n) (suc m) (node.List count place ∷ ts) rest p q =
 
 -- a list first in a row
 pub list_first : (count place : ℕ) (ts : List Node) (rest : Trees)
-    → trees_then (node.List count place ∷ ts) rest
+    → trees_then (Node.list count place ∷ ts) rest
     ≡ list (trees (take count ts)) place (trees_then (drop count ts) rest)
 list_first count place ts rest =
     list_alike (spelled (length ts) (take count ts) nothing) (trees (take count ts)) place
@@ -45,7 +44,7 @@ list_first count place ts rest =
 
 -- a list, with all that stands in it, first in a row
 pub list_then : (place : ℕ) (row more : List Node) (rest : Trees)
-    → trees_then (node.List (length row) place ∷ (row ++ more)) rest ≡ list (trees row) place (trees_then more rest)
+    → trees_then (Node.list (length row) place ∷ (row ++ more)) rest ≡ list (trees row) place (trees_then more rest)
 list_then place row more rest =
     list_first (length row) place (row ++ more) rest
     ∙ list_alike (trees (take (length row) (row ++ more))) (trees row) place
@@ -53,13 +52,13 @@ list_then place row more rest =
     (ap trees (take-append_seam row more)) (ap (λ ts. trees_then ts rest) (drop-append_seam row more))
 
 pub list_alone : (place : ℕ) (row : List Node) (rest : Trees)
-    → trees_then (node.List (length row) place ∷ row) rest ≡ list (trees row) place rest
+    → trees_then (Node.list (length row) place ∷ row) rest ≡ list (trees row) place rest
 list_alone place row rest =
-    ap (λ ts. trees_then (node.List (length row) place ∷ ts) rest) (sym (append-nil row)) ∙ list_then place row [] rest
+    ap (λ ts. trees_then (Node.list (length row) place ∷ ts) rest) (sym (append-nil row)) ∙ list_then place row [] rest
 
 -- the list that is shown of one first in a row
 pub list_shown : (count place inside : ℕ) (ts : List Node) → inside ≡ min count (length ts)
-    → trees (node.List count place ∷ ts)
+    → trees (Node.list count place ∷ ts)
     ≡ list (trees (take inside ts)) place (trees (take (length ts - inside) (drop inside ts)))
 list_shown count place inside ts e =
     list_first count place ts nothing

@@ -7,3 +7,4 @@ pub mod Faults
 pub mod Front
 pub mod Scanning
 pub mod Nesting
+pub mod Nodes

@@ -3,8 +3,7 @@ use Rattle.std.specs.Prelude.{◌≡◌, ℕ, ◌+◌, Bool, true, false, List, 
 use Rattle.std.specs.Prelude.{Option, Some, Result, Ok, Err}
 use Rattle.sexpr_text.specs.declared.fault.TextFault.{TextFault}
 use Rattle.sexpr_text.specs.declared.fault.TextFault.TheVariants.{BadByte, Unclosed, Extra, TooDeep, Memory}
-use Rattle.sexpr_text.specs.declared.tree.Node.{Node}
-use Rattle.sexpr_text.specs.declared.tree.Node.TheVariants as node
+use Rattle.sexpr_text.specs.Nodes.{Node}
 use Rattle.sexpr_text.specs.declared.tree.Tree.{Tree}
 use Rattle.sexpr_text.specs.declared.nest.Begun.{Begun}
 use Rattle.sexpr_text.specs.declared.nest.Nest.{Nest}
@@ -31,7 +30,7 @@ outermost (within os place row) = outermost os
 -- what stands in the outermost so far
 abbrev pub row_of : Opens → List Node
 row_of (one place row) = row
-row_of (within os place row) = row_of os ++ node.List 0 place ∷ row
+row_of (within os place row) = row_of os ++ Node.list 0 place ∷ row
 
 -- the open lists in the outermost, the innermost last
 abbrev pub begun_in : Opens → List Begun
@@ -70,13 +69,13 @@ pub record IsNest (n : Nest) : Type 0 where
 
 -- The node stands in the innermost of these lists. A list is open then.
 abbrev pub Adds : Opens → Node → Nest → Type 0
-Adds os (node.Word text place) new = Holds new (added os (node.Word text place ∷ []))
-Adds os (node.List count place) new = count ≡ 0 → Holds new (within os place [])
+Adds os (Node.word text place) new = Holds new (added os (Node.word text place ∷ []))
+Adds os (Node.list count place) new = count ≡ 0 → Holds new (within os place [])
 
 -- The innermost of these lists was closed, if it isn't the outermost.
 abbrev pub Closes : Opens → Bool → Nest → Type 0
 Closes (one place row) was new = (was ≡ false) × Holds new (one place row)
-Closes (within os place row) was new = (was ≡ true) × Holds new (added os (node.List (length row) place ∷ row))
+Closes (within os place row) was new = (was ≡ true) × Holds new (added os (Node.list (length row) place ∷ row))
 
 -- The fault is the first one, unless memory ran out.
 abbrev pub IsFirst : TextFault → Option TextFault → Type 0

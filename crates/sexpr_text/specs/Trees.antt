@@ -1,7 +1,6 @@
 -- Words and lists without where they lie in memory.
 use Rattle.std.specs.Prelude.{ℕ, zero, suc, ◌+◌, max, List, [], ◌∷◌, length, take, drop}
-use Rattle.sexpr_text.specs.declared.tree.Node.{Node}
-use Rattle.sexpr_text.specs.declared.tree.Node.TheVariants as node
+use Rattle.sexpr_text.specs.Nodes.{Node}
 use Rattle.sexpr_text.specs.declared.tree.Tree.{Tree}
 
 -- Trees one after the other, as they stand in a list. A word has its letters and its place, a list the
@@ -16,8 +15,8 @@ pub data Trees : Type 0 where
 abbrev pub spelled : ℕ → List Node → Trees → Trees
 spelled n [] rest = rest
 spelled zero (t ∷ ts) rest = rest
-spelled (suc n) (node.Word text place ∷ ts) rest = word text place (spelled n ts rest)
-spelled (suc n) (node.List count place ∷ ts) rest =
+spelled (suc n) (Node.word text place ∷ ts) rest = word text place (spelled n ts rest)
+spelled (suc n) (Node.list count place ∷ ts) rest =
     list (spelled n (take count ts) nothing) place (spelled n (drop count ts) rest)
 
 abbrev pub trees_then : List Node → Trees → Trees

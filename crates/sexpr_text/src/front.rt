@@ -1,10 +1,10 @@
 //! How layers above go through trees.
 ghost use Rattle.std.specs.Prelude.{◌≡◌, ◌∷◌};
-ghost use Rattle.sexpr_text.specs.declared.tree.Node.TheVariants as node;
+ghost use Rattle.sexpr_text.specs.Nodes as nodes;
 ghost use Rattle.sexpr_text.specs.Trees.{tree, trees};
 ghost use Rattle.sexpr_text.specs.Front.{shown};
 
-use crate::tree::{Node, Tree};
+use crate::tree::{Node, Seen, Tree};
 
 /// The first of some trees in a row, and those after it.
 #[derive(Clone, Copy, Debug)]
@@ -30,21 +30,23 @@ pub enum Front<'a> {
 pub fn front_of<'a>(items: &'a [Node]) -> Front<'a>
     ensures { trees items.now ≡ shown result }
 {
-    match items {
-        [] => Front::End,
-        [Node::Word { text, place }, rest @ ..] => Front::Word {
-            text: text.bytes(),
-            place: *place,
-            rest,
+    let Some((first, behind)) = items.split_first() else {
+        return Front::End;
+    };
+    match first.seen() {
+        Seen::Word { text, place } => Front::Word {
+            text,
+            place,
+            rest: behind,
         },
-        [Node::List { count, place }, behind @ ..] => list_front(*count, *place, behind),
+        Seen::List { count, place } => list_front(count, place, behind),
     }
 }
 
 /// A list in which so many nodes stand, or as many as are behind it.
 #[inline(always)]
 fn list_front<'a>(count: usize, place: usize, behind: &'a [Node]) -> Front<'a>
-    ensures { trees (node.List count place ∷ behind.now) ≡ shown result }
+    ensures { trees (nodes.Node.list count place ∷ behind.now) ≡ shown result }
 {
     let inside = count.min(behind.len());
     Front::List {

@@ -19,5 +19,4 @@ mod tree;
 pub use fault::TextFault;
 pub use front::{Front, alone, front_of};
 pub use reader::read_tree;
-pub use text::Text;
 pub use tree::{Node, Tree};

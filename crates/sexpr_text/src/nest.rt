@@ -2,8 +2,7 @@
 ghost use Rattle.std.specs.Prelude.{◌≡◌, [], IfOk};
 ghost use Rattle.sexpr_text.specs.Nesting.{Opens, one, open_count, Holds, IsNest, Adds, Closes};
 
-use crate::text::Text;
-use crate::tree::{Node, Tree};
+use crate::tree::{Node, Seen, Tree};
 use std::alloc::{AllocError, Global};
 
 /// A list in another one that isn't closed yet.
@@ -49,7 +48,7 @@ impl Nest {
     pub fn add(&mut self, node: Node) -> Result<(), AllocError>
         ensures { IfOk result (λ _. (os : Opens) → Holds self.old os → Adds os node self.new) }
     {
-        if let Node::List { place, .. } = node {
+        if let Seen::List { place, .. } = node.seen() {
             let at = self.items.len();
             self.begun.push(Begun { at, place })?;
         }
@@ -66,7 +65,7 @@ impl Nest {
             return false;
         };
         let count = self.items.len() - at - 1;
-        self.items[at] = Node::List { count, place };
+        self.items[at] = Node::list(count, place);
         true
     }
 

@@ -99,12 +99,9 @@ fn read_list(
         };
         let node = match lexeme {
             Lexeme::Bad => return Err(TextFault::BadByte(at)),
-            Lexeme::Word(text) => Node::Word { text, place: at },
+            Lexeme::Word(text) => Node::word(alloc, text, at)?,
             Lexeme::Left if nest.open_count() == MAX_DEPTH => return Err(TextFault::TooDeep(at)),
-            Lexeme::Left => Node::List {
-                count: 0,
-                place: at,
-            },
+            Lexeme::Left => Node::list(0, at),
             Lexeme::Right => {
                 if !nest.close() {
                     return Ok(nest.into_tree());

@@ -4,10 +4,10 @@ ghost use Rattle.std.specs.Prelude.{◌≡◌, ℕ, List};
 use smallvec::SmallVec;
 use std::marker::Model;
 
-/// The letters of a word, which contracts see as a list of bytes. Up to 16 lie in the value itself.
+/// The letters of a word, which contracts see as a list of bytes. Up to 22 lie in the value itself.
 #[derive(Debug, Drop)]
 pub struct Text {
-    bytes: SmallVec<u8, 16>,
+    bytes: SmallVec<u8, 22>,
 }
 
 impl Model for Text {
@@ -18,7 +18,7 @@ impl Model for Text {
 
 impl Text {
     /// The word of these letters. It takes no memory.
-    pub fn new(bytes: SmallVec<u8, 16>) -> Text
+    pub fn new(bytes: SmallVec<u8, 22>) -> Text
         ensures { result ≡ bytes.items }
     {
         Text { bytes }

@@ -195,18 +195,14 @@ length_with_names names (name ∷ more) =
 
 -- ---- the atoms that have an object at a place
 
-predicate_kind : (k : Kind) → same_kind Predicate k ≡ true → k ≡ Predicate
-predicate_kind Predicate e = refl
-predicate_kind Sort e = absurd (cc)
-
 -- such a fact is the predicate's atom of its arguments
 pub match_is : (pred place object : ℕ) (f : Fact) → is_match pred place object f ≡ true
     → f ≡ atom_fact pred f.args
 match_is pred place object f e =
     let front = first_so (same_kind Predicate f.kind && (f.name == pred)) _ e in
-    let kind = predicate_kind f.kind (first_so (same_kind Predicate f.kind) (f.name == pred) front) in
+    let kind = kinds_same Predicate f.kind (first_so (same_kind Predicate f.kind) (f.name == pred) front) in
     let name = eqb-true f.name pred (second_so (same_kind Predicate f.kind) (f.name == pred) front) in
-    λ i. record { kind = kind i; name = name i; args = f.args }
+    λ i. record { kind = sym kind i; name = name i; args = f.args }
 
 all_pass : {A : Type 0} (p : A → Bool) (xs : List A) → list_all p (filter p xs) ≡ true
 all_pass p [] = refl

@@ -18,3 +18,4 @@ pub mod Stored
 pub mod Streams
 pub mod Truth
 pub mod View
+pub mod Names

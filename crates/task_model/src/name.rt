@@ -7,7 +7,6 @@ ghost use Rattle.std.specs.List.{list_all};
 ghost use Rattle.std.proofs.lemmas.Slice.Eq.{bytes_eq-Decides};
 ghost use Rattle.task_model.specs.Fit as fit;
 
-use smallvec::SmallVec;
 use std::alloc::{AllocError, Global};
 use std::hash::{Hash, Hasher};
 use std::marker::Model;
@@ -15,48 +14,89 @@ use std::marker::Model;
 /// The longest name of a task, in bytes.
 const NAME_BYTES: usize = 255;
 
+/// How many bytes of a name lie in its value.
+const SHORT: usize = 30;
+
 /// A name, which contracts see as a list of bytes. The bytes are free: a task's names are words in
 /// lower case, and a generated object's name is `#` and the value that a generator gave.
 ///
-/// Up to 23 bytes lie in the value itself.
+/// Up to 30 bytes lie in the value itself, which takes 32.
 #[derive(Debug, Drop)]
 pub struct Name {
-    bytes: SmallVec<u8, 23>,
+    form: Form,
+}
+
+/// How the bytes lie in memory.
+#[derive(Debug, Drop)]
+enum Form {
+    /// So many, with others behind them.
+    Short { length: u8, bytes: [u8; SHORT] },
+    /// More.
+    Long(Vec<u8>),
 }
 
 impl Model for Name {
     ghost use Rattle.std.specs.Prelude.{ℕ, List};
+    ghost use Rattle.task_model.specs.Names.{IsShort, bytes_of};
 
     ghost Value = { List ℕ };
 
-    ghost view = { λ n. n.bytes.items };
+    ghost view = { λ n. bytes_of n.form };
+
+    ghost invariant = { λ n. IsShort n.form };
 }
 
 impl Name {
-    /// The name with these bytes, whose memory it keeps where it has room for more than 23.
+    /// The name with these bytes, whose memory it keeps where there are more than 30.
     pub fn new(bytes: Vec<u8>) -> Name
         ensures { result ≡ bytes.items }
     {
+        if bytes.len() <= SHORT {
+            return Name::short(bytes.as_slice());
+        }
         Name {
-            bytes: SmallVec::from_vec(bytes),
+            form: Form::Long(bytes),
         }
     }
 
-    /// The name with these bytes. Fails only where memory is wanting, and never for 23 bytes or
+    /// The name with these bytes. Fails only where memory is wanting, and never for 30 bytes or
     /// fewer, which take none.
     pub fn from_slice(alloc: Global, bytes: &[u8]) -> Result<Name, AllocError>
         ensures name { IfOk result (λ name. name ≡ bytes.now) }
-        ensures inline { length bytes.now ≤ 23 → IsOk result }
+        ensures inline { length bytes.now ≤ 30 → IsOk result }
     {
-        let bytes = SmallVec::from_slice(alloc, bytes)?;
-        Ok(Name { bytes })
+        if bytes.len() <= SHORT {
+            return Ok(Name::short(bytes));
+        }
+        let bytes = Vec::from_slice(alloc, bytes)?;
+        Ok(Name {
+            form: Form::Long(bytes),
+        })
+    }
+
+    /// The name with these bytes, all of which lie in the value.
+    fn short(bytes: &[u8]) -> Name
+        requires { length bytes.now ≤ 30 }
+        ensures { result ≡ bytes.now }
+    {
+        let mut held = [0; SHORT];
+        held[..bytes.len()].copy_from_slice(bytes);
+        Name {
+            form: Form::Short {
+                length: bytes.len() as u8,
+                bytes: held,
+            },
+        }
     }
 
     /// The bytes.
     pub fn bytes(&self) -> &[u8]
         ensures { result.now ≡ self.now }
     {
-        self.bytes.as_slice()
+        match &self.form {
+            Form::Short { length, bytes } => &bytes[..*length as usize],
+            Form::Long(bytes) => bytes.as_slice(),
+        }
     }
 
     /// An equal name. Fails only where memory is wanting.

@@ -1,11 +1,11 @@
-use Rattle.std.proofs.Common.{◌≡◌, ◌∷◌, refl, subst, arith}
+use Rattle.std.proofs.Common.{◌≡◌, ◌∷◌, ◌∙◌, refl, subst, arith}
 use Rattle.sexpr_text.specs.declared.scanner.Lexeme.TheVariants as lexemes
 use Rattle.sexpr_text.specs.Tokens.{Token}
 use Rattle.sexpr_text.specs.Reading.{levels, opened}
 use Rattle.sexpr_text.specs.Nesting.{Adds, Closes}
 use Rattle.sexpr_text.proofs.NestEndLemmas.{StandsFor, taken, word_on, left_on, goes_on, ends}
 use Rattle.sexpr_text.proofs.reader.read_list.Goals as goal
-use Rattle.sexpr_text.proofs.reader.read_list.Goals.{in-Word, in-Left-2}
+use Rattle.sexpr_text.proofs.reader.read_list.Goals.{in-Word+in_ok-node-in-Word, in-Left-2}
 
 pub returns-then-not-close : goal.returns-then-not-close
 returns-then-not-close c =
@@ -53,13 +53,14 @@ tokens-preserved c =
     } in
     let h = c.in_ok-add.ensures c.tokens.invariant.opens c.tokens.invariant.holds in
     elim c.match-lexeme.branch [
-      | in-Word w ↦
+      | in-Word+in_ok-node-in-Word w ↦
           let on = word_on c.args.end c.in-Some.field-0.place w.in-Word.text c.args.scanner.now c.tokens.scanner
           c.next.new.self _ c.tokens.invariant.opens c.add.new.self s
           (taken c.tokens.scanner c.next.new.self c.in_ok-lexeme.field-0 c.in-Some.field-0
           (lexemes.Word w.in-Word.text) c.in_ok-lexeme.ensures c.in-Some.is w.in-Word.is)
           c.tokens.invariant.shallow
-          (subst (λ t. Adds c.tokens.invariant.opens t c.add.new.self) w.node-is h) in
+          (subst (λ t. Adds c.tokens.invariant.opens t c.add.new.self)
+          (w.node-is ∙ w.in_ok-node-in-Word.ensures) h) in
           record { opens = on.opens; holds = on.holds; shallow = on.shallow; fault = on.fault; tree = on.tree }
       | in-Left-2 w ↦
           let count = w.open_count.ensures c.tokens.invariant.opens c.tokens.invariant.holds in
@@ -69,6 +70,6 @@ tokens-preserved c =
           (taken c.tokens.scanner c.next.new.self c.in_ok-lexeme.field-0 c.in-Some.field-0 lexemes.Left
           c.in_ok-lexeme.ensures c.in-Some.is w.in-Left.is)
           (let other = w.if-open_count-eq-MAX_DEPTH.false in omega arith)
-          (subst (λ t. Adds c.tokens.invariant.opens t c.add.new.self) w.node-is h refl) in
+          (subst (λ t. Adds c.tokens.invariant.opens t c.add.new.self) (w.node-is ∙ w.list-node.ensures) h refl) in
           record { opens = on.opens; holds = on.holds; shallow = on.shallow; fault = on.fault; tree = on.tree }
     ]

@@ -1,5 +1,5 @@
 use Rattle.std.proofs.Common.{◌-◌, set, refl, ◌∙◌, ap, arith}
-use Rattle.sexpr_text.specs.declared.tree.Node.TheVariants as node
+use Rattle.sexpr_text.specs.Nodes.{Node}
 use Rattle.sexpr_text.proofs.NestLemmas.{begins_below, closes_inner}
 use Rattle.sexpr_text.proofs.nest.Nest.close.Goals as goal
 
@@ -29,7 +29,8 @@ index_mut-requires c =
 pub returns : goal.returns
 returns c = λ os h.
     closes_inner c.args.self.now _ os c.in-Some.field-0 h c.in-Some.ensures.items
-    (ap (λ n. set c.args.self.now.items.items c.in-Some.field-0.at
-    (node.List (n - c.in-Some.field-0.at - 1) c.in-Some.field-0.place))
+    (ap (set c.args.self.now.items.items c.in-Some.field-0.at) c.list.ensures
+    ∙ ap (λ n. set c.args.self.now.items.items c.in-Some.field-0.at
+    (Node.list (n - c.in-Some.field-0.at - 1) c.in-Some.field-0.place))
     (c.len.ensures ∙ c.args.self.now.items.ok.0))
     refl
